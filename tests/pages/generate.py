@@ -164,9 +164,8 @@ def matrix():
     yield "|all||" + "|".join(map(str, totals)) + "|"
     named = sum("\nnamed: yes" in "\n" + edit.read_text() for crate in uses() for edit in edits(crate))
     requests = [line.split() for line in (ROOT / "tests/requests").read_text().splitlines()]
-    single = [int(it[0]) for it in requests if len(it) == 2 and it[0].isdigit()]
-    swept = [sum(map(int, it[:3])) for it in requests if len(it) == 4 and it[0].isdigit()]
-    yield f"\n{totals[4]} mutants, {named} of them named. Allocations that a run fails in turn: {sum(single)} of {len(single)} cases, {sum(swept)} of {len(swept)} stored sessions."
+    swept = sum(int(number) for it in requests for number in it[:3])
+    yield f"\n{totals[4]} mutants, {named} of them named. Allocations that `tests/refuse` fails in turn: {swept} of {len(requests)} stored sessions."
 
 
 def crates():

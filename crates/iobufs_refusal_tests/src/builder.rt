@@ -1,6 +1,6 @@
 // Pushes to a `Builder`, which hand back what they were given, and values that are encoded into chunks.
 use crate::made::shows;
-use crate::word::{FailedAt, end, say};
+use crate::word::{Ended, end, mark};
 use bytes::Bytes;
 use iobufs::builder::{Builder, EncodeExt};
 use iobufs_core::buf::IoBuf;
@@ -50,7 +50,7 @@ fn is_built(rt: &impl Abort, builder: Builder) -> bool {
 
 #[test]
 fn push_of_a_view(rt: HostRuntime) {
-    let mut builder = fixture!(rt, begun(rt.alloc()));
+    let mut builder = begun(rt.alloc()).expect(&rt, "a fixture");
     let ((), word) = lent!(
         rt,
         push(&mut builder, b"cd"),
@@ -62,7 +62,7 @@ fn push_of_a_view(rt: HostRuntime) {
 
 #[test]
 fn push_of_bytes(rt: HostRuntime) {
-    let mut builder = fixture!(rt, begun(rt.alloc()));
+    let mut builder = begun(rt.alloc()).expect(&rt, "a fixture");
     let ((), word) = lent!(
         rt,
         push_bytes(&mut builder, b"cd"),

@@ -1,9 +1,9 @@
-// Each call at size, for `tests/costs`. A test prints a line before each call, a line after it, and then what it was made
-// on and whether its value is that of the model: a list of bytes, cut at multiples of a length.
-use crate::costs::calls::{Args, Costed, Counted};
+// Each call on each kind of storage, at each size. A test prints what the call was made on, and whether its value and what
+// it leaves are those of the model: a list of bytes, cut at multiples of a length.
+use crate::costs::calls::{Args, Costed, Counted, Given};
 use crate::costs::shape::{Place, Shape};
 use crate::costs::stores::{ORIGINS, Origin, STORES, Store, parts_of, stored, stored_part, text};
-use crate::given::Given;
+use crate::word::{Ended, mark};
 use iobufs::bufs::IoBufs;
 use iobufs::bufs_mut::IoBufsMut;
 use iobufs_core::buf::{IoBuf, IoBufMut};
@@ -64,17 +64,20 @@ const REST: Span = (43, 64);
 // A call, the bytes that it is given or gives, and those that it leaves.
 type Row = (Costed, Span, Span);
 
-const OF_VIEWS: [Row; 23] = [
+const OF_VIEWS: [Row; 28] = [
     (Costed::Clone, ALL, ALL),
     (Costed::Slice, MIDDLE, ALL),
     (Costed::SplitTo, FRONT, BACK),
     (Costed::Advance, FRONT, BACK),
     (Costed::CopyToSlice, FRONT, BACK),
+    (Costed::TryCopy, FRONT, BACK),
     (Costed::CopyToBytes, FRONT, BACK),
     (Costed::Chunks, ALL, ALL),
+    (Costed::TwoChunks, ALL, ALL),
     (Costed::TakeView, MIDDLE, REST),
     (Costed::TakeBytes, MIDDLE, REST),
     (Costed::TryTake, FRONT, BACK),
+    (Costed::TryTakeBytes, FRONT, BACK),
     (Costed::PeekView, MIDDLE, ALL),
     (Costed::PeekBytes, MIDDLE, ALL),
     (Costed::PeekSlice, MIDDLE, ALL),
@@ -85,22 +88,28 @@ const OF_VIEWS: [Row; 23] = [
     (Costed::IntoPart, ALL, NONE),
     (Costed::Recover, ALL, NONE),
     (Costed::FromView, ALL, NONE),
+    (Costed::ViewFromView, ALL, NONE),
     (Costed::Encode, ALL, ALL),
     (Costed::EncodeChunks, ALL, ALL),
     (Costed::Read, ALL, ALL),
+    (Costed::CopyToBytes, ALL, NONE),
 ];
 
 // Calls that make a buffer of bytes that are given to them.
-const MAKERS: [Row; 14] = [
+const MAKERS: [Row; 18] = [
     (Costed::Copy, ALL, ALL),
     (Costed::CopyPart, ALL, ALL),
     (Costed::OfList, ALL, ALL),
     (Costed::PartOfList, ALL, ALL),
     (Costed::TextOfList, ALL, ALL),
+    (Costed::OfBytes, ALL, ALL),
+    (Costed::BytesOfBytes, ALL, ALL),
     (Costed::OfBytesMut, ALL, ALL),
     (Costed::PartOfBytes, ALL, ALL),
     (Costed::PartOfSharedBytes, ALL, ALL),
     (Costed::PartOfBytesMut, ALL, ALL),
+    (Costed::OfSharedBytesMut, ALL, ALL),
+    (Costed::PartOfSharedBytesMut, ALL, ALL),
     (Costed::Capacity, ALL, ALL),
     (Costed::Aligned, ALL, ALL),
     (Costed::Zeroed, ALL, ALL),
@@ -108,11 +117,13 @@ const MAKERS: [Row; 14] = [
     (Costed::EncodeBytes, ALL, ALL),
 ];
 
-const OF_PARTS: [Row; 10] = [
+const OF_PARTS: [Row; 12] = [
     (Costed::Advance, FRONT, BACK),
     (Costed::CopyToSlice, FRONT, BACK),
+    (Costed::TryCopy, FRONT, BACK),
     (Costed::CopyToBytes, FRONT, BACK),
     (Costed::Chunks, ALL, ALL),
+    (Costed::TwoChunks, ALL, ALL),
     (Costed::Truncate, FRONT, FRONT),
     (Costed::SetLen, FRONT, FRONT),
     (Costed::Put, ALL, ALL),
@@ -121,7 +132,7 @@ const OF_PARTS: [Row; 10] = [
     (Costed::CopyToBytes, ALL, NONE),
 ];
 
-const OF_TEXTS: [Row; 28] = [
+const OF_TEXTS: [Row; 33] = [
     (Costed::Clone, ALL, ALL),
     (Costed::Slice, MIDDLE, ALL),
     (Costed::SplitTo, FRONT, BACK),
@@ -129,11 +140,14 @@ const OF_TEXTS: [Row; 28] = [
     (Costed::Truncate, FRONT, FRONT),
     (Costed::Advance, FRONT, BACK),
     (Costed::CopyToSlice, FRONT, BACK),
+    (Costed::TryCopy, FRONT, BACK),
     (Costed::CopyToBytes, FRONT, BACK),
     (Costed::Chunks, ALL, ALL),
+    (Costed::TwoChunks, ALL, ALL),
     (Costed::TakeView, MIDDLE, REST),
     (Costed::TakeBytes, MIDDLE, REST),
     (Costed::TryTake, FRONT, BACK),
+    (Costed::TryTakeBytes, FRONT, BACK),
     (Costed::PeekView, MIDDLE, ALL),
     (Costed::PeekBytes, MIDDLE, ALL),
     (Costed::PeekSlice, MIDDLE, ALL),
@@ -150,6 +164,8 @@ const OF_TEXTS: [Row; 28] = [
     (Costed::SplitTo, FIRST, (Shape::FIRST, 64)),
     (Costed::TakeView, FIRST, (Shape::FIRST, 64)),
     (Costed::TakeView, (0, 10), (10, 64)),
+    (Costed::Slice, (0, 10), ALL),
+    (Costed::CopyToBytes, ALL, NONE),
 ];
 
 const AFTER: Span = (64, Shape::AFTER);
@@ -158,46 +174,76 @@ const BEFORE: Span = (Shape::BEFORE, 0);
 
 const FIRST: Span = (0, Shape::FIRST);
 
-const OF_ROWS: [Row; 10] = [
+const OF_ROWS: [Row; 14] = [
     (Costed::Advance, FRONT, BACK),
     (Costed::CopyToSlice, FRONT, BACK),
+    (Costed::TryCopy, FRONT, BACK),
     (Costed::CopyToBytes, FRONT, BACK),
     (Costed::Chunks, ALL, ALL),
+    (Costed::TwoChunks, ALL, ALL),
     (Costed::SetLen, FRONT, FRONT),
     (Costed::Put, ALL, ALL),
+    (Costed::Overwrite, ALL, ALL),
     (Costed::Freeze, ALL, NONE),
     (Costed::Coalesce, ALL, NONE),
+    (Costed::Single, ALL, NONE),
     (Costed::FromParts, ALL, ALL),
     (Costed::CopyToBytes, ALL, NONE),
 ];
 
 // Whether what a call gives has the bytes of a range, cut as they are.
 fn is_cut(alloc: Global, given: &Given, shape: &Shape, span: Span) -> Result<bool, BufError> {
+    let bytes = shape.bytes(span);
     match given {
         Given::Nothing => Ok(true),
-        Given::Bufs(text) | Given::Several(text) => shape.holds(alloc, text, span),
-        _ => Ok(given.shows(shape.bytes(span))),
+        Given::View(view) | Given::Shared(view) => Ok(view.as_ref() == bytes),
+        Given::Bytes(given) => Ok(given.as_slice() == bytes),
+        Given::List(list) => Ok(list.as_slice() == bytes),
+        Given::Part(part) => Ok(part.as_ref() == bytes),
+        Given::Text(text) | Given::Chunks(text) => shape.holds(alloc, text, span),
+        Given::Parts(parts) => shape.holds(alloc, parts, span),
     }
 }
 
-// How a call ended.
-fn outcome<B: Counted>(
+// How a call ended that gave this, by the model.
+fn compared<B: Counted>(
     alloc: Global,
-    answer: &Result<Given, BufError>,
+    given: &Given,
     shape: &Shape,
     buf: &B,
     row: &Row,
-) -> Result<&'static str, BufError> {
-    let Ok(given) = answer else {
-        return Ok("FAILED");
-    };
+) -> Result<Ended, BufError> {
     if !is_cut(alloc, given, shape, row.1)? || !shape.holds(alloc, buf, row.2)? {
-        return Ok("WRONG");
+        return Ok(Ended::Wrong);
     }
     match given {
-        Given::Declined(_) => Ok("declined"),
-        Given::Several(_) => Ok("several"),
-        _ => Ok("done"),
+        Given::Shared(_) => Ok(Ended::Declined),
+        Given::Chunks(_) | Given::Parts(_) => Ok(Ended::Several),
+        _ => Ok(Ended::Done),
+    }
+}
+
+// How a call ended whose allocation failed: what it left, and what it gives the second time.
+fn repeated<B: Counted>(
+    alloc: Global,
+    shape: &Shape,
+    buf: &mut B,
+    row: &Row,
+) -> Result<Ended, BufError> {
+    let is_gone = row.0.is_consuming();
+    if !shape.holds(alloc, buf, if is_gone { NONE } else { ALL })? {
+        return Ok(Ended::Changed);
+    }
+    if is_gone {
+        return Ok(Ended::Refused);
+    }
+    let mut args = Args::new(alloc, shape, row.0, row.1)?;
+    let Ok(given) = buf.make(alloc, row.0, &mut args) else {
+        return Ok(Ended::Failed);
+    };
+    match compared(alloc, &given, shape, buf, row)? {
+        Ended::Wrong => Ok(Ended::Wrong),
+        _ => Ok(Ended::Refused),
     }
 }
 
@@ -210,16 +256,20 @@ fn count<B: Counted>(
     row: &Row,
 ) -> Result<(), BufError> {
     let (call, alloc) = (row.0, rt.alloc());
-    let args = Args::new(alloc, shape, call, row.1)?;
-    println!(rt; "call").expect(rt, "printed");
-    let answer = buf.make(alloc, call, args);
-    println!(rt; "done").expect(rt, "printed");
-    let ended = outcome(alloc, &answer, shape, &buf, row)?;
-    println!(rt; "{call:?} {what:?} {} {} {ended}", shape.count, shape.len).expect(rt, "printed");
+    let mut args = Args::new(alloc, shape, call, row.1)?;
+    mark(rt, "call");
+    let answer = buf.make(alloc, call, &mut args);
+    mark(rt, "done");
+    let ended = match answer {
+        Ok(given) => compared(alloc, &given, shape, &buf, row)?,
+        Err(BufError::Memory) => repeated(alloc, shape, &mut buf, row)?,
+        Err(_) => Ended::Failed,
+    };
+    println!(rt; "{call:?} {what:?} {} {} {ended:?}", shape.count, shape.len).expect(rt, "printed");
     Ok(())
 }
 
-// The calls on a view, each on a new one.
+// The calls on a view, each on a new one. The other handle of its storage stays as it is.
 fn count_views(
     rt: &(impl Print + Abort + AllocGlobal),
     shape: &Shape,
@@ -232,8 +282,35 @@ fn count_views(
         len: shape.len,
     };
     for row in &OF_VIEWS {
-        let (view, _other) = stored(rt.alloc(), kind, shape.bytes(ALL))?;
+        let (view, other) = stored(rt.alloc(), kind, shape.bytes(ALL))?;
         count(rt, &kind, &left, view, row)?;
+        let is_same = other.is_empty() || other.as_ref() == shape.bytes(ALL);
+        assert!(rt; is_same, "another handle of {kind:?}");
+    }
+    Ok(())
+}
+
+// The calls on a writable buffer, each on a new one.
+fn count_parts(
+    rt: &(impl Print + Abort + AllocGlobal),
+    shape: &Shape,
+    origin: Origin,
+) -> Result<(), BufError> {
+    for row in &OF_PARTS {
+        let part = stored_part(rt.alloc(), origin, shape.bytes(ALL))?;
+        count(rt, &origin, shape, part, row)?;
+    }
+    Ok(())
+}
+
+fn count_texts(
+    rt: &(impl Print + Abort + AllocGlobal),
+    shape: &Shape,
+    kind: Store,
+) -> Result<(), BufError> {
+    for row in &OF_TEXTS {
+        let text = text(rt.alloc(), kind, shape.bytes(ALL), shape.len)?;
+        count(rt, &kind, shape, text, row)?;
     }
     Ok(())
 }
@@ -261,19 +338,6 @@ fn makers(rt: HostRuntime) -> Result<(), Fail> {
     Ok(())
 }
 
-// The calls on a writable buffer, each on a new one.
-fn count_parts(
-    rt: &(impl Print + Abort + AllocGlobal),
-    shape: &Shape,
-    origin: Origin,
-) -> Result<(), BufError> {
-    for row in &OF_PARTS {
-        let part = stored_part(rt.alloc(), origin, shape.bytes(ALL))?;
-        count(rt, &origin, shape, part, row)?;
-    }
-    Ok(())
-}
-
 #[test]
 fn parts(rt: HostRuntime) -> Result<(), Fail> {
     for len in LENGTHS {
@@ -281,23 +345,6 @@ fn parts(rt: HostRuntime) -> Result<(), Fail> {
         for origin in ORIGINS {
             count_parts(&rt, &shape, origin)?;
         }
-    }
-    Ok(())
-}
-
-fn count_texts(
-    rt: &(impl Print + Abort + AllocGlobal),
-    shape: &Shape,
-    kind: Store,
-) -> Result<(), BufError> {
-    for row in &OF_TEXTS {
-        count(
-            rt,
-            &kind,
-            shape,
-            text(rt.alloc(), kind, shape.bytes(ALL), shape.len)?,
-            row,
-        )?;
     }
     Ok(())
 }

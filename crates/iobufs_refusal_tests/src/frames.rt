@@ -1,10 +1,10 @@
 // Frames of bytes that come in pieces.
 use crate::made::shows;
-use crate::word::{FailedAt, end, say};
+use crate::word::{Ended, end, mark};
 use iobufs::bufs::IoBufs;
 use iobufs_core::buf::IoBuf;
 use iobufs_core::codec::{BufError, Error, RangeCfg};
-use iobufs_frames::{ByteOrder, End, Frames, Prefix, Width, framed_with};
+use iobufs_frames::{ByteOrder, End, Frames, Prefix, Run, Width, framed_with};
 use std::alloc::Global;
 use std::process::Abort;
 
@@ -27,38 +27,42 @@ fn fed(alloc: Global, prefix: Prefix, pieces: &[&'static [u8]]) -> Result<Frames
     Ok(frames)
 }
 
+// Feeds a chunk. A failure hands it back.
+fn feed(alloc: Global, frames: &mut Frames, chunk: &'static [u8]) -> Result<(), BufError> {
+    match frames.feed(alloc, IoBuf::from(chunk)) {
+        Ok(()) => Ok(()),
+        Err(refused) if refused.value.as_ref() == chunk => Err(refused.cause),
+        Err(_) => Err(BufError::TooLong),
+    }
+}
+
 #[test]
 fn feed_nothing(rt: HostRuntime) {
     let mut frames = Frames::default();
-    let done = frames.feed(rt.alloc(), IoBuf::from(PIECES[0])).is_ok();
-    end(
-        &rt,
-        FailedAt::Whole,
-        done && shows(&frames.rest, &[b"\x03ab"]),
+    let ((), word) = lent!(
+        rt,
+        feed(rt.alloc(), &mut frames, PIECES[0]),
+        BufError::Memory,
+        false
     );
+    end(&rt, word, shows(&frames.rest, &[b"\x03ab"]));
 }
 
 #[test]
 fn feed_behind_a_piece(rt: HostRuntime) {
-    let mut frames = fixture!(rt, fed(rt.alloc(), Prefix::Spelled, &PIECES[..1]));
-    let word = match frames.feed(rt.alloc(), IoBuf::from(PIECES[1])) {
-        Ok(()) => FailedAt::Whole,
-        Err(refused) => {
-            assert!(rt; refused.cause == BufError::Memory, "another error");
-            assert!(rt; refused.value.as_ref() == PIECES[1], "another piece");
-            assert!(rt; shows(&frames.rest, &[b"\x03ab"]), "changed by a failure");
-            frames
-                .feed(rt.alloc(), refused.value)
-                .expect(&rt, "the second call");
-            FailedAt::Refused
-        }
-    };
+    let mut frames = fed(rt.alloc(), Prefix::Spelled, &PIECES[..1]).expect(&rt, "a fixture");
+    let ((), word) = lent!(
+        rt,
+        feed(rt.alloc(), &mut frames, PIECES[1]),
+        BufError::Memory,
+        shows(&frames.rest, &[b"\x03ab"])
+    );
     end(&rt, word, shows(&frames.rest, &PIECES));
 }
 
 #[test]
 fn next_across_pieces(rt: HostRuntime) {
-    let mut frames = fixture!(rt, fed(rt.alloc(), Prefix::Spelled, &PIECES));
+    let mut frames = fed(rt.alloc(), Prefix::Spelled, &PIECES).expect(&rt, "a fixture");
     let (body, word) = lent!(
         rt,
         frames.next(rt.alloc(), &RANGE),
@@ -72,7 +76,7 @@ fn next_across_pieces(rt: HostRuntime) {
 
 #[test]
 fn next_of_an_open_front(rt: HostRuntime) {
-    let mut frames = fixture!(rt, fed(rt.alloc(), Prefix::Spelled, &PIECES[..1]));
+    let mut frames = fed(rt.alloc(), Prefix::Spelled, &PIECES[..1]).expect(&rt, "a fixture");
     let (body, word) = lent!(rt, frames.next(rt.alloc(), &RANGE), Error::Memory, false);
     end(
         &rt,
@@ -83,7 +87,7 @@ fn next_of_an_open_front(rt: HostRuntime) {
 
 #[test]
 fn next_behind_a_fixed_length(rt: HostRuntime) {
-    let mut frames = fixture!(rt, fed(rt.alloc(), FIXED, &FIXED_PIECES));
+    let mut frames = fed(rt.alloc(), FIXED, &FIXED_PIECES).expect(&rt, "a fixture");
     let (body, word) = lent!(
         rt,
         frames.next(rt.alloc(), &RANGE),
@@ -95,42 +99,34 @@ fn next_behind_a_fixed_length(rt: HostRuntime) {
     end(&rt, word, is_abc && shows(&frames.rest, &[b"\0\x01d"]));
 }
 
-fn views(alloc: Global) -> Result<Vec<IoBuf>, BufError> {
+// The frames of chunks, made anew.
+fn run_of(alloc: Global) -> Result<Run, BufError> {
     let mut views = Vec::with_capacity(alloc, 2)?;
     for piece in PIECES {
         views.push(IoBuf::from(piece))?;
     }
-    Ok(views)
+    Frames::run(alloc, Prefix::Spelled, views, &RANGE)
 }
 
 #[test]
 fn run(rt: HostRuntime) {
-    let first = fixture!(rt, views(rt.alloc()));
-    let second = fixture!(rt, views(rt.alloc()));
-    let (run, word) = match Frames::run(rt.alloc(), Prefix::Spelled, first, &RANGE) {
-        Ok(run) => (run, FailedAt::Whole),
-        Err(BufError::Memory) => {
-            let again = Frames::run(rt.alloc(), Prefix::Spelled, second, &RANGE);
-            (again.expect(&rt, "the second call"), FailedAt::Refused)
-        }
-        Err(_) => panic!(rt; "another error"),
-    };
+    let (run, word) = lent!(rt, run_of(rt.alloc()), BufError::Memory, true);
     let is_whole = run.frames.len() == 2 && run.rest.is_empty();
     end(&rt, word, is_whole && run.stop == End::Open);
 }
 
+// A body after its length. A failure hands the body back.
+fn framed(alloc: Global) -> Result<IoBufs, BufError> {
+    match framed_with(alloc, FIXED, IoBufs::from(b"abc".as_slice())) {
+        Ok(frame) => Ok(frame),
+        Err(refused) if shows(&refused.value, &[b"abc"]) => Err(refused.cause),
+        Err(_) => Err(BufError::TooLong),
+    }
+}
+
 #[test]
 fn framed_behind_a_fixed_length(rt: HostRuntime) {
-    let body = IoBufs::from(b"abc".as_slice());
-    let (frame, word) = match framed_with(rt.alloc(), FIXED, body) {
-        Ok(frame) => (frame, FailedAt::Whole),
-        Err(refused) => {
-            assert!(rt; refused.cause == BufError::Memory, "another error");
-            assert!(rt; shows(&refused.value, &[b"abc"]), "another body");
-            let again = framed_with(rt.alloc(), FIXED, refused.value);
-            (again.expect(&rt, "the second call"), FailedAt::Refused)
-        }
-    };
+    let (frame, word) = lent!(rt, framed(rt.alloc()), BufError::Memory, true);
     end(&rt, word, shows(&frame, &[b"\0\x03", b"abc"]));
 }
 

@@ -19,7 +19,7 @@
 // | `win` | a handle | `a_clone`, `a_slice` |
 // | `add_holder` | a handle | `a_clone_of_a_shared_view` |
 // | `reserve` | each table and what grows beside it | `a_reservation` |
-use crate::word::{FailedAt, end, name, say};
+use crate::word::{Ended, end, mark};
 use iobufs_core::codec::BufError;
 use iobufs_owner::format::FORMAT_64;
 use iobufs_owner::owner::Act::{self, Begin, Go};
@@ -72,8 +72,15 @@ fn is_same(one: &Machine, other: &Machine) -> bool {
 
 // Reserves capacity for a step and executes it, and whether the reservation failed. A step that needs it then has changed
 // nothing, which another machine in the same state shows, and is executed once the capacity is there.
-fn stepped(rt: &impl Abort, machine: &mut Machine, like: &Machine, step: Step) -> (Reply, bool) {
+fn stepped(
+    rt: &(impl Print + Abort),
+    machine: &mut Machine,
+    like: &Machine,
+    step: Step,
+) -> (Reply, bool) {
+    mark(rt, "call");
     let made = machine.reserve(1, 1, 1);
+    mark(rt, "done");
     assert!(rt; is_same(machine, like), "changed by room");
     let reply = machine.step(step);
     if made.is_ok() {
@@ -95,10 +102,11 @@ fn two_machines(alloc: Global) -> Result<(Machine, Machine), BufError> {
     Ok((one, other))
 }
 
-// Executes steps on a machine that reserves before each, and on one that has the capacity.
-fn lockstep(rt: &(impl Print + Abort + AllocGlobal), first: &[Row], then: &[Row]) {
-    let (mut one, mut other) = fixture!(*rt, two_machines(rt.alloc()));
-    let mut word = FailedAt::Whole;
+// Executes steps on a machine that reserves before each, and on one that has the capacity. Returns whether a reservation
+// failed.
+fn lockstep(rt: &(impl Print + Abort + AllocGlobal), first: &[Row], then: &[Row]) -> Ended {
+    let (mut one, mut other) = two_machines(rt.alloc()).expect(rt, "a fixture");
+    let mut word = Ended::Done;
     for (party, act) in first.iter().chain(then) {
         let step = Step {
             party: *party,
@@ -106,12 +114,12 @@ fn lockstep(rt: &(impl Print + Abort + AllocGlobal), first: &[Row], then: &[Row]
         };
         let (reply, refused) = stepped(rt, &mut one, &other, step);
         if refused {
-            word = FailedAt::Refused;
+            word = Ended::Refused;
         }
         assert!(rt; reply == other.step(step), "another reply");
         assert!(rt; is_same(&one, &other), "another state");
     }
-    say(rt, word)
+    word
 }
 
 #[test]
@@ -127,7 +135,7 @@ const IDLE: [Step; 1] = [Step {
 
 #[test]
 fn run(rt: HostRuntime) {
-    let mut machine = fixture!(rt, new_machine(rt.alloc()));
+    let mut machine = new_machine(rt.alloc()).expect(&rt, "a fixture");
     let (replies, word) = lent!(
         rt,
         machine.run(&IDLE),
@@ -173,20 +181,20 @@ const CASES: [(&'static str, &'static [Row], &'static [Row]); 17] = rows! {
 #[test]
 fn steps(rt: HostRuntime) {
     for (case, first, then) in CASES {
-        name(&rt, case);
-        lockstep(&rt, first, then);
+        let ended = lockstep(&rt, first, then);
+        println!(rt; "{case} {ended:?}").expect(&rt, "the case is printed");
     }
 }
 
 // Each of the seven tables is reserved once. A reservation that fails leaves what the machine shows.
 #[test]
 fn a_reservation(rt: HostRuntime) {
-    let mut machine = fixture!(rt, new_machine(rt.alloc()));
+    let mut machine = new_machine(rt.alloc()).expect(&rt, "a fixture");
     let ((), word) = lent!(
         rt,
         machine.reserve(8, 8, 8),
         BufError::Memory,
         machine.handles().is_empty()
     );
-    say(&rt, word);
+    end(&rt, word, true);
 }

@@ -1,6 +1,6 @@
 // A table of names, and a run of commands. `tests/sessions` have each command with each allocation failing.
 use crate::made::shows;
-use crate::word::{FailedAt, end, say};
+use crate::word::{Ended, end, mark};
 use iobufs_core::codec::BufError;
 use iobufs_run::command::{Cmd, Kind, Piece, Refusal, Reply};
 use iobufs_run::table::{Slot, Table};
@@ -33,7 +33,7 @@ const STATICS: [Cmd; 2] = [
 // A run whose first allocation fails changes no name.
 #[test]
 fn run(rt: HostRuntime) {
-    let mut table = fixture!(rt, Table::new(rt.alloc(), 6));
+    let mut table = Table::new(rt.alloc(), 6).expect(&rt, "a fixture");
     let (replies, word) = lent!(
         rt,
         table.run(&STATICS),
@@ -106,16 +106,23 @@ fn is_told(reply: &Reply, target: usize) -> bool {
     }
 }
 
+// What a name shows, or the error.
+fn asked(table: &mut Table, target: usize) -> Result<Reply, Refusal> {
+    match shown(table, target) {
+        Reply::Refused(cause) => Err(cause),
+        reply => Ok(reply),
+    }
+}
+
 // Shows a name. If an allocation fails, the reply says so, and the name holds what it held.
 fn told(rt: &(impl Print + Abort + AllocGlobal), target: usize) {
-    let mut table = fixture!(*rt, filled(rt.alloc()));
-    let mut word = FailedAt::Whole;
-    let mut reply = shown(&mut table, target);
-    if reply == Reply::Refused(Refusal::Memory) {
-        assert!(rt; stays(&table, target), "changed by a failure");
-        word = FailedAt::Refused;
-        reply = shown(&mut table, target);
-    }
+    let mut table = filled(rt.alloc()).expect(rt, "a fixture");
+    let (reply, word) = lent!(
+        *rt,
+        asked(&mut table, target),
+        Refusal::Memory,
+        stays(&table, target)
+    );
     end(rt, word, is_told(&reply, target) && stays(&table, target));
 }
 

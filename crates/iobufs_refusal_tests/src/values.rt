@@ -1,6 +1,6 @@
 // Values that are written and read.
-use crate::made::{native, shows};
-use crate::word::{FailedAt, end, say};
+use crate::made::{gathered, native, shows};
+use crate::word::{Ended, end, mark};
 use bytes::Bytes;
 use iobufs::bufs::IoBufs;
 use iobufs::builder::Builder;
@@ -12,15 +12,6 @@ use std::process::Abort;
 
 const RANGE: RangeCfg = RangeCfg { lo: 0, hi: 1024 };
 
-// These chunks as static views.
-fn gathered(alloc: Global, chunks: &[&'static [u8]]) -> Result<IoBufs, BufError> {
-    let mut bufs = IoBufs::default();
-    for chunk in chunks {
-        bufs.append(alloc, IoBuf::from(*chunk))?;
-    }
-    Ok(bufs)
-}
-
 // The value is read from these chunks, and leaves those.
 fn is_read<T: Read + PartialEq + Drop>(
     rt: &(impl Print + Abort + AllocGlobal),
@@ -29,7 +20,7 @@ fn is_read<T: Read + PartialEq + Drop>(
     value: &T,
     left: &[&[u8]],
 ) {
-    let mut bufs = fixture!(*rt, gathered(rt.alloc(), chunks));
+    let mut bufs = gathered(rt.alloc(), chunks).expect(rt, "a fixture");
     let (read, word) = lent!(
         *rt,
         T::read_cfg(rt.alloc(), &mut bufs, cfg),
@@ -76,7 +67,7 @@ fn eight_bytes_are_read(rt: HostRuntime) {
 
 // Writes a value into a builder that has two bytes. A failure leaves these and a prefix of what is written.
 fn written<T: Write>(rt: &(impl Print + Abort + AllocGlobal), value: &T, begun: &[&[u8]]) {
-    let mut builder = fixture!(*rt, Builder::new(rt.alloc(), 16));
+    let mut builder = Builder::new(rt.alloc(), 16).expect(rt, "a fixture");
     assert!(rt; builder.remaining_mut() >= 2, "no space");
     builder.put_slice(b"ab");
     assert!(rt; value.encode_size().is_some(), "no size");
@@ -84,11 +75,14 @@ fn written<T: Write>(rt: &(impl Print + Abort + AllocGlobal), value: &T, begun: 
         builder.remaining_mut() >= value.encode_inline_size(),
         "no space"
     );
-    match value.write_bufs(&mut builder) {
-        Ok(()) => say(rt, FailedAt::Whole),
+    mark(rt, "call");
+    let answer = value.write_bufs(&mut builder);
+    mark(rt, "done");
+    match answer {
+        Ok(()) => end(rt, Ended::Done, true),
         Err(Error::Memory) => {
             let built = builder.finish().expect(rt, "what is begun");
-            end(rt, FailedAt::Refused, shows(&built, begun));
+            end(rt, Ended::Refused, shows(&built, begun));
         }
         Err(_) => panic!(rt; "another error"),
     }
@@ -97,7 +91,7 @@ fn written<T: Write>(rt: &(impl Print + Abort + AllocGlobal), value: &T, begun: 
 // A view has to be shared first, or its push fails: nothing is put before it is shared.
 #[test]
 fn a_native_view_is_written(rt: HostRuntime) {
-    let view = fixture!(rt, native(rt.alloc(), 8, b"xyz"));
+    let view = native(rt.alloc(), 8, b"xyz").expect(&rt, "a fixture");
     written(&rt, &view, &[b"ab\x03"])
 }
 
@@ -138,7 +132,7 @@ const LISTED: [&'static [u8]; 3] = [b"\x02\x02wx\x02", b"y", b"z!"];
 
 #[test]
 fn a_list_of_bytes_is_read(rt: HostRuntime) {
-    let mut bufs = fixture!(rt, gathered(rt.alloc(), &LISTED));
+    let mut bufs = gathered(rt.alloc(), &LISTED).expect(&rt, "a fixture");
     let (list, word) = lent!(
         rt,
         <List<Bytes> as Look>::read_whole(rt.alloc(), &mut bufs, &(RANGE, RANGE)),
@@ -180,9 +174,10 @@ fn fails<T: Look + Drop>(
 // A count allocates nothing, however large it is: space is made for values that are found.
 #[test]
 fn counts_that_lie_ask_for_nothing(rt: HostRuntime) {
-    let mut largest = fixture!(rt, gathered(rt.alloc(), &LARGEST));
-    let mut many = fixture!(rt, gathered(rt.alloc(), &MANY));
+    let mut largest = gathered(rt.alloc(), &LARGEST).expect(&rt, "a fixture");
+    let mut many = gathered(rt.alloc(), &MANY).expect(&rt, "a fixture");
     let (alloc, end_of_bytes) = (rt.alloc(), Error::EndOfBuffer);
+    mark(&rt, "call");
     let outside = Error::InvalidLength(1 << 63);
     let numbers = fails::<u64>(alloc, &mut largest, &(ANY, ()), end_of_bytes, &LARGEST)
         && fails::<u64>(alloc, &mut many, &(ANY, ()), end_of_bytes, &MANY)
@@ -196,5 +191,6 @@ fn counts_that_lie_ask_for_nothing(rt: HostRuntime) {
         end_of_bytes,
         &LARGEST,
     );
-    end(&rt, FailedAt::Whole, numbers && bytes && lists);
+    mark(&rt, "done");
+    end(&rt, Ended::Done, numbers && bytes && lists);
 }

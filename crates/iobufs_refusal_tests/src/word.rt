@@ -1,39 +1,30 @@
-// The words that a test prints.
-use std::fmt;
+// What a test prints: `call` and `done` around each call, and then how the call ended.
 use std::process::Abort;
 
-// Which allocation failed.
-#[derive(Clone, Copy)]
-pub enum FailedAt {
-    // One of the fixture's.
-    Fixture,
-    // One of the call's.
+// How a call ended.
+#[derive(Clone, Copy, Debug)]
+pub enum Ended {
+    Done,
+    // It handed back a buffer whose storage is shared,
+    Declined,
+    // or one of several chunks.
+    Several,
+    // An allocation failed. That changed nothing, and the second call gave what it should.
     Refused,
-    // Neither.
-    Whole,
+    // With another value,
+    Wrong,
+    // another error,
+    Failed,
+    // or a buffer that a failure changed.
+    Changed,
 }
 
-impl fmt::Display for FailedAt {
-    fn fmt<W: fmt::Write>(&self, f: &mut fmt::Formatter<W>) -> fmt::Result {
-        f.write_str(match self {
-            FailedAt::Fixture => "fixture",
-            FailedAt::Refused => "refused",
-            FailedAt::Whole => "whole",
-        })
-    }
-}
-
-// Names the case of a test that comes next.
-pub fn name(rt: &(impl Print + Abort), case: &str) {
-    println!(rt; "{case}").expect(rt, "the name is printed");
-}
-
-pub fn say(rt: &(impl Print + Abort), word: FailedAt) {
+pub fn mark(rt: &(impl Print + Abort), word: &str) {
     println!(rt; "{word}").expect(rt, "the word is printed");
 }
 
-// The word, if the call gave what it should.
-pub fn end(rt: &(impl Print + Abort), word: FailedAt, holds: bool) {
+// How the call ended, if it gave what it should.
+pub fn end(rt: &(impl Print + Abort), ended: Ended, holds: bool) {
     assert!(rt; holds, "another answer");
-    say(rt, word);
+    println!(rt; "{ended:?}").expect(rt, "the word is printed");
 }

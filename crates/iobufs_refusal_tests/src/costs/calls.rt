@@ -1,19 +1,18 @@
 // The calls.
 use crate::costs::shape::{Place, Shape};
-use crate::costs::stores::{cut, parts_of};
-use crate::given::Given;
-use crate::kinds::{into_bytes, into_part, memory, slice, split};
+use crate::costs::stores::{block, cut, parts_of};
 use bytes::{Bytes, BytesMut};
 use iobufs::bufs::IoBufs;
 use iobufs::bufs_mut::IoBufsMut;
 use iobufs::builder::{Builder, EncodeExt};
 use iobufs_core::buf::{IoBuf, IoBufMut};
 use iobufs_core::codec::{
-    Buf, BufError, BufMut, BufsMut, Encode, Error, OwnedBytes, Peek, RangeCfg, Read,
+    Buf, BufError, BufMut, BufsMut, Encode, Error, OwnedBytes, Peek, RangeCfg, Read, Refused,
 };
 use iobufs_frames::{Frames, Prefix, framed_with};
 use std::alloc::Global;
 use std::mem;
+use std::ops::Bound::{Excluded, Included};
 
 // Bodies of any length.
 pub const ANY: RangeCfg = RangeCfg {
@@ -21,17 +20,36 @@ pub const ANY: RangeCfg = RangeCfg {
     hi: usize::MAX,
 };
 
+// The result of a call: one of several types.
+#[derive(Drop)]
+pub enum Given {
+    Nothing,
+    View(IoBuf),
+    Bytes(Bytes),
+    List(Vec<u8>),
+    Part(IoBufMut),
+    Text(IoBufs),
+    // Handed back by a call that requires sole ownership of the storage,
+    Shared(IoBuf),
+    // or a single chunk.
+    Chunks(IoBufs),
+    Parts(IoBufsMut),
+}
+
 #[derive(Clone, Copy, Debug)]
 pub enum Costed {
     // Of every reader.
     Advance,
     CopyToSlice,
+    TryCopy,
     CopyToBytes,
     Chunks,
+    TwoChunks,
     // Of readers whose bytes can be taken or peeked at.
     TakeView,
     TakeBytes,
     TryTake,
+    TryTakeBytes,
     PeekView,
     PeekBytes,
     PeekSlice,
@@ -47,6 +65,7 @@ pub enum Costed {
     IntoPart,
     Recover,
     FromView,
+    ViewFromView,
     Encode,
     EncodeChunks,
     Read,
@@ -56,11 +75,16 @@ pub enum Costed {
     OfList,
     PartOfList,
     TextOfList,
+    OfBytes,
+    BytesOfBytes,
     OfBytesMut,
     PartOfBytes,
     // Of one that another handle shares.
     PartOfSharedBytes,
     PartOfBytesMut,
+    // Of the front of one whose rest is another.
+    OfSharedBytesMut,
+    PartOfSharedBytesMut,
     Capacity,
     Aligned,
     Zeroed,
@@ -73,12 +97,14 @@ pub enum Costed {
     // Of texts.
     Append,
     Prepend,
+    // Of texts and of several writable buffers.
     Coalesce,
     Single,
     // Of writable buffers.
     Truncate,
     SetLen,
     Put,
+    Overwrite,
     Freeze,
     IntoText,
     FromParts,
@@ -90,10 +116,13 @@ impl Costed {
         matches!(
             self,
             Costed::CopyToSlice
+                | Costed::TryCopy
                 | Costed::PeekSlice
                 | Costed::OfList
                 | Costed::PartOfList
                 | Costed::TextOfList
+                | Costed::OfBytes
+                | Costed::BytesOfBytes
                 | Costed::OfBytesMut
                 | Costed::PartOfBytes
                 | Costed::PartOfSharedBytes
@@ -102,9 +131,18 @@ impl Costed {
                 | Costed::ZeroedAligned
         )
     }
+
+    // Whether a buffer is gone if an allocation fails.
+    pub fn is_consuming(self) -> bool {
+        matches!(
+            self,
+            Costed::FromView | Costed::Freeze | Costed::IntoText | Costed::Coalesce
+        )
+    }
 }
 
-// The arguments of a call: a range from the start, zeros, its bytes, how they are cut, and they as writable buffers.
+// The arguments of a call: a range from the start, zeros, its bytes, how they are cut, and they as writable buffers, or as
+// two halves of a block.
 #[derive(Drop)]
 pub struct Args {
     lo: usize,
@@ -113,6 +151,7 @@ pub struct Args {
     bytes: &'static [u8],
     len: usize,
     parts: Vec<IoBufMut>,
+    halves: Option<(BytesMut, BytesMut)>,
 }
 
 impl Args {
@@ -128,6 +167,10 @@ impl Args {
             Costed::FromParts => parts_of(alloc, bytes, shape.len)?,
             _ => Vec::new(alloc),
         };
+        let halves = match call {
+            Costed::OfSharedBytesMut | Costed::PartOfSharedBytesMut => Some(block(alloc, bytes)?),
+            _ => None,
+        };
         Ok(Args {
             lo: shape.bytes((0, span.0)).len(),
             hi: shape.bytes((0, span.1)).len(),
@@ -135,13 +178,18 @@ impl Args {
             bytes,
             len: shape.len,
             parts,
+            halves,
         })
+    }
+
+    fn take_room(&mut self, alloc: Global) -> Vec<u8> {
+        mem::replace(&mut self.room, Vec::new(alloc))
     }
 }
 
 // A buffer whose calls are counted.
 pub trait Counted: Buf + Drop {
-    fn make(&mut self, alloc: Global, call: Costed, args: Args) -> Result<Given, BufError>;
+    fn make(&mut self, alloc: Global, call: Costed, args: &mut Args) -> Result<Given, BufError>;
 }
 
 // A call of every reader.
@@ -149,9 +197,9 @@ fn read<B: Buf>(
     alloc: Global,
     buf: &mut B,
     call: Costed,
-    mut args: Args,
+    args: &mut Args,
 ) -> Result<Given, BufError> {
-    if buf.remaining() < args.hi || buf.remaining() < args.room.len() {
+    if buf.remaining() < args.hi {
         return Err(BufError::TooLong);
     }
     match call {
@@ -159,17 +207,35 @@ fn read<B: Buf>(
             buf.advance(args.hi);
             Ok(Given::Nothing)
         }
-        Costed::CopyToSlice => {
-            buf.copy_to_slice(args.room.as_mut_slice());
-            Ok(Given::List(args.room))
-        }
         Costed::CopyToBytes => Ok(Given::Bytes(buf.copy_to_bytes(alloc, args.hi)?)),
-        Costed::Chunks => {
-            drop(buf.chunks_vectored(alloc, usize::MAX)?);
-            Ok(Given::Nothing)
-        }
+        Costed::Chunks | Costed::TwoChunks => listed(alloc, buf, call, args.len),
+        Costed::CopyToSlice | Costed::TryCopy => fill(buf, call, args.take_room(alloc)),
         _ => maker(alloc, call, args),
     }
+}
+
+// The chunks of a reader are listed, all or two of them.
+fn listed<B: Buf>(alloc: Global, buf: &B, call: Costed, len: usize) -> Result<Given, BufError> {
+    let all = buf.remaining().div_ceil(len.max(1));
+    let (most, count) = match call {
+        Costed::TwoChunks => (2, all.min(2)),
+        _ => (usize::MAX, all),
+    };
+    nothing(buf.chunks_vectored(alloc, most)?.len() == count)
+}
+
+// The zeros are overwritten with bytes of a reader.
+fn fill<B: Buf>(buf: &mut B, call: Costed, mut room: Vec<u8>) -> Result<Given, BufError> {
+    if buf.remaining() < room.len() {
+        return Err(BufError::TooLong);
+    }
+    match call {
+        Costed::TryCopy => {
+            nothing(buf.try_copy_to_slice(room.as_mut_slice()).is_ok())?;
+        }
+        _ => buf.copy_to_slice(room.as_mut_slice()),
+    }
+    Ok(Given::List(room))
 }
 
 // A call of a reader whose bytes can be taken or peeked at.
@@ -177,23 +243,48 @@ fn own<B: Peek>(
     alloc: Global,
     buf: &mut B,
     call: Costed,
-    mut args: Args,
+    args: &mut Args,
 ) -> Result<Given, BufError> {
     let (skip, n, len) = (args.lo, args.bytes.len(), buf.remaining());
-    if len < skip || len - skip < n || n < args.room.len() {
+    if len < skip || len - skip < n {
         return Err(BufError::TooLong);
     }
     match call {
         Costed::TakeView => Ok(Given::View(buf.take_owned_after(alloc, skip, n)?)),
         Costed::TakeBytes => Ok(Given::Bytes(buf.take_owned_after(alloc, skip, n)?)),
         Costed::TryTake => Ok(Given::View(memory(buf.try_take_owned(alloc, n))?)),
+        Costed::TryTakeBytes => Ok(Given::Bytes(memory(buf.try_take_owned(alloc, n))?)),
         Costed::PeekView => Ok(Given::View(buf.peek_owned(alloc, skip, n)?)),
         Costed::PeekBytes => Ok(Given::Bytes(buf.peek_owned(alloc, skip, n)?)),
-        Costed::PeekSlice => {
-            buf.peek_slice(skip, args.room.as_mut_slice());
-            Ok(Given::List(args.room))
-        }
+        Costed::PeekSlice => peek(buf, skip, args.take_room(alloc)),
         _ => read(alloc, buf, call, args),
+    }
+}
+
+// The zeros are overwritten with bytes that stay in the reader.
+fn peek<B: Peek>(buf: &B, skip: usize, mut room: Vec<u8>) -> Result<Given, BufError> {
+    let len = buf.remaining();
+    if len < skip || len - skip < room.len() {
+        return Err(BufError::TooLong);
+    }
+    buf.peek_slice(skip, room.as_mut_slice());
+    Ok(Given::List(room))
+}
+
+// The error of a reader, as that of a buffer.
+fn memory<T: Drop>(read: Result<T, Error>) -> Result<T, BufError> {
+    read.map_err(|error| match error {
+        Error::Memory => BufError::Memory,
+        _ => BufError::TooLong,
+    })
+}
+
+// Nothing, or the cause of a refusal that hands these bytes back.
+fn kept(answer: Result<(), Refused<IoBuf>>, bytes: &[u8]) -> Result<Given, BufError> {
+    match answer {
+        Ok(()) => Ok(Given::Nothing),
+        Err(refused) if refused.value.as_ref() == bytes => Err(refused.cause),
+        Err(_) => Err(BufError::TooLong),
     }
 }
 
@@ -207,8 +298,51 @@ fn filled(mut room: Vec<u8>, bytes: &[u8]) -> Result<Vec<u8>, BufError> {
 fn recovered(alloc: Global, view: &mut IoBuf) -> Given {
     match mem::take(view).try_into_mut(alloc) {
         Ok(part) => Given::Part(part),
-        Err(view) => Given::Declined(view),
+        Err(view) => Given::Shared(view),
     }
+}
+
+// A view is made into `Bytes`, and handed back where that fails.
+fn into_bytes(alloc: Global, view: &mut IoBuf) -> Result<Given, BufError> {
+    match mem::take(view).into_bytes(alloc) {
+        Ok(bytes) => Ok(Given::Bytes(bytes)),
+        Err(back) => {
+            *view = back;
+            Err(BufError::Memory)
+        }
+    }
+}
+
+fn into_part(alloc: Global, view: &mut IoBuf) -> Result<Given, BufError> {
+    match IoBufMut::from_view(alloc, mem::take(view)) {
+        Ok(part) => Ok(Given::Part(part)),
+        Err(back) => {
+            *view = back;
+            Err(BufError::Memory)
+        }
+    }
+}
+
+fn from_view(alloc: Global, call: Costed, view: IoBuf) -> Result<Given, BufError> {
+    match call {
+        Costed::ViewFromView => Ok(Given::View(OwnedBytes::from_view(alloc, view)?)),
+        _ => Ok(Given::Bytes(OwnedBytes::from_view(alloc, view)?)),
+    }
+}
+
+// A buffer of the first half of a block. It leaves the second half.
+fn of_half(
+    call: Costed,
+    halves: Option<(BytesMut, BytesMut)>,
+    bytes: &[u8],
+) -> Result<Given, BufError> {
+    let (first, second) = halves.ok_or(BufError::TooLong)?;
+    let given = match call {
+        Costed::OfSharedBytesMut => Given::View(IoBuf::from_bytes_mut(first)?),
+        _ => Given::Part(IoBufMut::from_bytes_mut(first)?),
+    };
+    nothing(second.as_slice() == bytes)?;
+    Ok(given)
 }
 
 // The rest after the first chunk, which is the length.
@@ -250,7 +384,7 @@ fn built(alloc: Global, views: Vec<IoBuf>, size: usize) -> Result<IoBufs, BufErr
 // A body, framed, without the length before it.
 fn framed(alloc: Global, text: IoBufs) -> Result<Given, BufError> {
     match framed_with(alloc, Prefix::Spelled, text) {
-        Ok(text) => Ok(Given::Bufs(body(text))),
+        Ok(text) => Ok(Given::Text(body(text))),
         Err(refused) => Err(refused.cause),
     }
 }
@@ -274,115 +408,126 @@ fn nothing(is_right: bool) -> Result<Given, BufError> {
 }
 
 // A call that makes a buffer.
-fn maker(alloc: Global, call: Costed, args: Args) -> Result<Given, BufError> {
-    let Args {
-        hi,
-        room,
-        bytes,
-        len,
-        ..
-    } = args;
+fn maker(alloc: Global, call: Costed, args: &mut Args) -> Result<Given, BufError> {
     match call {
-        Costed::Copy => Ok(Given::View(IoBuf::copy_from_slice(alloc, bytes)?)),
-        Costed::CopyPart => Ok(Given::Part(IoBufMut::copy_from_slice(alloc, bytes)?)),
-        Costed::OfList => Ok(Given::View(IoBuf::from_vec(filled(room, bytes)?)?)),
-        Costed::PartOfList => Ok(Given::Part(IoBufMut::from(filled(room, bytes)?))),
-        Costed::TextOfList => Ok(Given::Bufs(IoBufs::from_vec(filled(room, bytes)?)?)),
-        Costed::OfBytesMut => Ok(Given::View(IoBuf::from_bytes_mut(BytesMut::from(filled(
-            room, bytes,
-        )?))?)),
-        Costed::PartOfBytes => {
-            let bytes = Bytes::from_vec(filled(room, bytes)?)?;
-            Ok(Given::Part(IoBufMut::from_bytes(alloc, bytes)?))
+        Costed::Copy => Ok(Given::View(IoBuf::copy_from_slice(alloc, args.bytes)?)),
+        Costed::CopyPart => Ok(Given::Part(IoBufMut::copy_from_slice(alloc, args.bytes)?)),
+        Costed::EncodeBytes => encoded(alloc, args.bytes),
+        Costed::Capacity | Costed::Aligned => empty(alloc, call, args.hi),
+        Costed::Zeroed | Costed::ZeroedAligned => zeroed(alloc, call, args.take_room(alloc)),
+        Costed::OfSharedBytesMut | Costed::PartOfSharedBytesMut => {
+            of_half(call, args.halves.take(), args.bytes)
         }
-        Costed::PartOfSharedBytes => {
-            let bytes = Bytes::from_vec(filled(room, bytes)?)?;
-            Ok(Given::Part(IoBufMut::from_bytes(alloc, bytes.clone()?)?))
-        }
-        Costed::PartOfBytesMut => {
-            let bytes = BytesMut::from(filled(room, bytes)?);
-            Ok(Given::Part(IoBufMut::from_bytes_mut(bytes)?))
-        }
-        Costed::Capacity => nothing(IoBufMut::with_capacity(alloc, hi)?.capacity() == hi),
-        Costed::Aligned => nothing(IoBufMut::with_alignment(alloc, hi, 4096)?.capacity() == hi),
-        Costed::Zeroed => nothing(IoBufMut::zeroed(alloc, hi)?.as_ref() == room.as_slice()),
-        Costed::ZeroedAligned => nothing(
-            IoBufMut::zeroed_with_alignment(alloc, hi, 4096)?.as_ref() == room.as_slice(),
-        ),
-        Costed::EncodeBytes => Ok(Given::Bufs(body(memory(Bytes::from_static(bytes).encode_iobufs(
-            alloc,
-        ))?))),
-        Costed::Join => Ok(Given::Bufs(IoBufs::from_chunks(
-            alloc,
-            cut(alloc, bytes, len)?.into_iter(),
-        )?)),
-        Costed::Framed => framed(
-            alloc,
-            IoBufs::from_chunks(alloc, cut(alloc, bytes, len)?.into_iter())?,
-        ),
+        Costed::Join | Costed::Framed | Costed::Fed | Costed::Build => joined(alloc, call, args),
+        _ => of_list(alloc, call, filled(args.take_room(alloc), args.bytes)?),
+    }
+}
+
+fn encoded(alloc: Global, bytes: &'static [u8]) -> Result<Given, BufError> {
+    let text = memory(Bytes::from_static(bytes).encode_iobufs(alloc))?;
+    Ok(Given::Text(body(text)))
+}
+
+fn empty(alloc: Global, call: Costed, n: usize) -> Result<Given, BufError> {
+    let part = match call {
+        Costed::Aligned => IoBufMut::with_alignment(alloc, n, 4096)?,
+        _ => IoBufMut::with_capacity(alloc, n)?,
+    };
+    nothing(part.capacity() == n)
+}
+
+fn zeroed(alloc: Global, call: Costed, room: Vec<u8>) -> Result<Given, BufError> {
+    let part = match call {
+        Costed::ZeroedAligned => IoBufMut::zeroed_with_alignment(alloc, room.len(), 4096)?,
+        _ => IoBufMut::zeroed(alloc, room.len())?,
+    };
+    nothing(part.as_ref() == room.as_slice())
+}
+
+// The chunks, made one.
+fn joined(alloc: Global, call: Costed, args: &Args) -> Result<Given, BufError> {
+    let (bytes, len) = (args.bytes, args.len);
+    match call {
         Costed::Fed => Ok(Given::View(fed(alloc, bytes, len)?)),
-        Costed::Build => Ok(Given::Bufs(built(alloc, cut(alloc, bytes, len)?, hi)?)),
+        Costed::Build => Ok(Given::Text(built(alloc, cut(alloc, bytes, len)?, args.hi)?)),
+        _ => {
+            let text = IoBufs::from_chunks(alloc, cut(alloc, bytes, len)?.into_iter())?;
+            match call {
+                Costed::Framed => framed(alloc, text),
+                _ => Ok(Given::Text(text)),
+            }
+        }
+    }
+}
+
+// A list is made a buffer.
+fn of_list(alloc: Global, call: Costed, list: Vec<u8>) -> Result<Given, BufError> {
+    match call {
+        Costed::OfList => Ok(Given::View(IoBuf::from_vec(list)?)),
+        Costed::PartOfList => Ok(Given::Part(IoBufMut::from(list))),
+        Costed::TextOfList => Ok(Given::Text(IoBufs::from_vec(list)?)),
+        Costed::OfBytesMut => Ok(Given::View(IoBuf::from_bytes_mut(BytesMut::from(list))?)),
+        Costed::PartOfBytesMut => {
+            Ok(Given::Part(IoBufMut::from_bytes_mut(BytesMut::from(list))?))
+        }
+        _ => of_bytes(alloc, call, Bytes::from_vec(list)?),
+    }
+}
+
+// A `Bytes` is made a buffer.
+fn of_bytes(alloc: Global, call: Costed, bytes: Bytes) -> Result<Given, BufError> {
+    match call {
+        Costed::OfBytes => Ok(Given::View(OwnedBytes::from_bytes(bytes)?)),
+        Costed::BytesOfBytes => Ok(Given::Bytes(OwnedBytes::from_bytes(bytes)?)),
+        Costed::PartOfBytes => Ok(Given::Part(IoBufMut::from_bytes(alloc, bytes)?)),
+        Costed::PartOfSharedBytes => Ok(Given::Part(IoBufMut::from_bytes(alloc, bytes.clone()?)?)),
         _ => Err(BufError::BadLayout),
     }
 }
 
 impl Counted for IoBuf {
-    fn make(&mut self, alloc: Global, call: Costed, args: Args) -> Result<Given, BufError> {
+    fn make(&mut self, alloc: Global, call: Costed, args: &mut Args) -> Result<Given, BufError> {
         match call {
             Costed::Clone => Ok(Given::View(self.clone()?)),
-            Costed::Slice => Ok(Given::View(slice(self, args.lo, args.hi)?)),
-            Costed::SplitTo => Ok(Given::View(split(self, args.hi)?)),
+            Costed::Slice if self.fits_range(Included(args.lo), Excluded(args.hi)) => {
+                Ok(Given::View(self.slice(Included(args.lo), Excluded(args.hi))?))
+            }
+            Costed::SplitTo if args.hi <= self.len() => Ok(Given::View(self.split_to(args.hi)?)),
             Costed::ToVec => Ok(Given::List(self.to_vec(alloc)?)),
+            Costed::Encode => Ok(Given::Part(last(memory(self.encode(alloc))?, self.len()))),
+            Costed::EncodeChunks => Ok(Given::Text(body(memory(self.encode_iobufs(alloc))?))),
+            Costed::Read => Ok(Given::View(memory(read_back(alloc, self))?)),
+            Costed::IntoBytes => into_bytes(alloc, self),
+            Costed::IntoPart => into_part(alloc, self),
+            Costed::Recover => Ok(recovered(alloc, self)),
+            Costed::FromView | Costed::ViewFromView => from_view(alloc, call, mem::take(self)),
             Costed::TakeAllView => Ok(Given::View(OwnedBytes::take_view(alloc, self)?)),
             Costed::TakeAllBytes => Ok(Given::Bytes(OwnedBytes::take_view(alloc, self)?)),
-            Costed::IntoBytes => Ok(Given::Bytes(into_bytes(alloc, self)?)),
-            Costed::IntoPart => Ok(Given::Part(into_part(alloc, self)?)),
-            Costed::Recover => Ok(recovered(alloc, self)),
-            Costed::FromView => Ok(Given::Bytes(OwnedBytes::from_view(alloc, mem::take(self))?)),
-            Costed::Encode => Ok(Given::Part(last(memory(self.encode(alloc))?, self.len()))),
-            Costed::EncodeChunks => Ok(Given::Bufs(body(memory(self.encode_iobufs(alloc))?))),
-            Costed::Read => Ok(Given::View(memory(read_back(alloc, self))?)),
             _ => own(alloc, self, call, args),
         }
     }
 }
 
-fn text_slice(alloc: Global, text: &IoBufs, lo: usize, hi: usize) -> Result<IoBufs, BufError> {
-    if hi < lo || text.len() < hi {
-        return Err(BufError::TooLong);
-    }
-    text.slice(alloc, lo..hi)
-}
-
-fn text_split(alloc: Global, text: &mut IoBufs, at: usize) -> Result<IoBufs, BufError> {
-    if text.len() < at {
-        return Err(BufError::TooLong);
-    }
-    text.split_to(alloc, at)
-}
-
 fn single(text: &mut IoBufs) -> Given {
     match mem::take(text).try_into_single() {
         Ok(view) => Given::View(view),
-        Err(back) => Given::Several(back),
+        Err(back) => Given::Chunks(back),
     }
 }
 
 impl Counted for IoBufs {
-    fn make(&mut self, alloc: Global, call: Costed, args: Args) -> Result<Given, BufError> {
+    fn make(&mut self, alloc: Global, call: Costed, args: &mut Args) -> Result<Given, BufError> {
         match call {
-            Costed::Clone => Ok(Given::Bufs(self.clone()?)),
-            Costed::Slice => Ok(Given::Bufs(text_slice(alloc, self, args.lo, args.hi)?)),
-            Costed::SplitTo => Ok(Given::Bufs(text_split(alloc, self, args.hi)?)),
+            Costed::Clone => Ok(Given::Text(self.clone()?)),
+            Costed::Slice if args.lo <= args.hi && args.hi <= self.len() => {
+                Ok(Given::Text(self.slice(alloc, args.lo..args.hi)?))
+            }
+            Costed::SplitTo if args.hi <= self.len() => {
+                Ok(Given::Text(self.split_to(alloc, args.hi)?))
+            }
             Costed::ToVec => Ok(Given::List(self.to_vec(alloc)?)),
-            Costed::Append => {
-                self.append(alloc, IoBuf::from(args.bytes))?;
-                Ok(Given::Nothing)
-            }
-            Costed::Prepend => {
-                self.prepend(alloc, IoBuf::from(args.bytes))?;
-                Ok(Given::Nothing)
-            }
+            Costed::Append => kept(self.append(alloc, IoBuf::from(args.bytes)), args.bytes),
+            Costed::Prepend => kept(self.prepend(alloc, IoBuf::from(args.bytes)), args.bytes),
             Costed::Truncate => {
                 self.truncate(alloc, args.hi)?;
                 Ok(Given::Nothing)
@@ -395,7 +540,7 @@ impl Counted for IoBufs {
 }
 
 impl Counted for IoBufMut {
-    fn make(&mut self, alloc: Global, call: Costed, args: Args) -> Result<Given, BufError> {
+    fn make(&mut self, alloc: Global, call: Costed, args: &mut Args) -> Result<Given, BufError> {
         match call {
             Costed::Freeze => {
                 let part = mem::replace(self, IoBufMut::default(alloc));
@@ -403,7 +548,7 @@ impl Counted for IoBufMut {
             }
             Costed::IntoText => {
                 let part = mem::replace(self, IoBufMut::default(alloc));
-                Ok(Given::Bufs(IoBufs::from_mut(part)?))
+                Ok(Given::Text(IoBufs::from_mut(part)?))
             }
             Costed::Truncate => {
                 self.truncate(args.hi);
@@ -430,19 +575,28 @@ fn put<B: BufMut>(into: &mut B, bytes: &[u8]) -> Result<Given, BufError> {
     Ok(Given::Nothing)
 }
 
+fn single_part(alloc: Global, parts: &mut IoBufsMut) -> Given {
+    match mem::replace(parts, IoBufsMut::default(alloc)).try_into_single() {
+        Ok(part) => Given::Part(part),
+        Err(back) => Given::Parts(back),
+    }
+}
+
 impl Counted for IoBufsMut {
-    fn make(&mut self, alloc: Global, call: Costed, args: Args) -> Result<Given, BufError> {
+    fn make(&mut self, alloc: Global, call: Costed, args: &mut Args) -> Result<Given, BufError> {
         match call {
             Costed::Freeze => {
                 let parts = mem::replace(self, IoBufsMut::default(alloc));
-                Ok(Given::Bufs(parts.freeze(alloc)?))
+                Ok(Given::Text(parts.freeze(alloc)?))
             }
             Costed::Coalesce => {
                 let parts = mem::replace(self, IoBufsMut::default(alloc));
                 Ok(Given::Part(parts.coalesce(alloc)?))
             }
+            Costed::Single => Ok(single_part(alloc, self)),
             Costed::FromParts => {
-                *self = IoBufsMut::from_parts(alloc, args.parts.into_iter())?;
+                let parts = mem::replace(&mut args.parts, Vec::new(alloc));
+                *self = IoBufsMut::from_parts(alloc, parts.into_iter())?;
                 Ok(Given::Nothing)
             }
             Costed::SetLen if args.hi <= self.capacity() => {
@@ -452,6 +606,10 @@ impl Counted for IoBufsMut {
             Costed::Put if self.capacity() > 0 => {
                 self.set_len(0);
                 put(self, args.bytes)
+            }
+            Costed::Overwrite if self.len() == args.bytes.len() => {
+                self.copy_from_slice(args.bytes);
+                Ok(Given::Nothing)
             }
             _ => read(alloc, self, call, args),
         }

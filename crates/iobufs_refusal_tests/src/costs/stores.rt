@@ -111,13 +111,15 @@ pub const ORIGINS: [Origin; 6] = [
     Origin::BytesMut,
 ];
 
-fn rest(alloc: Global, bytes: &[u8]) -> Result<BytesMut, BufError> {
+// Both halves of a block that holds the bytes twice.
+pub fn block(alloc: Global, bytes: &[u8]) -> Result<(BytesMut, BytesMut), BufError> {
     let mut both = BytesMut::copy_from_slice(alloc, bytes)?;
     both.extend_from_slice(bytes)?;
     if both.len() < bytes.len() {
         return Err(BufError::TooLong);
     }
-    Ok(both.split_off(bytes.len())?)
+    let rest = both.split_off(bytes.len())?;
+    Ok((both, rest))
 }
 
 pub fn stored_part(alloc: Global, origin: Origin, bytes: &[u8]) -> Result<IoBufMut, BufError> {
@@ -127,7 +129,7 @@ pub fn stored_part(alloc: Global, origin: Origin, bytes: &[u8]) -> Result<IoBufM
         Origin::Full => IoBufMut::copy_from_slice(alloc, bytes),
         Origin::List => Ok(IoBufMut::from(Vec::from_slice(alloc, bytes)?)),
         Origin::Bytes => IoBufMut::from_bytes(alloc, Bytes::copy_from_slice(alloc, bytes)?),
-        Origin::BytesMut => IoBufMut::from_bytes_mut(rest(alloc, bytes)?),
+        Origin::BytesMut => IoBufMut::from_bytes_mut(block(alloc, bytes)?.1),
     }
 }
 
