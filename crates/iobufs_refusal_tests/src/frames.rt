@@ -99,7 +99,7 @@ fn next_behind_a_fixed_length(rt: HostRuntime) {
     end(&rt, word, is_abc && shows(&frames.rest, &[b"\0\x01d"]));
 }
 
-// The frames of chunks, made anew.
+// The frames of new chunks.
 fn run_of(alloc: Global) -> Result<Run, BufError> {
     let mut views = Vec::with_capacity(alloc, 2)?;
     for piece in PIECES {

@@ -106,7 +106,7 @@ fn is_told(reply: &Reply, target: usize) -> bool {
     }
 }
 
-// What a name shows, or the error.
+// The contents of a name, or the error.
 fn asked(table: &mut Table, target: usize) -> Result<Reply, Refusal> {
     match shown(table, target) {
         Reply::Refused(cause) => Err(cause),

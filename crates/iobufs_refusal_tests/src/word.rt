@@ -1,4 +1,4 @@
-// What a test prints: `call` and `done` around each call, and then how the call ended.
+// The words that a test prints: `call` and `done` around each call, and then how the call ended.
 use std::process::Abort;
 
 // How a call ended.
