@@ -1,6 +1,6 @@
 -- The steps among what is asked are a run of the machine.
 use Rattle.std.proofs.Common.{◌≡◌, inl, inr, ℕ, ◌+◌, ◌≤◌, length, arith, List, [], ◌∷◌, ◌++◌, map, refl, sym, ap, subst, Result, Ok, Err, OnOk, OnErr}
-use Rattle.iobufs_core.specs.declared.codec.base.BufError.{BufError}
+use Rattle.std.specs.declared.alloc.AllocError.{AllocError}
 use Rattle.iobufs_owner.specs.declared.owner.types.Reply.{Reply}
 use Rattle.iobufs_owner.specs.Promises.{Promises}
 use Rattle.iobufs_owner.specs.Growing.{GrowingRuns}
@@ -11,7 +11,7 @@ use Rattle.iobuf_lines.specs.Owner.Printed.{step_reply_text}
 use Rattle.iobuf_lines.specs.Owner.Session.{AreAnswered, Answers, MakesRoom, answers_to_steps, steps_of}
 
 -- room was made, or nothing has changed
-pub room_made : (m grown : Seen) (result : Result (Unit {0}) BufError) → grown.state ≡ m.state → KeepsRoom m.room grown.room
+pub room_made : (m grown : Seen) (result : Result (Unit {0}) AllocError) → grown.state ≡ m.state → KeepsRoom m.room grown.room
     → OnOk result (length m.state.tables.blocks + 1 ≤ grown.room.blocks) → OnOk result (length m.state.handles + 1 ≤ grown.room.handles)
     → OnOk result (length m.state.tables.records + 1 ≤ grown.room.records) → OnErr result (grown ≡ m) → MakesRoom m grown
 room_made m grown (Ok done) e k blocks handles records same =

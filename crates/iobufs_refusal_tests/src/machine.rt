@@ -57,7 +57,7 @@ const SHARED: [Row; 6] = [
 ];
 
 fn new_machine(alloc: Global) -> Result<Machine, BufError> {
-    Machine::new(alloc, PARTIES, 9, FORMAT_64)
+    Ok(Machine::new(alloc, PARTIES, 9, FORMAT_64)?)
 }
 
 // Whether two machines show the same.
@@ -138,7 +138,7 @@ fn run(rt: HostRuntime) {
     let mut machine = new_machine(rt.alloc()).expect(&rt, "a fixture");
     let (replies, word) = lent!(
         rt,
-        machine.run(&IDLE),
+        machine.run(&IDLE).map_err(BufError::from),
         BufError::Memory,
         machine.blocks().is_empty()
     );
@@ -192,7 +192,7 @@ fn a_reservation(rt: HostRuntime) {
     let mut machine = new_machine(rt.alloc()).expect(&rt, "a fixture");
     let ((), word) = lent!(
         rt,
-        machine.reserve(8, 8, 8),
+        machine.reserve(8, 8, 8).map_err(BufError::from),
         BufError::Memory,
         machine.handles().is_empty()
     );

@@ -1,11 +1,9 @@
 //! Room in the machine's tables, as it is made: in all of them, or in none.
-ghost use Rattle.std.specs.Prelude.{◌≡◌, ◌⊎◌, ◌+◌, ◌*◌, ◌^◌, ◌<◌, ◌≤◌, length, vec_capacity, None, true, IfErr, IfOk, IfSome, IsOk, OnErr, OnOk};
-ghost use Rattle.iobufs_core.specs.declared.codec.base.BufError.TheVariants.{Memory};
+ghost use Rattle.std.specs.Prelude.{◌≡◌, ◌⊎◌, ◌+◌, ◌*◌, ◌^◌, ◌<◌, ◌≤◌, length, vec_capacity, None, true, IfOk, IfSome, IsOk, OnErr, OnOk};
 ghost use Rattle.iobufs_owner.specs.Reserved.{RoomFor};
 ghost use Rattle.iobufs_owner.specs.State.{KeepsRoom};
 
 use crate::owner::Machine;
-use iobufs_core::codec::BufError;
 use std::alloc::AllocError;
 
 impl Machine {
@@ -27,13 +25,17 @@ impl Machine {
     /// Makes space for this many entries more in each table and its log. If it fails, nothing has changed, capacities
     /// included. A table that grows becomes at least twice as large, so space for one entry before each step costs
     /// little.
-    pub fn reserve(&mut self, blocks: usize, handles: usize, records: usize) -> Result<(), BufError>
+    pub fn reserve(
+        &mut self,
+        blocks: usize,
+        handles: usize,
+        records: usize,
+    ) -> Result<(), AllocError>
         ensures state { self.new.state ≡ self.old.state }
         ensures room { KeepsRoom self.old.room self.new.room }
         ensures blocks { OnOk result (length self.old.state.tables.blocks + blocks ≤ self.new.room.blocks) }
         ensures handles { OnOk result (length self.old.state.handles + handles ≤ self.new.room.handles) }
         ensures records { OnOk result (length self.old.state.tables.records + records ≤ self.new.room.records) }
-        ensures memory { IfErr result (λ e. e ≡ Memory) }
         ensures unchanged { OnErr result (self.new ≡ self.old) }
         ensures enough { length self.old.state.tables.blocks + blocks ≤ self.old.room.blocks
             → length self.old.state.handles + handles ≤ self.old.room.handles
