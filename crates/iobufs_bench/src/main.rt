@@ -1,13 +1,12 @@
 // Times the workloads.
 //
-// iobufs_bench [--sums] [NAME..]: all or those named; with `--sums` prints what one run of each saw.
+// iobufs_bench [--sums] NAME..: with `--sums` prints what one run of each saw.
 #![tactic(auto)]
 
 mod codec;
 mod lists;
 mod run;
 mod single;
-mod streams;
 mod texts;
 mod turns;
 mod workloads;
@@ -16,9 +15,9 @@ use run::{Run, RunError};
 use std::process::ExitCode;
 use std::time::Instant;
 use std::{env, io};
-use workloads::{run_named, usual};
+use workloads::run_named;
 
-// The requested output: times or sums, of the usual workloads if none is named.
+// The requested output: times or sums of these workloads.
 #[derive(Drop)]
 struct Request {
     is_sums: bool,
@@ -36,7 +35,7 @@ fn requested(rt: &HostRuntime) -> Result<Request, RunError> {
         }
     }
     if names.is_empty() {
-        names = usual(rt.alloc())?;
+        return Err(RunError::NoName);
     }
     Ok(Request { is_sums, names })
 }
@@ -90,7 +89,7 @@ fn main(rt: HostRuntime) -> ExitCode {
     match answer(&rt) {
         Ok(()) => ExitCode::from(0),
         Err(RunError::NoName) => {
-            let _ = eprintln!(&rt; "usage: iobufs_bench [--sums] [NAME..]");
+            let _ = eprintln!(&rt; "usage: iobufs_bench [--sums] NAME..");
             ExitCode::from(2)
         }
         Err(stop) => {

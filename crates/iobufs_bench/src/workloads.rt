@@ -1,99 +1,6 @@
 // The workloads by their names.
 use crate::run::{Run, RunError};
-use crate::{codec, lists, single, streams, texts};
-use std::alloc::{AllocError, Global};
-
-// Those of one size.
-const PLAIN: [&str; 24] = [
-    "put64_1m_freeze",
-    "put_u8_64k_freeze",
-    "split_1m_1k_drop",
-    "split_1m_1k_keep",
-    "clone_drop_native",
-    "clone_drop_bytes",
-    "clone_drop_static",
-    "new_share_drop_64",
-    "slice_drop_64",
-    "read_view_bytewise_1m",
-    "read_view_64_1m",
-    "take_view_1k_1m",
-    "take_view_1k_whole",
-    "recover_put64_freeze",
-    "encode_view64",
-    "build_records64",
-    "decode64_one_chunk",
-    "decode64_one_chunk_take",
-    "decode64_chunks1024",
-    "decode64_chunks1024_take",
-    "decode64_chunks48",
-    "decode64_chunks48_take",
-    "decode16k_chunks1024",
-    "decode16k_chunks1024_take",
-];
-
-const WHOLE: [&str; 2] = ["frames_there_and_back", "frames_there_and_back_take"];
-
-// Those of any number of chunks: `text64_append`.
-const TEXTS: [&str; 11] = [
-    "append",
-    "prepend",
-    "len",
-    "advance100",
-    "take300",
-    "split1000",
-    "split_mid",
-    "coalesce",
-    "clone_drop",
-    "walk",
-    "bytewise",
-];
-
-// Those of any number of writable buffers: `parts64_put64`.
-const PARTS: [&str; 8] = [
-    "put64",
-    "put96",
-    "advance100",
-    "take300",
-    "freeze",
-    "overwrite",
-    "coalesce",
-    "drain",
-];
-
-// Adds the names of workloads of `n` chunks or buffers.
-fn add_sized(
-    alloc: Global,
-    names: &mut Vec<String>,
-    head: &str,
-    n: u32,
-    tails: &[&str],
-) -> Result<(), AllocError> {
-    for tail in tails {
-        names.push(format!(in alloc; "{head}{n}_{tail}")?)?;
-    }
-    Ok(())
-}
-
-fn add_plain(alloc: Global, names: &mut Vec<String>, plain: &[&str]) -> Result<(), AllocError> {
-    for name in plain {
-        names.push(format!(in alloc; "{name}")?)?;
-    }
-    Ok(())
-}
-
-/// Those that are run if none is named.
-pub fn usual(alloc: Global) -> Result<Vec<String>, AllocError> {
-    let mut names = Vec::new(alloc);
-    add_plain(alloc, &mut names, &PLAIN)?;
-    for n in [4, 64, 4096] {
-        add_sized(alloc, &mut names, "text", n, &TEXTS)?;
-    }
-    for n in [2, 3, 64] {
-        add_sized(alloc, &mut names, "parts", n, &PARTS)?;
-    }
-    add_plain(alloc, &mut names, &WHOLE)?;
-    Ok(names)
-}
+use crate::{codec, lists, single, texts};
 
 /// One run of a workload.
 pub fn run_named(rt: &HostRuntime, name: &str) -> Result<Run, RunError> {
@@ -135,14 +42,11 @@ fn run_wire(rt: &HostRuntime, name: &str) -> Result<Run, RunError> {
     }
 }
 
-// The workloads whose names have a size: of chunks, of buffers, or of the pieces of a stream, as `stream_17`.
+// The workloads whose names have a size: of chunks, or of buffers.
 fn run_sized(rt: &HostRuntime, name: &str) -> Result<Run, RunError> {
     let Some((head, tail)) = name.split_once('_') else {
         return Err(RunError::NoName);
     };
-    if head == "stream" {
-        return streams::stream(rt, size(tail)?);
-    }
     if let Some(n) = head.strip_prefix("text") {
         return run_text(rt, size(n)?, tail);
     }
