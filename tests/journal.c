@@ -1,8 +1,9 @@
 // Loaded before the journal program: numbers its calls on regular files, on folders and on the input, and notes each by a
 // letter in the file that CALLS names: o opens, f finds or measures, l locks, k goes to the front, r reads, i reads the
-// input, w writes, c cuts, s syncs a file, d the folder that FOLDER names (or the current one), D another. In the call with number AT the program ends (HOW=stop), or it and all
-// writes after it fail (HOW=fail). A write then puts half of its bytes. Before that call the file `it` grows (HOW=grow), or
-// is renamed (HOW=move).
+// input, w writes, c cuts, s syncs a file, d the folder that FOLDER names (or the current one), D another. In the call with
+// number AT the program ends (HOW=stop), or it fails, alone (HOW=once), with all writes after it (HOW=fail) or with all calls
+// after it (HOW=dead). A write then puts half of its bytes, unless it fails alone. Before that call the file `it` grows
+// (HOW=grow), or is renamed (HOW=move). A write puts at most MOST bytes.
 #define _GNU_SOURCE
 #include <errno.h>
 #include <fcntl.h>
@@ -13,7 +14,9 @@
 #include <sys/syscall.h>
 #include <unistd.h>
 
-static int count = 0, is_full = 0;
+static int count = 0, is_full = 0, is_dead = 0;
+
+static int is_how(const char *word) { return strcmp(getenv("HOW"), word) == 0; }
 
 static int is_kind(int file, mode_t kind) {
     struct stat of;
@@ -27,25 +30,27 @@ static int is_hit(char letter) {
     const char *name = getenv("CALLS"), *at = getenv("AT");
     int file = name ? syscall(SYS_open, name, O_WRONLY | O_CREAT | O_APPEND, 0644) : -1;
     if (file >= 0) syscall(SYS_write, file, &letter, 1), syscall(SYS_close, file);
-    if (++count != (at ? atoi(at) : 0)) return 0;
-    if (strcmp(getenv("HOW"), "move") == 0) return syscall(SYS_rename, "it", "moved"), 0;
-    if (strcmp(getenv("HOW"), "grow") != 0) return 1;
+    if (++count != (at ? atoi(at) : 0)) return is_dead;
+    if (is_how("move")) return syscall(SYS_rename, "it", "moved"), 0;
+    if (!is_how("grow")) return 1;
     file = syscall(SYS_open, "it", O_WRONLY | O_APPEND);
     return syscall(SYS_write, file, "\x14\0", 2), syscall(SYS_close, file), 0;
 }
 
 static long fails(void) {
-    if (strcmp(getenv("HOW"), "stop") == 0) syscall(SYS_exit_group, 9);
-    is_full = 1;
+    if (is_how("stop")) syscall(SYS_exit_group, 9);
+    is_full = !is_how("once"), is_dead = is_how("dead");
     errno = EIO;
     return -1;
 }
 
 ssize_t write(int file, const void *bytes, size_t n) {
     if (!is_ours(file)) return syscall(SYS_write, file, bytes, n);
+    const char *most = getenv("MOST");
     int hit = is_hit('w');
     if (is_full) return errno = ENOSPC, -1;
-    if (!hit) return syscall(SYS_write, file, bytes, n);
+    if (hit && is_how("once")) return fails();
+    if (!hit) return syscall(SYS_write, file, bytes, most && n > atoi(most) ? atoi(most) : n);
     long put = syscall(SYS_write, file, bytes, n / 2);
     fails();
     return n < 2 ? -1 : put;
@@ -64,7 +69,7 @@ int statx(int file, const char *path, int flags, unsigned mask, struct statx *fo
 }
 
 ssize_t read(int file, void *bytes, size_t n) {
-    if (file == 0) return is_hit('i'), syscall(SYS_read, file, bytes, n);
+    if (file == 0) return is_hit('i') ? fails() : syscall(SYS_read, file, bytes, n);
     return is_ours(file) && is_hit('r') ? fails() : syscall(SYS_read, file, bytes, n);
 }
 

@@ -3,8 +3,8 @@ use std::fs::{self, File, Metadata, OpenOptions, TryLockError};
 use std::io::{self, ErrorKind, Read, Seek, Write};
 use std::os::unix::fs::MetadataExt;
 
-/// A journal's file, for which a test can put another. Bytes are written to its end, and `flush` syncs it if that was asked
-/// for.
+/// A journal's file. Bytes are written to its end, and `flush` syncs it if that was asked for. The commands are generic in
+/// it, since the borrow checker covers no `Take` of a type with a lifetime.
 pub trait Disk: Read + Write {
     /// Locks the file without waiting. Returns `false` if another program has its lock.
     fn lock(&mut self) -> io::Result<bool>;

@@ -9,8 +9,6 @@ mod failure;
 mod journal;
 mod lines;
 mod scan;
-#[cfg(test)]
-mod tests;
 
 use clap::error::ErrorKind;
 use clap::{ArgMatches, Command, arg};
