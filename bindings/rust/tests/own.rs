@@ -2,6 +2,7 @@
 use iobufs::{AllocError, Builder, Error, FrameReader, FrameWriter, Frames, IoBuf, IoBufMut, IoBufs, IoBufsMut, Prefix, length_size};
 use std::hash::{DefaultHasher, Hash, Hasher};
 use std::io::{self, BufRead, IoSlice, Read, Write};
+use std::ops::Range;
 use std::process::Command;
 use std::thread;
 
@@ -74,21 +75,43 @@ fn many_chunks() {
     }
 }
 
-// The chunks of a text, each range of its bytes, each length that is kept, each byte, and where it is, beside a plain list.
+/// The bytes of a range, cut at each even place.
+fn cut(bytes: &[u8], range: Range<usize>) -> Vec<&[u8]> {
+    let starts = range.clone().filter(|at| *at == range.start || at % 2 == 0);
+    starts.map(|at| &bytes[at..range.end.min(at / 2 * 2 + 2)]).collect()
+}
+
+// Texts of up to six chunks of two bytes, split, read and sliced at each place, beside plain lists.
 #[test]
-fn ranges_bytes_and_chunks() {
+fn texts_cut_at_each_place() {
+    for bytes in (0..=6).map(|count| &b"abcdefghijkl"[..2 * count]) {
+        let whole: IoBufs = bytes.chunks(2).map(IoBuf::copy_from_slice).collect();
+        for at in 0..=bytes.len() {
+            let [mut split, mut advanced, mut copied, mut taken] = [(); 4].map(|()| whole.clone());
+            assert!(split.split_to(at).chunks().eq(cut(bytes, 0..at)), "{at} of {bytes:?}");
+            advanced.advance(at);
+            let mut copy = vec![0; at];
+            copied.copy_to_slice(&mut copy);
+            assert_eq!((taken.take_owned(at), copy), (IoBuf::copy_from_slice(&bytes[..at]), bytes[..at].to_vec()));
+            for left in [split, advanced, copied, taken] {
+                assert!(left.chunks().eq(cut(bytes, at..bytes.len())), "{at} of {bytes:?}");
+            }
+            for end in at..=bytes.len() {
+                assert!(whole.slice(at..end).chunks().eq(cut(bytes, at..end)), "{at}..{end} of {bytes:?}");
+            }
+            let mut cut_off = whole.clone();
+            cut_off.truncate(at);
+            assert!(cut_off.chunks().eq(cut(bytes, 0..at)), "{at} of {bytes:?}");
+        }
+    }
+}
+
+// The chunks of a text, each byte and where it is, and a slice of one chunk.
+#[test]
+fn bytes_and_chunks() {
     let (all, chunks): (&[u8], [&[u8]; 3]) = (b"abcdefghi", [b"abc", b"de", b"fghi"]);
     let t = text();
-    assert!(t.chunks().eq(chunks));
-    for lo in 0..=all.len() {
-        for hi in lo..=all.len() {
-            assert_eq!(t.slice(lo..hi), all[lo..hi], "{lo}..{hi}");
-        }
-        let mut cut = t.clone();
-        cut.truncate(lo);
-        assert_eq!(cut, all[..lo], "{lo}");
-        assert_eq!(t.byte_at(lo), all.get(lo).copied(), "{lo}");
-    }
+    assert!(t.chunks().eq(chunks) && (0..=all.len()).all(|at| t.byte_at(at) == all.get(at).copied()));
     let places = chunks.iter().enumerate().flat_map(|(index, it)| (0..it.len()).map(move |at| (index, at)));
     assert!(places.map(Some).chain([None]).eq((0..=9).map(|at| t.locate(at))));
     assert_eq!((t.slice(1..=3), t.slice(..)), (IoBufs::from(b"bcd"), t.clone()));

@@ -48,6 +48,7 @@ fn long_texts() {
         assert_cut(&text, all.chunks(n));
         assert_cut(&text.clone(), all.chunks(n));
         let at = all.len() / 3;
+        assert!(text.slice(at..2 * at) == all[at..2 * at]);
         let front = text.split_to(at);
         assert_cut(&front, all[..at].chunks(n));
         let edge = at.next_multiple_of(n).min(all.len());

@@ -10,7 +10,7 @@ use std::ops::Bound;
 
 /// A command on named buffers. `dst` is a destination, `src` a source, `target` a buffer that is changed or shown in
 /// place.
-#[derive(Debug, Clone, PartialEq, Eq, Drop)]
+#[derive(Debug, Drop)]
 pub enum Cmd {
     /// Makes an empty `IoBufMut` of this capacity and alignment.
     NewMut {
@@ -160,7 +160,7 @@ pub enum Cmd {
 }
 
 /// An item of an `IoBufs` that is built.
-#[derive(Debug, Clone, PartialEq, Eq, Drop)]
+#[derive(Debug, Drop)]
 pub enum Item {
     /// Inline bytes.
     Inline(Vec<u8>),

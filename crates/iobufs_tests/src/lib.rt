@@ -24,14 +24,10 @@ mod owner;
 #[cfg(test)]
 mod parts;
 #[cfg(test)]
-mod reads;
-#[cfg(test)]
 mod same;
 #[cfg(test)]
 mod strung;
 #[cfg(test)]
 mod texts;
-#[cfg(test)]
-mod views;
 #[cfg(test)]
 mod wire;

@@ -2,51 +2,11 @@
 ghost use Rattle.std.specs.Prelude.{◌+◌, ◌≤◌, length};
 
 use crate::make::{part, parts};
-use crate::reads::{ReadCall, answer};
 use crate::same::assert_same;
 use iobufs::bufs_mut::IoBufsMut;
-use iobufs_core::codec::{Buf, BufError, BufMut};
-use std::mem;
+use iobufs_core::codec::{Buf, BufMut};
 use std::process::Abort;
 use std::test::Fail;
-
-// A call on writable buffers.
-#[derive(Clone, Copy, Debug)]
-enum Ask {
-    // A call of `Buf`, and what it answers.
-    Reads(ReadCall, &'static [u8]),
-    // The buffers that are left, each as its bytes and its spare capacity.
-    Show(&'static [(&'static [u8], usize)]),
-    // Bytes are put, if they fit.
-    Put(&'static [u8]),
-    // The length is set, if it fits.
-    SetLen(usize),
-    // All bytes are written over, if there are as many.
-    Overwrite(&'static [u8]),
-    // The buffers become one with these bytes and this capacity, and no buffer is left.
-    Coalesce(&'static [u8], usize),
-}
-
-// A name, the buffers, each as its bytes and its spare capacity, and calls on them.
-type Case = (
-    &'static str,
-    &'static [(&'static [u8], usize)],
-    &'static [Ask],
-);
-
-const CASES: [Case; 4] = rows! {
-    "spare capacity is filled in order", &[(b"ab", 1), (b"c", 2)], &[Ask::Put(b"xyz"),
-        Ask::Show(&[(b"abx", 0), (b"cyz", 0)])];
-    "a length is set in order", &[(b"ab", 2), (b"", 4)], &[Ask::SetLen(5),
-        Ask::Show(&[(b"ab\x00\x00", 0), (b"\x00", 3)])];
-    "five buffers are read and written over", &[(b"ab", 1), (b"", 3), (b"", 0), (b"c", 0), (b"de", 2), (b"", 1)],
-        &[Ask::Show(&[(b"ab", 1), (b"", 3), (b"c", 0), (b"de", 2), (b"", 1)]), Ask::Reads(ReadCall::Chunk, b"ab"),
-        Ask::Reads(ReadCall::Byte(2), b"c"), Ask::Reads(ReadCall::Chunks(2), b"ab|c|"), Ask::Reads(ReadCall::Remaining, b"5"),
-        Ask::Overwrite(b"vwxyz"), Ask::Show(&[(b"vw", 1), (b"", 3), (b"x", 0), (b"yz", 2), (b"", 1)]),
-        Ask::Reads(ReadCall::Copy(4), b"vwxy"), Ask::Show(&[(b"", 1), (b"", 3), (b"z", 2), (b"", 1)]),
-        Ask::Coalesce(b"z", 1)];
-    "no capacity", &[(b"", 0), (b"", 0)], &[Ask::Show(&[(b"", 0)])];
-};
 
 // Compares the buffers, each as its bytes and its spare capacity.
 fn assert_parts(rt: &impl Abort, name: &str, found: &IoBufsMut, wanted: &[(&[u8], usize)]) {
@@ -57,51 +17,15 @@ fn assert_parts(rt: &impl Abort, name: &str, found: &IoBufsMut, wanted: &[(&[u8]
     }
 }
 
-fn assert_coalesced(
-    rt: &(impl Abort + AllocGlobal),
-    name: &str,
-    parts: &mut IoBufsMut,
-    bytes: &[u8],
-    capacity: usize,
-) -> Result<(), BufError> {
-    let parts = mem::replace(parts, IoBufsMut::default(rt.alloc()));
-    let whole = parts.coalesce(rt.alloc())?;
-    assert_same!(rt; (whole.as_ref(), whole.capacity()), (bytes, capacity), "{name}");
-    Ok(())
-}
-
-// Makes a call, and compares its answer.
-fn assert_asked(
-    rt: &(impl Abort + AllocGlobal),
-    name: &str,
-    parts: &mut IoBufsMut,
-    ask: Ask,
-) -> Result<(), BufError> {
-    match ask {
-        Ask::Reads(read, wanted) => {
-            let found = answer(rt.alloc(), parts, read)?;
-            assert_same!(rt; found.as_slice(), wanted, "{name}: {read:?}");
-        }
-        Ask::Show(wanted) => assert_parts(rt, name, parts, wanted),
-        Ask::Coalesce(bytes, capacity) => {
-            return assert_coalesced(rt, name, parts, bytes, capacity);
-        }
-        Ask::Put(bytes) if bytes.len() <= parts.remaining_mut() => parts.put_slice(bytes),
-        Ask::SetLen(n) if n <= parts.capacity() => parts.set_len(n),
-        Ask::Overwrite(bytes) if bytes.len() == parts.len() => parts.copy_from_slice(bytes),
-        _ => return Err(BufError::TooLong),
-    }
-    Ok(())
-}
-
 #[test]
-fn buffers_in_a_row(rt: HostRuntime) -> Result<(), Fail> {
-    for (name, buffers, asks) in CASES {
-        let mut parts = parts(rt.alloc(), buffers)?;
-        for ask in asks {
-            assert_asked(&rt, name, &mut parts, *ask)?;
-        }
-    }
+fn bytes_of_three_buffers_are_seen(rt: HostRuntime) -> Result<(), Fail> {
+    let parts = parts(
+        rt.alloc(),
+        &[(b"ab", 1), (b"", 3), (b"", 0), (b"c", 0), (b"de", 2)],
+    )?;
+    assert_same!(rt; (parts.remaining(), parts.chunk(), parts.byte_at(2)), (5, b"ab".as_slice(), Some(b'c')));
+    let first = parts.chunks_vectored(rt.alloc(), 2)?;
+    assert_same!(rt; first.as_slice(), [b"ab".as_slice(), b"c"].as_slice());
     Ok(())
 }
 

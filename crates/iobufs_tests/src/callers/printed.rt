@@ -1,8 +1,8 @@
-// Each text that an error prints, and a command as it is printed and compared.
-use crate::make::text;
+// Each text that an error prints, and commands and buffers as they are printed.
+use crate::make::{part, text};
 use crate::same::assert_same;
 use iobufs_core::buf::IoBuf;
-use iobufs_core::codec::{BufError, Error, RangeCfg, Refused, TryGetError};
+use iobufs_core::codec::{BufError, Error, Refused, TryGetError};
 use iobufs_run::command::Cmd;
 use iobufs_values::Fault;
 use std::fmt::Display;
@@ -63,31 +63,24 @@ fn errors_print_their_names(rt: HostRuntime) -> Result<(), Fail> {
 }
 
 #[test]
-fn a_command_is_printed_copied_and_compared(rt: HostRuntime) -> Result<(), Fail> {
+fn a_command_is_printed(rt: HostRuntime) -> Result<(), Fail> {
     let put = Cmd::Put {
         target: 1,
         bytes: Vec::from_slice(rt.alloc(), &[7, 8])?,
     };
-    let decode = Cmd::Decode {
-        src: 0,
-        dst: 1,
-        range: RangeCfg { lo: 0, hi: 9 },
-    };
     let text = format!(in rt.alloc(); "{put:?}")?;
     assert_same!(rt; text.as_str(), "Put { target: 1, bytes: [7, 8] }");
-    let same = (
-        put.clone()? == put,
-        decode.clone()? == decode,
-        put == decode,
-    );
-    assert_same!(rt; same, (true, true, false));
     Ok(())
 }
 
 #[test]
-fn a_text_prints_its_length_and_its_chunks(rt: HostRuntime) -> Result<(), Fail> {
+fn buffers_print_their_lengths(rt: HostRuntime) -> Result<(), Fail> {
+    let (view, part) = (IoBuf::from(b"abc".as_slice()), part(rt.alloc(), b"abc", 5)?);
     let text = text(rt.alloc(), &[b"ab", b"cde"])?;
-    let printed = format!(in rt.alloc(); "{text:?}")?;
-    assert_same!(rt; printed.as_str(), "IoBufs { len: 5, chunks: 2 }");
+    let printed = format!(in rt.alloc(); "{view:?} {part:?} {text:?}")?;
+    assert_same!(rt;
+        printed.as_str(),
+        "IoBuf { len: 3 } IoBufMut { len: 3, cap: 8 } IoBufs { len: 5, chunks: 2 }"
+    );
     Ok(())
 }

@@ -80,43 +80,51 @@ impl Read for Steps<'_> {
     }
 }
 
-// A writer that takes at most `most` bytes at a time, after an interruption each, and no more than it has room for.
+// A writer that takes at most `most` bytes at a time, after an interruption each, and records `|` for each flush. It fails
+// from its call `fails_at` on, of writes and flushes.
 #[derive(Drop)]
-struct Narrow {
-    taken: Vec<u8>,
+struct Recorder {
+    calls: Vec<u8>,
     most: usize,
-    room: usize,
+    count: usize,
+    fails_at: usize,
     was_interrupted: bool,
 }
 
-impl Narrow {
-    fn new(alloc: Global, most: usize, room: usize) -> Narrow {
-        Narrow {
-            taken: Vec::new(alloc),
+impl Recorder {
+    fn new(alloc: Global, most: usize, fails_at: usize) -> Recorder {
+        Recorder {
+            calls: Vec::new(alloc),
             most,
-            room,
+            count: 0,
+            fails_at,
             was_interrupted: false,
         }
     }
+
+    fn record(&mut self, call: &[u8]) -> io::Result<()> {
+        if self.count >= self.fails_at {
+            return Err(io::Error::from(ErrorKind::BrokenPipe));
+        }
+        self.count += 1;
+        self.calls.extend_from_slice(call)?;
+        Ok(())
+    }
 }
 
-impl Write for Narrow {
+impl Write for Recorder {
     fn write(&mut self, buf: &[u8]) -> io::Result<usize> {
         self.was_interrupted = !self.was_interrupted;
         if self.was_interrupted {
             return Err(io::Error::from(ErrorKind::Interrupted));
         }
-        if self.room == 0 {
-            return Err(io::Error::from(ErrorKind::StorageFull));
-        }
-        let n = buf.len().min(self.most).min(self.room);
-        self.taken.extend_from_slice(&buf[..n])?;
-        self.room -= n;
+        let n = buf.len().min(self.most);
+        self.record(&buf[..n])?;
         Ok(n)
     }
 
     fn flush(&mut self) -> io::Result<()> {
-        Ok(())
+        self.record(b"|")
     }
 }
 
@@ -237,7 +245,7 @@ const WRITINGS: [Writing; 5] = rows! {
     LITTLE_32, &[3], &[&[b"abc"], &[], &[b"hello"]], FRAMES_LITTLE_32;
 };
 
-fn frame_writer(prefix: Prefix, to: Narrow) -> FrameWriter<Narrow> {
+fn frame_writer(prefix: Prefix, to: Recorder) -> FrameWriter<Recorder> {
     match prefix {
         Prefix::Spelled => FrameWriter::new(to),
         _ => FrameWriter::with_prefix(to, prefix),
@@ -247,7 +255,7 @@ fn frame_writer(prefix: Prefix, to: Narrow) -> FrameWriter<Narrow> {
 // A frame is not sent when it is put, and sent when it is sent.
 fn send_body(
     rt: &(impl Abort + AllocGlobal),
-    writer: &mut FrameWriter<Narrow>,
+    writer: &mut FrameWriter<Recorder>,
     pieces: &[&'static [u8]],
 ) -> Result<(), Fail> {
     assert!(rt; writer.is_sent());
@@ -263,12 +271,12 @@ fn assert_writing(
     most: usize,
 ) -> Result<(), Fail> {
     let (prefix, _, bodies, written) = *case;
-    let mut writer = frame_writer(prefix, Narrow::new(rt.alloc(), most, 100));
+    let mut writer = frame_writer(prefix, Recorder::new(rt.alloc(), most, usize::MAX));
     for body in bodies {
         send_body(rt, &mut writer, body)?;
     }
     assert!(rt; writer.is_sent());
-    assert_same!(rt; writer.to.taken.as_slice(), written, "{prefix:?} by {most}");
+    assert_same!(rt; writer.to.calls.as_slice(), written, "{prefix:?} by {most}");
     Ok(())
 }
 
@@ -285,82 +293,15 @@ fn frames_are_written(rt: HostRuntime) -> Result<(), Fail> {
 #[test]
 fn the_rest_of_a_frame_is_written_later(rt: HostRuntime) -> Result<(), Fail> {
     let alloc = rt.alloc();
-    let mut writer = FrameWriter::new(Narrow::new(alloc, 2, 5));
+    let mut writer = FrameWriter::new(Recorder::new(alloc, 2, 2));
     writer.put(alloc, text(alloc, &[b"abc", b"def"])?)?;
     let refused = writer.send(alloc).map_err(|error| error.kind()).err();
-    assert_same!(rt; (refused, writer.rest.len()), (Some(ErrorKind::StorageFull), 2));
-    assert_same!(rt; writer.to.taken.as_slice(), b"\x06abcd".as_slice());
-    writer.to.room = 5;
+    assert_same!(rt; (refused, writer.rest.len()), (Some(ErrorKind::BrokenPipe), 4));
+    assert_same!(rt; writer.to.calls.as_slice(), b"\x06ab".as_slice());
+    writer.to.fails_at = usize::MAX;
     writer.send(alloc)?;
-    assert_same!(rt; writer.to.taken.as_slice(), b"\x06abcdef".as_slice());
+    assert_same!(rt; writer.to.calls.as_slice(), b"\x06abcdef".as_slice());
     Ok(())
-}
-
-// A prefix and the bytes that are read, a prefix and the bytes that are written, and why no further frame is echoed.
-const ECHOES: [(Prefix, &'static [u8], Prefix, &'static [u8], Ending); 10] = rows! {
-    VARINT, FRAMES, VARINT, FRAMES, Ending::End;
-    VARINT, b"\x01a\x02b", VARINT, b"\x01a", Ending::Cut;
-    BIG_16, FRAMES_BIG_16, BIG_16, FRAMES_BIG_16, Ending::End;
-    BIG_16, FRAMES_BIG_16, VARINT, FRAMES, Ending::End;
-    LITTLE_16, FRAMES_LITTLE_16, LITTLE_16, FRAMES_LITTLE_16, Ending::End;
-    LITTLE_16, FRAMES_LITTLE_16, VARINT, FRAMES, Ending::End;
-    BIG_32, FRAMES_BIG_32, BIG_32, FRAMES_BIG_32, Ending::End;
-    BIG_32, FRAMES_BIG_32, VARINT, FRAMES, Ending::End;
-    LITTLE_32, FRAMES_LITTLE_32, LITTLE_32, FRAMES_LITTLE_32, Ending::End;
-    LITTLE_32, FRAMES_LITTLE_32, VARINT, FRAMES, Ending::End;
-};
-
-#[test]
-fn frames_are_echoed(rt: HostRuntime) -> Result<(), Fail> {
-    for (prefix, bytes, other, written, wanted) in ECHOES {
-        let mut from = frame_reader(rt.alloc(), prefix, Steps::new(bytes, 2, false))?;
-        let mut to = frame_writer(other, Narrow::new(rt.alloc(), 3, 100));
-        assert!(rt; to.is_sent());
-        let found = match echo(rt.alloc(), &mut from, &mut to) {
-            Ok(()) => Ending::End,
-            Err(error) => ending_by(error),
-        };
-        assert_same!(rt; (to.to.taken.as_slice(), found), (written, wanted), "{prefix:?} to {other:?}");
-    }
-    Ok(())
-}
-
-// A writer that records what it takes, with `|` for each flush. It fails from its call `fails_at` on, of writes and flushes.
-#[derive(Drop)]
-struct Recorder {
-    calls: Vec<u8>,
-    count: usize,
-    fails_at: usize,
-}
-
-impl Recorder {
-    fn new(alloc: Global, fails_at: usize) -> Recorder {
-        Recorder {
-            calls: Vec::new(alloc),
-            count: 0,
-            fails_at,
-        }
-    }
-
-    fn record(&mut self, call: &[u8]) -> io::Result<()> {
-        if self.count >= self.fails_at {
-            return Err(io::Error::from(ErrorKind::BrokenPipe));
-        }
-        self.count += 1;
-        self.calls.extend_from_slice(call)?;
-        Ok(())
-    }
-}
-
-impl Write for Recorder {
-    fn write(&mut self, buf: &[u8]) -> io::Result<usize> {
-        self.record(buf)?;
-        Ok(buf.len())
-    }
-
-    fn flush(&mut self) -> io::Result<()> {
-        self.record(b"|")
-    }
 }
 
 // `send` doesn't flush, and sends what `framed` returns.
@@ -369,26 +310,28 @@ fn a_frame_is_sent_without_a_flush(rt: HostRuntime) -> Result<(), Fail> {
     let alloc = rt.alloc();
     let frame = framed(alloc, text(alloc, &[b"abc", b"def"])?)?;
     assert_same!(rt; frame.to_vec(alloc)?.as_slice(), b"\x06abcdef".as_slice());
-    let mut writer = FrameWriter::new(Recorder::new(alloc, usize::MAX));
+    let mut writer = FrameWriter::new(Recorder::new(alloc, 100, usize::MAX));
     writer.put(alloc, text(alloc, &[b"abc", b"def"])?)?;
     writer.send(alloc)?;
     assert_same!(rt; writer.to.calls.as_slice(), b"\x06abcdef".as_slice());
     Ok(())
 }
 
-// A name and a prefix; a reader's bytes, whether it then fails, and the bytes that it gives later; the call from which on
-// the writer fails; how `echo` ends, what the writer took until then, and how many bytes it holds; and all that it took
-// after it was sent and flushed, and `echo` called again.
-type Failing = (
+// A name; the reader's prefix, its bytes, whether it then fails, and the bytes that it gives later; the writer's prefix, and
+// the call from which on it fails; how `echo` ends, what the writer took until then, and how many bytes it holds; and how
+// `echo` ends once the writer is sent and flushed, and all that it took then.
+type Echo = (
     &'static str,
     Prefix,
     &'static [u8],
     bool,
     &'static [u8],
+    Prefix,
     usize,
     Ending,
     &'static [u8],
     usize,
+    Ending,
     &'static [u8],
 );
 
@@ -396,20 +339,31 @@ const PIPE: Ending = Ending::Io(ErrorKind::BrokenPipe);
 
 const RESET: Ending = Ending::Io(ErrorKind::ConnectionReset);
 
-const FAILINGS: [Failing; 10] = rows! {
-    "no failure", VARINT, FRAMES, false, b"", usize::MAX, Ending::End, b"\x03abc|\0|\x05hello|", 0, b"\x03abc|\0|\x05hello||";
-    "a read between two frames", VARINT, b"\x03abc", true, b"\0\x05hello", usize::MAX, RESET, b"\x03abc|", 0, b"\x03abc||\0|\x05hello|";
-    "a read inside a body", VARINT, b"\x03abc\0\x05he", true, b"llo", usize::MAX, RESET, b"\x03abc|\0|", 0, b"\x03abc|\0||\x05hello|";
-    "a read inside a length", BIG_16, b"\0\0\0", true, b"\x03abc", usize::MAX, RESET, b"\0\0|", 0, b"\0\0||\0\x03abc|";
-    "the write of a length", VARINT, FRAMES, false, b"", 0, PIPE, b"", 4, b"\x03abc|\0|\x05hello|";
-    "the write of a body", VARINT, FRAMES, false, b"", 1, PIPE, b"\x03", 3, b"\x03abc|\0|\x05hello|";
-    "the first flush", VARINT, FRAMES, false, b"", 2, PIPE, b"\x03abc", 0, b"\x03abc|\0|\x05hello|";
-    "the flush of an empty frame", VARINT, FRAMES, false, b"", 4, PIPE, b"\x03abc|\0", 0, b"\x03abc|\0|\x05hello|";
-    "the write of the last body", VARINT, FRAMES, false, b"", 6, PIPE, b"\x03abc|\0|\x05", 5, b"\x03abc|\0|\x05hello|";
-    "the last flush", VARINT, FRAMES, false, b"", 7, PIPE, b"\x03abc|\0|\x05hello", 0, b"\x03abc|\0|\x05hello|";
+const ALL: &[u8] = b"\x03abc|\0|\x05hello|";
+
+const ECHOES: [Echo; 19] = rows! {
+    "no failure", VARINT, FRAMES, false, b"", VARINT, usize::MAX, Ending::End, ALL, 0, Ending::End, b"\x03abc|\0|\x05hello||";
+    "the end inside a body", VARINT, b"\x01a\x02b", false, b"", VARINT, usize::MAX, Ending::Cut, b"\x01a|", 0, Ending::Cut, b"\x01a||";
+    "u16, big", BIG_16, FRAMES_BIG_16, false, b"", BIG_16, usize::MAX, Ending::End, b"\0\x03abc|\0\0|\0\x05hello|", 0, Ending::End, b"\0\x03abc|\0\0|\0\x05hello||";
+    "u16, big, to varints", BIG_16, FRAMES_BIG_16, false, b"", VARINT, usize::MAX, Ending::End, ALL, 0, Ending::End, b"\x03abc|\0|\x05hello||";
+    "u16, little", LITTLE_16, FRAMES_LITTLE_16, false, b"", LITTLE_16, usize::MAX, Ending::End, b"\x03\0abc|\0\0|\x05\0hello|", 0, Ending::End, b"\x03\0abc|\0\0|\x05\0hello||";
+    "u16, little, to varints", LITTLE_16, FRAMES_LITTLE_16, false, b"", VARINT, usize::MAX, Ending::End, ALL, 0, Ending::End, b"\x03abc|\0|\x05hello||";
+    "u32, big", BIG_32, FRAMES_BIG_32, false, b"", BIG_32, usize::MAX, Ending::End, b"\0\0\0\x03abc|\0\0\0\0|\0\0\0\x05hello|", 0, Ending::End, b"\0\0\0\x03abc|\0\0\0\0|\0\0\0\x05hello||";
+    "u32, big, to varints", BIG_32, FRAMES_BIG_32, false, b"", VARINT, usize::MAX, Ending::End, ALL, 0, Ending::End, b"\x03abc|\0|\x05hello||";
+    "u32, little", LITTLE_32, FRAMES_LITTLE_32, false, b"", LITTLE_32, usize::MAX, Ending::End, b"\x03\0\0\0abc|\0\0\0\0|\x05\0\0\0hello|", 0, Ending::End, b"\x03\0\0\0abc|\0\0\0\0|\x05\0\0\0hello||";
+    "u32, little, to varints", LITTLE_32, FRAMES_LITTLE_32, false, b"", VARINT, usize::MAX, Ending::End, ALL, 0, Ending::End, b"\x03abc|\0|\x05hello||";
+    "a read between two frames", VARINT, b"\x03abc", true, b"\0\x05hello", VARINT, usize::MAX, RESET, b"\x03abc|", 0, Ending::End, b"\x03abc||\0|\x05hello|";
+    "a read inside a body", VARINT, b"\x03abc\0\x05he", true, b"llo", VARINT, usize::MAX, RESET, b"\x03abc|\0|", 0, Ending::End, b"\x03abc|\0||\x05hello|";
+    "a read inside a length", BIG_16, b"\0\0\0", true, b"\x03abc", BIG_16, usize::MAX, RESET, b"\0\0|", 0, Ending::End, b"\0\0||\0\x03abc|";
+    "the write of a length", VARINT, FRAMES, false, b"", VARINT, 0, PIPE, b"", 4, Ending::End, ALL;
+    "the write of a body", VARINT, FRAMES, false, b"", VARINT, 1, PIPE, b"\x03", 3, Ending::End, ALL;
+    "the first flush", VARINT, FRAMES, false, b"", VARINT, 2, PIPE, b"\x03abc", 0, Ending::End, ALL;
+    "the flush of an empty frame", VARINT, FRAMES, false, b"", VARINT, 4, PIPE, b"\x03abc|\0", 0, Ending::End, ALL;
+    "the write of the last body", VARINT, FRAMES, false, b"", VARINT, 6, PIPE, b"\x03abc|\0|\x05", 5, Ending::End, ALL;
+    "the last flush", VARINT, FRAMES, false, b"", VARINT, 7, PIPE, b"\x03abc|\0|\x05hello", 0, Ending::End, ALL;
 };
 
-fn echo_again(
+fn echoed(
     rt: &(impl Abort + AllocGlobal),
     from: &mut FrameReader<Steps<'_>>,
     to: &mut FrameWriter<Recorder>,
@@ -421,26 +375,29 @@ fn echo_again(
     }
 }
 
-fn assert_failing(rt: &(impl Abort + AllocGlobal), case: &Failing) -> Result<(), Fail> {
-    let (name, prefix, bytes, is_broken, more, fails_at, ending, calls, rest, all) = *case;
-    let mut from = frame_reader(rt.alloc(), prefix, Steps::new(bytes, 100, is_broken))?;
-    let mut to = FrameWriter::with_prefix(Recorder::new(rt.alloc(), fails_at), prefix);
-    let first = echo_again(rt, &mut from, &mut to);
-    assert_same!(rt; (first, to.to.calls.as_slice(), to.rest.len()), (ending, calls, rest), "{name}");
-    from.from.resume(more);
+fn assert_echoed(rt: &(impl Abort + AllocGlobal), case: &Echo) -> Result<(), Fail> {
+    let (name, prefix, bytes, is_broken, more, other, fails_at, first, calls, rest, last, all) =
+        *case;
+    let mut from = frame_reader(rt.alloc(), prefix, Steps::new(bytes, 2, is_broken))?;
+    let mut to = frame_writer(other, Recorder::new(rt.alloc(), 100, fails_at));
+    let ending = echoed(rt, &mut from, &mut to);
+    assert_same!(rt; (ending, to.to.calls.as_slice(), to.rest.len()), (first, calls, rest), "{name}");
+    if is_broken {
+        from.from.resume(more);
+    }
     to.to.fails_at = usize::MAX;
     to.send(rt.alloc())?;
     to.to.flush()?;
-    let second = echo_again(rt, &mut from, &mut to);
-    assert_same!(rt; (second, to.to.calls.as_slice()), (Ending::End, all), "{name}");
+    let ending = echoed(rt, &mut from, &mut to);
+    assert_same!(rt; (ending, to.to.calls.as_slice()), (last, all), "{name}");
     Ok(())
 }
 
 // Each frame is flushed before the next read. Nothing is lost or sent twice if a read, a write or a flush fails.
 #[test]
-fn frames_are_echoed_after_an_error(rt: HostRuntime) -> Result<(), Fail> {
-    for case in &FAILINGS {
-        assert_failing(&rt, case)?;
+fn frames_are_echoed(rt: HostRuntime) -> Result<(), Fail> {
+    for case in &ECHOES {
+        assert_echoed(&rt, case)?;
     }
     Ok(())
 }
@@ -455,7 +412,7 @@ fn long(alloc: Global, len: usize) -> Result<IoBufs, BufError> {
 #[test]
 fn a_body_above_its_length_is_refused(rt: HostRuntime) -> Result<(), Fail> {
     let alloc = rt.alloc();
-    let mut writer = FrameWriter::with_prefix(Narrow::new(alloc, 100, 100), BIG_16);
+    let mut writer = FrameWriter::with_prefix(Recorder::new(alloc, 100, usize::MAX), BIG_16);
     let refused = writer.put(alloc, long(alloc, 65536)?).err();
     let refused = refused.map(|refused| (refused.cause, refused.value.len()));
     assert_same!(rt; refused, Some((BufError::TooLong, 65536)));

@@ -6,7 +6,7 @@ use crate::wire::encode::assert_written;
 use crate::wire::whole::{END, assert_front, assert_prefixes, assert_refused, assert_whole};
 use iobufs::bufs::IoBufs;
 use iobufs_core::buf::IoBuf;
-use iobufs_core::codec::{EncodeSize, Error, RangeCfg};
+use iobufs_core::codec::{EncodeSize, Error, RangeCfg, Write};
 use iobufs_uses::note::{Entry, Letter, Note};
 use iobufs_uses::request::{Request, RequestParts};
 use iobufs_values::{ByParts, Either, Fault, IntoParts, Kind, List, Look, Tagged};
@@ -116,28 +116,35 @@ const REQUESTS: [(&'static str, Asked, &'static [&'static [u8]]); 3] = rows! {
 
 const CFG: <RequestParts as Look>::Cfg = ((UP_TO_9, ()), ((UP_TO_9, UP_TO_9), ()));
 
-// A request is written as these chunks, and read from them and from their bytes.
-fn assert_request(rt: &(impl Abort + AllocGlobal), what: &str, asked: Asked, chunks: &[&[u8]]) {
+// A value, given four times, is written as these chunks, and read from them and from their bytes.
+fn assert_parted<T: IntoParts + PartialEq + Drop>(
+    rt: &(impl Abort + AllocGlobal),
+    what: &str,
+    values: [T; 4],
+    chunks: &[&[u8]],
+    cfg: &<T::Parts as Look>::Cfg,
+)
+where
+    T::Parts: Write,
+{
+    let [parts, whole, pieces, value] = values;
     let bytes = concatenated(rt, chunks);
-    let parts = request(asked).into_parts();
-    assert_same!(rt; parts.encode_size(), Some(bytes.len()), "{what}");
-    let encoded = request(asked).encode(rt.alloc()).expect(rt, what);
+    assert_same!(rt; parts.into_parts().encode_size(), Some(bytes.len()), "{what}");
+    let encoded = whole.encode(rt.alloc()).expect(rt, what);
     assert_same!(rt; encoded.as_ref(), bytes.as_slice(), "{what}");
-    let mut pieces: IoBufs = request(asked).encode_iobufs(rt.alloc()).expect(rt, what);
+    let mut pieces: IoBufs = pieces.encode_iobufs(rt.alloc()).expect(rt, what);
     assert_chunks(rt, what, &pieces, chunks);
-    let read = Request::read_whole(rt.alloc(), &mut pieces, &CFG).expect(rt, what);
-    assert!(rt;
-        read == request(asked) && pieces.is_empty(),
-        "{what}: another value"
-    );
-    assert_by_parts(rt, what, &bytes, &CFG, &read);
-    assert_prefixes::<RequestParts>(rt, what, &bytes, &CFG);
+    let read = T::read_whole(rt.alloc(), &mut pieces, cfg).expect(rt, what);
+    assert!(rt; read == value && pieces.is_empty(), "{what}: another value");
+    assert_by_parts(rt, what, &bytes, cfg, &read);
+    assert_prefixes::<T::Parts>(rt, what, &bytes, cfg);
 }
 
 #[test]
 fn requests(rt: HostRuntime) {
     for (name, asked, chunks) in REQUESTS {
-        assert_request(&rt, name, asked, chunks);
+        let values = [(); 4].map(|()| request(asked));
+        assert_parted(&rt, name, values, chunks, &CFG);
     }
 }
 
@@ -154,20 +161,28 @@ fn a_long_request(rt: HostRuntime) {
     assert_same!(rt; first, Some(b"\x01\x03key\x80\x89\x7a\x05".as_slice()));
 }
 
+// A name, bytes that begin no request, and the fault.
+const NO_REQUESTS: [(&'static str, &'static [u8], Fault); 3] = rows! {
+    "a fourth kind", b"\x03\x03key\0\0\0\x07", Fault::InvalidEnum(3);
+    "the last kind", b"\xff", Fault::InvalidEnum(255);
+    "a long key", b"\x01\x0aabcdefghij\0", Fault::Codec(Error::InvalidLength(10));
+};
+
 #[test]
 fn bytes_that_are_no_request(rt: HostRuntime) {
-    let fault = Fault::InvalidEnum;
-    let mut third = copied_bytewise(&rt, b"\x03\x03key\0\0\0\x07");
-    assert_refused::<RequestParts, IoBufs>(&rt, "a fourth kind", &mut third, &CFG, fault(3));
-    let mut last = view(b"\xff");
-    assert_refused::<RequestParts, IoBuf>(&rt, "the last kind", &mut last, &CFG, fault(255));
-    assert_same!(rt; Request::read_whole(rt.alloc(), &mut last, &CFG).err(), Some(fault(255)));
-    assert_same!(rt; last.len(), 1);
-    let mut long = view(b"\x01\x0aabcdefghij\0");
-    let too_long = Fault::Codec(Error::InvalidLength(10));
-    assert_refused::<RequestParts, IoBuf>(&rt, "a long key", &mut long, &CFG, too_long);
-    let mut other = view(b"\x01\x05");
-    assert_refused::<Kind<2, u8>, IoBuf>(&rt, "another kind", &mut other, &(), fault(1));
+    for (what, bytes, fault) in NO_REQUESTS {
+        let mut parts = copied_bytewise(&rt, bytes);
+        assert_refused::<RequestParts, IoBufs>(&rt, what, &mut parts, &CFG, fault);
+        let mut view = view(bytes);
+        assert_same!(rt; Request::read_whole(rt.alloc(), &mut view, &CFG).err(), Some(fault), "{what}");
+        assert_same!(rt; view.as_ref(), bytes, "{what}");
+    }
+}
+
+#[test]
+fn another_kind(rt: HostRuntime) {
+    let (mut other, fault) = (view(b"\x01\x05"), Fault::InvalidEnum(1));
+    assert_refused::<Kind<2, u8>, IoBuf>(&rt, "another kind", &mut other, &(), fault);
 }
 
 // Both kinds have the byte 7, so the first is read.
