@@ -67,7 +67,11 @@ pub fn append<D: Disk, R: Read, W: Write>(
     let _ = match cut_back(alloc, disk) {
         Ok(found) => {
             let lines = found.saturating_sub(ending.found);
-            writeln!(told, "{name}: {lines} lines were appended")
+            let but = match failure {
+                Failure::Unsynced(_) => ", but a crash may lose some",
+                _ => "",
+            };
+            writeln!(told, "{name}: {lines} lines were appended{but}")
         }
         Err(_) => writeln!(told, "{name}: it may be torn: see check and repair"),
     };

@@ -25,6 +25,9 @@ pub enum Failure {
     /// This failed.
     #[error("{0}: {1}")]
     Failed(&'static str, io::Error),
+    /// The journal has the records, and a crash may lose some.
+    #[error("cannot sync it: {0}")]
+    Unsynced(io::Error),
     /// An allocation failed.
     #[error("cannot go on: out of memory")]
     Memory(#[from] AllocError),

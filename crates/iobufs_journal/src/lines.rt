@@ -3,7 +3,7 @@ ghost use Rattle.std.specs.Prelude.{◌+◌, ◌*◌, ◌≤◌, length, IfOk, I
 ghost use Rattle.std.specs.Io.KnownBytes.{Appends};
 ghost use Rattle.iobufs_journal.specs.Lines.{HasBegun, IsAppended, IsCutShort, IsEnded, IsFinished, IsLine, TakesLines};
 
-use crate::failure::{Failure, named, too_large};
+use crate::failure::{Failure, too_large};
 use crate::journal::{MOST, put_record};
 use crate::scan::{added, read_piece};
 use iobufs_core::buf::IoBufMut;
@@ -30,7 +30,7 @@ fn put_all<W: Write>(bytes: &[u8], to: &mut W) -> Result<(), Failure>
     let mut at = 0;
     for _ in 0..u64::MAX {
         if at == bytes.len() {
-            return named(WRITE, to.flush());
+            return to.flush().map_err(Failure::Unsynced);
         }
         match to.write(&bytes[at..]) {
             Ok(0) => return Err(Failure::Failed(WRITE, io::Error::from(ErrorKind::WriteZero))),
