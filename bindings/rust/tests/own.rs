@@ -411,6 +411,31 @@ fn frames_of_each_prefix() {
         let mut frames = Frames::new(prefix);
         frames.feed(IoBuf::copy_from_slice(bytes));
         assert_eq!(frames.next(..=2), Err(Error::InvalidLength(3)), "{prefix:?}");
+        let mut to = FrameWriter::with_prefix(Vec::new(), prefix);
+        to.put(IoBufs::from([vec![7; 2000].into(), vec![7; 3000].into()]));
+        to.send().unwrap();
+        let long = to.into_inner();
+        let mut from = FrameReader::with_prefix(&long[..], prefix, 0..=5000);
+        assert!(from.next().unwrap().unwrap() == [7; 5000] && from.next().unwrap().is_none(), "{prefix:?}");
+    }
+}
+
+#[test]
+fn lengths_of_each_prefix() {
+    let cases: [(Prefix, usize, Option<&[u8]>); 10] = [
+        (Prefix::Varint, usize::MAX, Some(b"\xff\xff\xff\xff\xff\xff\xff\xff\xff\x01")),
+        (Prefix::Varint, 16384, Some(b"\x80\x80\x01")),
+        (Prefix::Varint, 65536, Some(b"\x80\x80\x04")),
+        (Prefix::U16Be, 65535, Some(b"\xff\xff")),
+        (Prefix::U16Be, 65536, None),
+        (Prefix::U16Le, 258, Some(b"\x02\x01")),
+        (Prefix::U32Be, 4294967295, Some(b"\xff\xff\xff\xff")),
+        (Prefix::U32Le, 16909060, Some(b"\x04\x03\x02\x01")),
+        (Prefix::U64Be, usize::MAX, Some(b"\xff\xff\xff\xff\xff\xff\xff\xff")),
+        (Prefix::U64Le, 1099511627777, Some(b"\x01\0\0\0\0\x01\0\0")),
+    ];
+    for (prefix, n, wanted) in cases {
+        assert_eq!(prefix.written(n).as_ref().map(|it| it.as_ref()), wanted, "{n} as {prefix:?}");
     }
 }
 

@@ -57,6 +57,31 @@ fn long_texts() {
     }
 }
 
+/// Five thousand buffers with a number each, of which the first are read. Every other one, from the first on, has two bytes to
+/// spare.
+fn numbered(read: u16) -> IoBufsMut {
+    let numbers = (0..5000u16).map(|i| {
+        let mut part = IoBufMut::with_capacity(if i % 2 == 0 { 4 } else { 2 });
+        part.put_u16(i);
+        part
+    });
+    let mut parts: IoBufsMut = numbers.collect();
+    assert!((0..read).all(|i| parts.copy_to_bytes(2) == i.to_be_bytes()));
+    parts
+}
+
+#[test]
+fn buffers_that_are_used_up() {
+    let mut parts = numbered(5000);
+    assert_eq!((parts.len(), parts.capacity()), (0, 5000));
+    parts.put_slice(b"abc");
+    assert_eq!((parts.chunk(), parts.len()), (&b"ab"[..], 3));
+    assert!(parts.freeze().chunks().eq([&b"ab"[..], b"c"]));
+    let left = (2500..5000u16).map(|i| i.to_be_bytes().to_vec());
+    assert!(numbered(2500).freeze().chunks().map(<[u8]>::to_vec).eq(left));
+    assert_eq!(numbered(4999).coalesce(), [0x13, 0x87]);
+}
+
 #[test]
 fn long_parts() {
     for n in SIZES {

@@ -84,6 +84,19 @@ fn numbers_and_lengths() {
 }
 
 #[test]
+fn prefixes_of_a_view() {
+    let whole = IoBuf::from(vec![7; 300]).encode().freeze();
+    for n in 0..302 {
+        let mut view = whole.slice(..n);
+        let mut text = IoBufs::from([view.slice(..n / 2), view.slice(n / 2..)]);
+        assert_eq!(IoBuf::read_cfg(&mut view, &(..=1024).into()), Err(Error::EndOfBuffer), "{n}");
+        assert_eq!(IoBuf::read_cfg(&mut text, &(..=1024).into()), Err(Error::EndOfBuffer), "{n}");
+        assert_eq!((view.as_ref(), text.len()), (&whole.as_ref()[..n], n));
+    }
+    assert_eq!((whole.len(), IoBuf::read_cfg(&mut whole.clone(), &(..=1024).into()).unwrap().len()), (302, 300));
+}
+
+#[test]
 fn refusals_change_nothing() {
     let mut text = in_bytes(b"\x00\x00\x00");
     assert_eq!(u32::read_cfg(&mut text, &()), Err(Error::EndOfBuffer));

@@ -1,32 +1,11 @@
 // Buffers as tests make them, and what they hold as tests compare it.
 ghost use Rattle.std.specs.Prelude.{◌≤◌, length};
 
-use bytes::Bytes;
 use iobufs::bufs::IoBufs;
 use iobufs::bufs_mut::IoBufsMut;
 use iobufs_core::buf::{IoBuf, IoBufMut};
 use iobufs_core::codec::{BufError, BufMut};
 use std::alloc::{AllocError, Global};
-
-// How the bytes of a view are stored.
-#[derive(Clone, Copy, Debug)]
-pub enum Stored {
-    // As a static slice.
-    Static,
-    // In a `Bytes` that no other handle shares.
-    Bytes,
-    // In native storage that no other handle shares, with so many spare bytes after them.
-    Native(usize),
-}
-
-// A view of this kind.
-pub fn view(alloc: Global, kind: Stored, bytes: &'static [u8]) -> Result<IoBuf, BufError> {
-    match kind {
-        Stored::Static => Ok(IoBuf::from(bytes)),
-        Stored::Bytes => Ok(IoBuf::from(Bytes::copy_from_slice(alloc, bytes)?)),
-        Stored::Native(spare) => part(alloc, bytes, spare)?.freeze(),
-    }
-}
 
 // A writable buffer with these bytes and so much spare capacity.
 pub fn part(alloc: Global, bytes: &[u8], spare: usize) -> Result<IoBufMut, BufError> {

@@ -1,5 +1,5 @@
 // Texts of several chunks.
-use crate::make::{Stored, chunks, cut, part, text, view};
+use crate::make::{chunks, cut, part, text};
 use crate::same::assert_same;
 use bytes::Bytes;
 use iobufs::bufs::IoBufs;
@@ -9,43 +9,40 @@ use std::alloc::Global;
 use std::process::Abort;
 use std::test::Fail;
 
-// A name and the chunks of a text; how many bytes are skipped, how many after them are taken out, and what these are, as
-// `owned` tells it; and the chunks that are left.
+// A name; the chunks of a text, and their spare capacity if they are native; how many bytes are taken out first, how many are
+// skipped then, and how many after them are taken out; what these are, as `owned` tells it; and the chunks that are left.
 type Case = (
     &'static str,
-    &'static [(Stored, &'static [u8])],
-    &'static [(usize, usize, &'static [u8])],
+    &'static [&'static [u8]],
+    Option<usize>,
+    usize,
+    usize,
+    usize,
+    &'static [u8],
     &'static [u8],
 );
 
-const FOUR: &[(Stored, &'static [u8])] = &[
-    (Stored::Static, b"ab"),
-    (Stored::Static, b"cd"),
-    (Stored::Static, b"ef"),
-    (Stored::Static, b"gh"),
-];
-
-const FOUR_NATIVE: &[(Stored, &'static [u8])] = &[
-    (Stored::Native(6), b"ab"),
-    (Stored::Native(6), b"cd"),
-    (Stored::Native(6), b"ef"),
-    (Stored::Native(6), b"gh"),
-];
-
-const OWNED: [Case; 5] = rows! {
-    "bytes inside a chunk, and then across two", &[(Stored::Static, b"ab"), (Stored::Static, b"cd")],
-        &[(0, 1, b"a|declined"), (0, 2, b"bc|2")], b"d";
-    "bytes across two of four chunks", FOUR, &[(1, 2, b"bc|2")], b"d|ef|gh";
-    "bytes across two of four native chunks", FOUR_NATIVE, &[(1, 2, b"bc|2")], b"d|ef|gh";
-    "a whole chunk of four", FOUR, &[(2, 2, b"cd|declined")], b"ef|gh";
-    "a whole native chunk of four", FOUR_NATIVE, &[(2, 2, b"cd|8")], b"ef|gh";
+const OWNED: [Case; 6] = rows! {
+    "bytes inside a chunk", &[b"ab", b"cd"], None, 0, 0, 1, b"a|declined", b"b|cd";
+    "bytes inside a chunk, and then across two", &[b"ab", b"cd"], None, 1, 0, 2, b"bc|2", b"d";
+    "bytes across two of four chunks", &[b"ab", b"cd", b"ef", b"gh"], None, 0, 1, 2, b"bc|2", b"d|ef|gh";
+    "bytes across two of four native chunks", &[b"ab", b"cd", b"ef", b"gh"], Some(6), 0, 1, 2, b"bc|2", b"d|ef|gh";
+    "a whole chunk of four", &[b"ab", b"cd", b"ef", b"gh"], None, 0, 2, 2, b"cd|declined", b"ef|gh";
+    "a whole native chunk of four", &[b"ab", b"cd", b"ef", b"gh"], Some(6), 0, 2, 2, b"cd|8", b"ef|gh";
 };
 
-// Views, one after the other.
-fn chunked(alloc: Global, chunks: &[(Stored, &'static [u8])]) -> Result<IoBufs, BufError> {
+fn chunked(
+    alloc: Global,
+    chunks: &[&'static [u8]],
+    spare: Option<usize>,
+) -> Result<IoBufs, BufError> {
     let mut text = IoBufs::default();
     for chunk in chunks {
-        text.append(alloc, view(alloc, chunk.0, chunk.1)?)?;
+        let view = match spare {
+            Some(spare) => part(alloc, chunk, spare)?.freeze()?,
+            None => IoBuf::from(*chunk),
+        };
+        text.append(alloc, view)?;
     }
     Ok(text)
 }
@@ -64,21 +61,14 @@ fn owned(alloc: Global, text: &mut IoBufs, skip: usize, n: usize) -> Result<Vec<
     Ok(shown)
 }
 
-fn assert_owned(rt: &(impl Abort + AllocGlobal), case: &Case) -> Result<(), BufError> {
-    let (name, chunks_before, takes, left) = *case;
-    let mut text = chunked(rt.alloc(), chunks_before)?;
-    for (skip, n, wanted) in takes {
-        let found = owned(rt.alloc(), &mut text, *skip, *n)?;
-        assert_same!(rt; found.as_slice(), *wanted, "{name}");
-    }
-    assert_same!(rt; chunks(rt.alloc(), &text)?.as_slice(), left, "{name}");
-    Ok(())
-}
-
 #[test]
 fn bytes_are_taken_out(rt: HostRuntime) -> Result<(), Fail> {
-    for case in &OWNED {
-        assert_owned(&rt, case)?;
+    for (name, pieces, spare, before, skip, n, wanted, left) in OWNED {
+        let mut text = chunked(rt.alloc(), pieces, spare)?;
+        drop(owned(rt.alloc(), &mut text, 0, before)?);
+        let found = owned(rt.alloc(), &mut text, skip, n)?;
+        assert_same!(rt; found.as_slice(), wanted, "{name}");
+        assert_same!(rt; chunks(rt.alloc(), &text)?.as_slice(), left, "{name}");
     }
     Ok(())
 }

@@ -1,5 +1,4 @@
-// Worked examples of encoding, which no contract gives: lengths, views, types of several fields and the builder.
-mod build;
+// Worked examples of encoding, which no contract gives: lengths, views, and types of several fields.
 mod chunks;
 mod encode;
 mod lengths;

@@ -1,6 +1,5 @@
 // A thousand times what an example has.
 use crate::same::assert_same;
-use iobufs::bufs::IoBufs;
 use iobufs::bufs_mut::IoBufsMut;
 use iobufs_core::buf::IoBufMut;
 use iobufs_core::codec::{Buf, BufError, BufMut};
@@ -22,18 +21,6 @@ fn number(alloc: Global, capacity: usize, number: u16) -> Result<IoBufMut, BufEr
         part.put_u16(number);
     }
     Ok(part)
-}
-
-// Compares the chunks of a text with the numbers from one to another.
-fn assert_numbered(rt: &impl Abort, text: &IoBufs, from: u16, to: u16) {
-    let mut wanted = from;
-    text.for_each_chunk(|chunk: &[u8]| {
-        if chunk == wanted.to_be_bytes().as_slice() {
-            wanted = wanted.saturating_add(1);
-        }
-    });
-    let count = to.saturating_sub(from) as usize;
-    assert_same!(rt; (wanted, text.chunk_count()), (to, count), "{from} to {to}");
 }
 
 // Two parts of half a mebibyte.
@@ -104,27 +91,5 @@ fn parts_that_are_used_up_come_first(rt: HostRuntime) -> Result<(), Fail> {
         let bytes = parts.part_at(place).map(|part| part.as_ref());
         assert!(rt; bytes == wanted, "{place}");
     }
-    Ok(())
-}
-
-#[test]
-fn parts_that_are_used_up_are_filled_again(rt: HostRuntime) -> Result<(), Fail> {
-    let mut parts = read_to(&rt, PIECES)?;
-    let left = (parts.part_count(), parts.len(), parts.capacity());
-    assert_same!(rt; left, (2500, 0, 5000));
-    assert!(rt; parts.remaining_mut() >= 3);
-    parts.put_slice(b"abc");
-    assert_same!(rt; parts.chunk(), b"ab".as_slice());
-    let bytes = parts.part_at(1).map(|part| part.as_ref());
-    assert!(rt; bytes == Some(b"c".as_slice()));
-    Ok(())
-}
-
-#[test]
-fn parts_are_joined_after_those_that_are_used_up(rt: HostRuntime) -> Result<(), Fail> {
-    let frozen = read_to(&rt, 2500)?.freeze(rt.alloc())?;
-    assert_numbered(&rt, &frozen, 2500, PIECES);
-    let last = read_to(&rt, 4999)?.coalesce(rt.alloc())?;
-    assert_same!(rt; last.as_ref(), [0x13, 0x87].as_slice());
     Ok(())
 }

@@ -19,16 +19,6 @@ pub fn view(bytes: &'static [u8]) -> IoBuf {
     IoBuf::from(bytes)
 }
 
-// These chunks as static views.
-pub fn gathered(rt: &(impl Abort + AllocGlobal), chunks: &'static [&'static [u8]]) -> IoBufs {
-    let mut all = IoBufs::default();
-    for chunk in chunks {
-        all.append(rt.alloc(), IoBuf::from(*chunk))
-            .expect(rt, "a chunk is appended");
-    }
-    all
-}
-
 // A chunk for each byte of a view, sliced from it.
 pub fn bytewise(rt: &(impl Abort + AllocGlobal), view: &IoBuf) -> IoBufs {
     let mut all = IoBufs::default();
