@@ -344,13 +344,17 @@ const ALL: &[u8] = b"\x03abc|\0|\x05hello|";
 const ECHOES: [Echo; 19] = rows! {
     "no failure", VARINT, FRAMES, false, b"", VARINT, usize::MAX, Ending::End, ALL, 0, Ending::End, b"\x03abc|\0|\x05hello||";
     "the end inside a body", VARINT, b"\x01a\x02b", false, b"", VARINT, usize::MAX, Ending::Cut, b"\x01a|", 0, Ending::Cut, b"\x01a||";
-    "u16, big", BIG_16, FRAMES_BIG_16, false, b"", BIG_16, usize::MAX, Ending::End, b"\0\x03abc|\0\0|\0\x05hello|", 0, Ending::End, b"\0\x03abc|\0\0|\0\x05hello||";
+    "u16, big", BIG_16, FRAMES_BIG_16, false, b"",
+        BIG_16, usize::MAX, Ending::End, b"\0\x03abc|\0\0|\0\x05hello|", 0, Ending::End, b"\0\x03abc|\0\0|\0\x05hello||";
     "u16, big, to varints", BIG_16, FRAMES_BIG_16, false, b"", VARINT, usize::MAX, Ending::End, ALL, 0, Ending::End, b"\x03abc|\0|\x05hello||";
-    "u16, little", LITTLE_16, FRAMES_LITTLE_16, false, b"", LITTLE_16, usize::MAX, Ending::End, b"\x03\0abc|\0\0|\x05\0hello|", 0, Ending::End, b"\x03\0abc|\0\0|\x05\0hello||";
+    "u16, little", LITTLE_16, FRAMES_LITTLE_16, false, b"",
+        LITTLE_16, usize::MAX, Ending::End, b"\x03\0abc|\0\0|\x05\0hello|", 0, Ending::End, b"\x03\0abc|\0\0|\x05\0hello||";
     "u16, little, to varints", LITTLE_16, FRAMES_LITTLE_16, false, b"", VARINT, usize::MAX, Ending::End, ALL, 0, Ending::End, b"\x03abc|\0|\x05hello||";
-    "u32, big", BIG_32, FRAMES_BIG_32, false, b"", BIG_32, usize::MAX, Ending::End, b"\0\0\0\x03abc|\0\0\0\0|\0\0\0\x05hello|", 0, Ending::End, b"\0\0\0\x03abc|\0\0\0\0|\0\0\0\x05hello||";
+    "u32, big", BIG_32, FRAMES_BIG_32, false, b"",
+        BIG_32, usize::MAX, Ending::End, b"\0\0\0\x03abc|\0\0\0\0|\0\0\0\x05hello|", 0, Ending::End, b"\0\0\0\x03abc|\0\0\0\0|\0\0\0\x05hello||";
     "u32, big, to varints", BIG_32, FRAMES_BIG_32, false, b"", VARINT, usize::MAX, Ending::End, ALL, 0, Ending::End, b"\x03abc|\0|\x05hello||";
-    "u32, little", LITTLE_32, FRAMES_LITTLE_32, false, b"", LITTLE_32, usize::MAX, Ending::End, b"\x03\0\0\0abc|\0\0\0\0|\x05\0\0\0hello|", 0, Ending::End, b"\x03\0\0\0abc|\0\0\0\0|\x05\0\0\0hello||";
+    "u32, little", LITTLE_32, FRAMES_LITTLE_32, false, b"",
+        LITTLE_32, usize::MAX, Ending::End, b"\x03\0\0\0abc|\0\0\0\0|\x05\0\0\0hello|", 0, Ending::End, b"\x03\0\0\0abc|\0\0\0\0|\x05\0\0\0hello||";
     "u32, little, to varints", LITTLE_32, FRAMES_LITTLE_32, false, b"", VARINT, usize::MAX, Ending::End, ALL, 0, Ending::End, b"\x03abc|\0|\x05hello||";
     "a read between two frames", VARINT, b"\x03abc", true, b"\0\x05hello", VARINT, usize::MAX, RESET, b"\x03abc|", 0, Ending::End, b"\x03abc||\0|\x05hello|";
     "a read inside a body", VARINT, b"\x03abc\0\x05he", true, b"llo", VARINT, usize::MAX, RESET, b"\x03abc|\0|", 0, Ending::End, b"\x03abc|\0||\x05hello|";
