@@ -45,15 +45,13 @@ impl View {
     /// The empty view.
     #[inline]
     pub(crate) fn new() -> Self {
-        Self::with(None)
+        Self::of(Memory::new(sys::iobuf_init))
     }
 
-    /// The empty view, which gets bytes of this owner. The memory is made a buffer where it lies, which saves a move.
+    /// The view in this memory, whose bytes are the library's.
     #[inline]
-    fn with(owner: Option<Owner>) -> Self {
-        let view = View { memory: Memory::room(), owner: ManuallyDrop::new(owner) };
-        view.memory.make(sys::iobuf_init);
-        view
+    pub(crate) fn of(memory: Memory<{ sys::VIEW }>) -> Self {
+        View { memory, owner: ManuallyDrop::new(None) }
     }
 
     /// Makes a view of the bytes of `owner`, which is asked for them once.
@@ -63,10 +61,11 @@ impl View {
         if bytes.is_empty() {
             return View::new();
         }
-        let view = Self::with(Some(Owner(owner.clone())));
+        let mut view = View::new();
         // SAFETY: duty 4: the bytes stay, unchanged, until `owner` is dropped, since only `vec` reaches it, alone. It lies in an
         // `Arc`, so it didn't move since. Each buffer that is made of the view keeps it.
         unsafe { sys::iobuf_from_static(bytes.as_ptr(), bytes.len(), &mut view.at()) };
+        *view.owner = Some(Owner(owner));
         view
     }
 
@@ -90,9 +89,12 @@ impl View {
     /// Makes a view of bytes of this one by a call.
     #[inline]
     pub(crate) fn part(&self, call: impl FnOnce(&mut At<{ sys::VIEW }>, &mut Made<{ sys::VIEW }>)) -> Self {
-        let out = Self::with(Option::clone(&self.owner));
-        call(&mut self.at(), &mut Made(out.at()));
-        out
+        // The owner is counted before the memory moves: otherwise that moves twice.
+        let (memory, owner) = Memory::made(sys::iobuf_init, |out| {
+            call(&mut self.at(), &mut Made(out));
+            Option::clone(&self.owner)
+        });
+        View { memory, owner: ManuallyDrop::new(owner) }
     }
 
     /// Takes bytes from the front by a call.
@@ -206,15 +208,13 @@ impl<const N: usize> Text<N> {
     /// An empty buffer, made by `init`.
     #[inline]
     pub(crate) fn new(init: sys::Init<N>) -> Self {
-        Self::with(init, None)
+        Self::of(Memory::new(init))
     }
 
-    /// An empty buffer, which gets chunks of these owners.
+    /// The buffer in this memory, whose bytes are the library's.
     #[inline]
-    fn with(init: sys::Init<N>, owners: Option<Box<Chunks>>) -> Self {
-        let text = Text { memory: Memory::room(), owners };
-        text.memory.make(init);
-        text
+    pub(crate) fn of(memory: Memory<N>) -> Self {
+        Text { memory, owners: None }
     }
 
     /// The place, for calls that neither take bytes nor move views in.
@@ -266,17 +266,15 @@ impl<const N: usize> Text<N> {
     /// Makes a text of the same bytes by a call.
     #[inline]
     pub(crate) fn same(&self, init: sys::Init<N>, call: impl FnOnce(&mut At<N>, &mut Made<N>)) -> Self {
-        let out = Self::with(init, self.owners.clone());
-        call(&mut self.at(), &mut Made(out.at()));
-        out
+        let (memory, ()) = Memory::made(init, |out| call(&mut self.at(), &mut Made(out)));
+        Text { memory, owners: self.owners.clone() }
     }
 
     /// Makes another kind of text of the same bytes by a call, which leaves none.
     #[inline]
     pub(crate) fn finish<const M: usize>(&mut self, init: sys::Init<M>, call: impl FnOnce(&mut At<N>, &mut Made<M>)) -> Text<M> {
-        let out = Text::with(init, self.owners.take());
-        call(&mut self.at(), &mut Made(out.at()));
-        out
+        let (memory, ()) = Memory::made(init, |out| call(&mut self.at(), &mut Made(out)));
+        Text { memory, owners: self.owners.take() }
     }
 }
 
@@ -345,11 +343,10 @@ where
     /// Takes the first `n` bytes as a text by a call.
     #[inline]
     pub(crate) fn split(&mut self, n: usize, init: sys::Init<N>, call: impl FnOnce(&mut Cut<N>, &mut Made<N>)) -> Self {
-        let front = self.owners.as_ref().map(|chunks| Box::new(chunks.front(n as u64, self.len() as u64)));
-        let out = Self::with(init, front);
-        call(&mut Cut(self.at()), &mut Made(out.at()));
+        let owners = self.owners.as_ref().map(|chunks| Box::new(chunks.front(n as u64, self.len() as u64)));
+        let (memory, ()) = Memory::made(init, |out| call(&mut Cut(self.at()), &mut Made(out)));
         self.settle();
-        out
+        Text { memory, owners }
     }
 }
 

@@ -1,4 +1,5 @@
 //! `IoBufMut`.
+use crate::owner::View;
 use crate::sys::{self, Memory};
 use crate::view::IoBuf;
 use crate::{AllocError, Scratch, allocated, as_bytes, done, no_bytes, puts, tried, try_copy};
@@ -18,7 +19,13 @@ impl IoBufMut {
 
     /// A place without a buffer, which is like one of capacity 0.
     pub(crate) fn none() -> Self {
-        IoBufMut(Memory::new(sys::iobufmut_init), Scratch::default())
+        Self::of(Memory::new(sys::iobufmut_init))
+    }
+
+    /// The buffer in this memory.
+    #[inline]
+    pub(crate) fn of(memory: Memory<{ sys::PART }>) -> Self {
+        IoBufMut(memory, Scratch::default())
     }
 
     /// An empty buffer of this capacity.
@@ -127,13 +134,11 @@ impl IoBufMut {
     /// The bytes as a view, with no copy.
     #[inline]
     pub fn freeze(self) -> IoBuf {
-        let out = IoBuf::default();
         // SAFETY: duties 1 to 3.
-        done(
-            unsafe { sys::iobufmut_freeze(&mut self.0.at(), &mut out.0.at()) },
-            "",
-        );
-        out
+        let freeze = |mut out| unsafe { sys::iobufmut_freeze(&mut self.0.at(), &mut out) };
+        let (memory, status) = Memory::made(sys::iobuf_init, freeze);
+        done(status, "");
+        IoBuf(View::of(memory))
     }
 
     /// How many bytes are readable (`Buf`).

@@ -68,13 +68,11 @@ impl IoBufsMut {
     /// The parts that hold bytes as the pieces of one text.
     #[inline]
     pub fn freeze(self) -> IoBufs {
-        let out = IoBufs::default();
         // SAFETY: duties 1 to 3.
-        done(
-            unsafe { sys::iobufsmut_freeze(&mut self.0.at(), &mut out.0.at()) },
-            "",
-        );
-        out
+        let freeze = |mut out| unsafe { sys::iobufsmut_freeze(&mut self.0.at(), &mut out) };
+        let (memory, status) = Memory::made(sys::iobufs_init, freeze);
+        done(status, "");
+        IoBufs(Text::of(memory))
     }
 
     /// The parts as one buffer, with a copy of several.

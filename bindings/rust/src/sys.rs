@@ -40,26 +40,22 @@ impl<const N: usize> Memory<N> {
     /// An empty buffer, made by `init` of memory of the size that the library asks for.
     #[inline]
     pub fn new(init: Init<N>) -> Self {
-        let memory = Self::room();
-        memory.make(init);
-        memory
-    }
-
-    /// Memory of which `make` makes a buffer, before any other use.
-    #[inline]
-    pub fn room() -> Self {
-        Memory(UnsafeCell::new([MaybeUninit::uninit(); N]))
-    }
-
-    /// Makes an empty buffer of memory that holds none.
-    #[inline]
-    pub fn make(&self, init: Init<N>) {
         if !COMPARED.load(Relaxed) {
             compare_sizes();
         }
+        Self::made(init, |_| ()).0
+    }
+
+    /// A buffer that `init` makes empty and a call fills, and the call's result. The sizes were compared before: there is
+    /// another buffer. The call gets the memory before it moves, and what is returned moves once.
+    #[inline]
+    pub fn made<R>(init: Init<N>, call: impl FnOnce(At<N>) -> R) -> (Self, R) {
+        let memory = Memory(UnsafeCell::new([MaybeUninit::uninit(); N]));
         // SAFETY: duty 1: the memory has the library's size, as was compared, and the alignment of a word; it may move
         // after `init`.
-        unsafe { init(self.0.get()) };
+        unsafe { init(memory.0.get()) };
+        let result = call(memory.at());
+        (memory, result)
     }
 
     /// The place, which is made anew for each call: the memory may have moved.

@@ -1,7 +1,7 @@
 //! `IoBuf`.
 use crate::owner::View;
 use crate::part::IoBufMut;
-use crate::sys;
+use crate::sys::{self, Memory};
 use crate::{AllocError, Error, allocated, as_bytes, bounds, done, gets, limits, read, tried, try_copy};
 use std::borrow::Borrow;
 use std::cmp::Ordering;
@@ -102,10 +102,10 @@ impl IoBuf {
         if self.0.is_lent() {
             return self.copy_of_vec().ok_or(self);
         }
-        let out = IoBufMut::none();
         // SAFETY: duties 1 to 3.
-        match unsafe { sys::iobuf_try_into_mut(&mut self.0.at(), &mut out.memory().at()) } {
-            sys::OK => Ok(out),
+        let into_mut = |mut out| unsafe { sys::iobuf_try_into_mut(&mut self.0.at(), &mut out) };
+        match Memory::made(sys::iobufmut_init, into_mut) {
+            (memory, sys::OK) => Ok(IoBufMut::of(memory)),
             _ => Err(self),
         }
     }
