@@ -19,9 +19,10 @@
 //! the feature. Values (`codec`) are numbers, lengths, views, and types of a caller's own.
 //!
 //! What each `unsafe` block does is call the library; the comment names the duties of `iobufs.h` that it meets. Duties
-//! that all meet: (1) a buffer's memory is made by `.._init` in `Memory::made`, is dropped once by `Drop`, and may move;
-//! (2) places of one call are of different variables, since a `&mut` or an owned buffer is one of them; (3) a call that
-//! changes a buffer has it by `&mut` or owned, and others only look; (6) Rust doesn't call from signal handlers.
+//! that all meet: (1) a buffer's memory is made by `.._init` in `Memory::made`, may move, and is dropped once by `Drop`, or
+//! forgotten where a call left it empty, since what it held is in another buffer; (2) places of one call are of different
+//! variables, since a `&mut` or an owned buffer is one of them; (3) a call that changes a buffer has it by `&mut` or owned,
+//! and others only look; (6) Rust doesn't call from signal handlers.
 pub mod codec;
 mod owner;
 mod part;

@@ -4,7 +4,7 @@ use crate::sys::{self, Memory};
 use crate::view::IoBuf;
 use crate::{AllocError, Scratch, allocated, as_bytes, done, no_bytes, puts, tried, try_copy};
 use std::num::NonZeroUsize;
-use std::{fmt, io, slice};
+use std::{fmt, io, mem, slice};
 
 const LAYOUT: &str = "alignment must be a power of two and the size must fit a layout";
 const PAST: &str = "cannot advance past end of buffer";
@@ -133,11 +133,13 @@ impl IoBufMut {
 
     /// The bytes as a view, with no copy.
     #[inline]
-    pub fn freeze(self) -> IoBuf {
+    pub fn freeze(mut self) -> IoBuf {
         // SAFETY: duties 1 to 3.
         let freeze = |mut out| unsafe { sys::iobufmut_freeze(&mut self.0.at(), &mut out) };
         let (memory, status) = Memory::made(sys::iobuf_init, freeze);
         done(status, "");
+        mem::take(&mut self.1);
+        mem::forget(self);
         IoBuf(View::of(memory))
     }
 

@@ -6,7 +6,7 @@ use crate::text::{IoBufs, NO_CHUNK, piece};
 use crate::view::IoBuf;
 use crate::{Scratch, allocated, done, no_bytes, puts, try_copy};
 use std::io::{self, IoSlice};
-use std::{fmt, slice};
+use std::{fmt, mem, slice};
 
 const PAST: &str = "cannot advance past end of buffer";
 
@@ -67,11 +67,13 @@ impl IoBufsMut {
 
     /// The parts that hold bytes as the pieces of one text.
     #[inline]
-    pub fn freeze(self) -> IoBufs {
+    pub fn freeze(mut self) -> IoBufs {
         // SAFETY: duties 1 to 3.
         let freeze = |mut out| unsafe { sys::iobufsmut_freeze(&mut self.0.at(), &mut out) };
         let (memory, status) = Memory::made(sys::iobufs_init, freeze);
         done(status, "");
+        mem::take(&mut self.1);
+        mem::forget(self);
         IoBufs(Text::of(memory))
     }
 
@@ -381,9 +383,11 @@ impl Builder {
     #[track_caller]
     pub fn push(&mut self, chunk: impl Into<IoBuf>) {
         self.pass();
+        let mut chunk = chunk.into();
         // SAFETY: duties 1 to 3.
-        let status = self.0.put_back(&mut chunk.into().0, |builder, view| unsafe { sys::iobufs_builder_push(builder, view) });
+        let status = self.0.put_back(&mut chunk.0, |builder, view| unsafe { sys::iobufs_builder_push(builder, view) });
         done(status, "length overflow");
+        mem::forget(chunk);
         if self.0.has_owners() {
             self.2 = self.remaining_mut();
         }

@@ -8,7 +8,7 @@ use std::cmp::Ordering;
 use std::hash::{Hash, Hasher};
 use std::io::{self, IoSlice};
 use std::ops::RangeBounds;
-use std::{fmt, slice};
+use std::{fmt, mem, slice};
 
 /// The bytes of a piece.
 ///
@@ -155,6 +155,7 @@ impl IoBufs {
         // SAFETY: duties 1 to 3.
         let status = self.0.put_back(&mut piece.0, |text, view| unsafe { sys::iobufs_append(text, view) });
         done(status, "length overflow");
+        mem::forget(piece);
     }
 
     /// Puts a buffer in front of the text.
@@ -164,6 +165,7 @@ impl IoBufs {
         // SAFETY: duties 1 to 3.
         let status = self.0.put_front(&mut piece.0, |text, view| unsafe { sys::iobufs_prepend(text, view) });
         done(status, "length overflow");
+        mem::forget(piece);
     }
 
     /// Takes the first `at` bytes away. Panics where there are fewer.
@@ -533,6 +535,7 @@ impl Frames {
         // SAFETY: duties 1 to 3.
         let status = self.0.put_back(&mut piece.0, |frames, view| unsafe { sys::iobufs_frames_feed(frames, view) });
         done(status, "length overflow");
+        mem::forget(piece);
     }
 
     /// Takes the first frame; `None` if it isn't whole yet. Fails if no further bytes can make it whole.

@@ -7,7 +7,7 @@ use std::borrow::Borrow;
 use std::cmp::Ordering;
 use std::hash::{Hash, Hasher};
 use std::ops::{Bound, RangeBounds};
-use std::{fmt, io};
+use std::{fmt, io, mem};
 
 /// The kind of a bound (`enum iobufs_bound`), and its number.
 fn bound(bound: Bound<&usize>) -> (u8, usize) {
@@ -105,7 +105,10 @@ impl IoBuf {
         // SAFETY: duties 1 to 3.
         let into_mut = |mut out| unsafe { sys::iobuf_try_into_mut(&mut self.0.at(), &mut out) };
         match Memory::made(sys::iobufmut_init, into_mut) {
-            (memory, sys::OK) => Ok(IoBufMut::of(memory)),
+            (memory, sys::OK) => {
+                mem::forget(self);
+                Ok(IoBufMut::of(memory))
+            }
             _ => Err(self),
         }
     }
