@@ -8,7 +8,7 @@ use std::cmp::Ordering;
 use std::hash::{Hash, Hasher};
 use std::io::{self, IoSlice};
 use std::ops::RangeBounds;
-use std::{fmt, mem, slice};
+use std::{fmt, mem, mem::MaybeUninit, slice};
 
 /// The bytes of a piece.
 ///
@@ -74,14 +74,14 @@ impl IoBufs {
     }
 
     // Fills a list with the chunks from `first` on, and returns how many it filled.
-    fn fill(&self, first: usize, chunks: &mut [Chunk; BATCH]) -> usize {
+    fn fill(&self, first: usize, chunks: &mut [MaybeUninit<Chunk>; BATCH]) -> usize {
         // SAFETY: duty 4: the list has `BATCH` places. It only looks (duty 3).
-        unsafe { sys::iobufs_chunks_from(&mut self.0.at(), first, chunks.as_mut_ptr(), BATCH) }
+        unsafe { sys::iobufs_chunks_from(&mut self.0.at(), first, chunks.as_mut_ptr().cast(), BATCH) }
     }
 
     /// Returns the chunks that hold bytes, in order.
     pub fn chunks(&self) -> impl Iterator<Item = &[u8]> {
-        let mut chunks = [NO_CHUNK; BATCH];
+        let mut chunks = [MaybeUninit::uninit(); BATCH];
         let (mut next, mut n, mut i) = (0, 0, BATCH);
         std::iter::from_fn(move || {
             if i == BATCH {
@@ -90,8 +90,8 @@ impl IoBufs {
             }
             let chunk = chunks[..n].get(i)?;
             i += 1;
-            // SAFETY: it is a chunk of `self`, which is borrowed.
-            Some(unsafe { piece(chunk) })
+            // SAFETY: it was filled with a chunk of `self`, which is borrowed.
+            Some(unsafe { piece(chunk.assume_init_ref()) })
         })
     }
 
@@ -137,11 +137,11 @@ impl IoBufs {
 
     /// Shows each piece that holds bytes, in order.
     pub fn for_each_chunk(&self, mut visit: impl FnMut(&[u8])) {
-        let mut chunks = [NO_CHUNK; BATCH];
+        let mut chunks = [MaybeUninit::uninit(); BATCH];
         for first in (0..).step_by(BATCH) {
             let n = self.fill(first, &mut chunks);
-            // SAFETY: they are chunks of `self`, which is borrowed.
-            chunks[..n].iter().for_each(|chunk| visit(unsafe { piece(chunk) }));
+            // SAFETY: they were filled with chunks of `self`, which is borrowed.
+            chunks[..n].iter().for_each(|chunk| visit(unsafe { piece(chunk.assume_init_ref()) }));
             if n < BATCH {
                 return;
             }
