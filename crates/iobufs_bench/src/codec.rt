@@ -1,11 +1,10 @@
 // The workloads that encode and decode.
-use crate::run::{Run, RunError, Sum, cut, native};
+use crate::run::{Run, RunError, Sum, begun, cut, native};
 use iobufs::bufs::IoBufs;
 use iobufs::builder::{Builder, EncodeExt};
 use iobufs_core::buf::IoBuf;
 use iobufs_core::codec::{Buf, BufMut, BufsMut, OwnedBuf, RangeCfg, Read};
 use std::alloc::Global;
-use std::time::Instant;
 
 /// A place where no text is cut.
 pub const NO_CUT: usize = 1_073_741_824;
@@ -20,13 +19,13 @@ pub fn encode(rt: &HostRuntime) -> Result<Run, RunError> {
     let view = native(alloc, 64)?;
     let keep = view.clone()?;
     let mut sum = Sum::new();
-    let start = Instant::now(rt)?;
+    let start = begun(rt);
     for _ in 0..1000 {
         let text = view.encode_iobufs(alloc)?;
         sum.add(text.chunk_count());
         sum.mark(text.chunk());
     }
-    let run = Run::since(rt, start, 1000, sum)?;
+    let run = Run::since(rt, start, 1000, sum);
     drop(keep);
     Ok(run)
 }
@@ -49,7 +48,7 @@ pub fn build(rt: &HostRuntime) -> Result<Run, RunError> {
     let view = native(alloc, 64)?;
     let keep = view.clone()?;
     let mut sum = Sum::new();
-    let start = Instant::now(rt)?;
+    let start = begun(rt);
     for _ in 0..50 {
         let mut builder = Builder::new(alloc, 384)?;
         for i in 0..64u16 {
@@ -59,7 +58,7 @@ pub fn build(rt: &HostRuntime) -> Result<Run, RunError> {
         sum.add(text.chunk_count());
         sum.mark(text.chunk());
     }
-    let run = Run::since(rt, start, 3200, sum)?;
+    let run = Run::since(rt, start, 3200, sum);
     drop(keep);
     Ok(run)
 }
@@ -147,11 +146,11 @@ pub fn decoding(
     let alloc = rt.alloc();
     let mut texts = sources(alloc, count, len, piece)?;
     let mut sum = Sum::new();
-    let start = Instant::now(rt)?;
+    let start = begun(rt);
     for text in &mut texts {
         read_all(alloc, text, count, is_take, &mut sum)?;
     }
-    Run::since(rt, start, count.saturating_mul(4), sum)
+    Ok(Run::since(rt, start, count.saturating_mul(4), sum))
 }
 
 // Encodes views of many lengths, and appends each chunk to one text.
@@ -176,9 +175,9 @@ pub fn there_and_back(rt: &HostRuntime, is_take: bool) -> Result<Run, RunError> 
     let alloc = rt.alloc();
     let master = native(alloc, 1400)?;
     let mut sum = Sum::new();
-    let start = Instant::now(rt)?;
+    let start = begun(rt);
     let mut wire = wired(alloc, &master)?;
     read_all(alloc, &mut wire, 1000, is_take, &mut sum)?;
     drop(wire);
-    Run::since(rt, start, 1000, sum)
+    Ok(Run::since(rt, start, 1000, sum))
 }

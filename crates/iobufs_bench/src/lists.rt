@@ -2,12 +2,11 @@
 ghost use Rattle.std.specs.Prelude.{◌≡◌, length};
 ghost use Rattle.iobufs.specs.Parts.{parts_filled};
 
-use crate::run::{CHUNK, Run, RunError, Sum, copies, lists, parts, pattern};
+use crate::run::{CHUNK, Run, RunError, Sum, begun, copies, lists, parts, pattern};
 use crate::turns::{advance_turns, put_turns, read_turns, take_turns};
 use iobufs::bufs_mut::IoBufsMut;
 use iobufs_core::buf::IoBufMut;
 use iobufs_core::codec::Buf;
-use std::time::Instant;
 
 pub fn put(rt: &HostRuntime, n: u32, size: u32) -> Result<Run, RunError> {
     let alloc = rt.alloc();
@@ -15,11 +14,11 @@ pub fn put(rt: &HostRuntime, n: u32, size: u32) -> Result<Run, RunError> {
     let mut lists = lists(alloc, k, n, 0)?;
     let piece = pattern(alloc, size as usize)?;
     let turns = (n as usize * CHUNK).checked_div(size as usize).unwrap_or(0);
-    let start = Instant::now(rt)?;
+    let start = begun(rt);
     for list in &mut lists {
         put_turns(list, piece.as_slice(), turns)?;
     }
-    let mut run = Run::since(rt, start, k.saturating_mul(turns), Sum::new())?;
+    let mut run = Run::since(rt, start, k.saturating_mul(turns), Sum::new());
     for list in &lists {
         run.sum.add(list.len());
     }
@@ -31,11 +30,11 @@ pub fn advance100(rt: &HostRuntime, n: u32) -> Result<Run, RunError> {
     let mut lists = lists(rt.alloc(), k, n, CHUNK)?;
     let turns = n as usize * CHUNK / 100;
     let mut sum = Sum::new();
-    let start = Instant::now(rt)?;
+    let start = begun(rt);
     for list in &mut lists {
         advance_turns(list, turns, &mut sum)?;
     }
-    Run::since(rt, start, k.saturating_mul(turns + 1), sum)
+    Ok(Run::since(rt, start, k.saturating_mul(turns + 1), sum))
 }
 
 pub fn take(rt: &HostRuntime, n: u32, size: u32) -> Result<Run, RunError> {
@@ -44,11 +43,11 @@ pub fn take(rt: &HostRuntime, n: u32, size: u32) -> Result<Run, RunError> {
     let mut lists = lists(alloc, k, n, CHUNK)?;
     let turns = (n as usize * CHUNK).checked_div(size as usize).unwrap_or(0);
     let mut sum = Sum::new();
-    let start = Instant::now(rt)?;
+    let start = begun(rt);
     for list in &mut lists {
         take_turns(alloc, list, turns, size as usize, &mut sum)?;
     }
-    Run::since(rt, start, k.saturating_mul(turns), sum)
+    Ok(Run::since(rt, start, k.saturating_mul(turns), sum))
 }
 
 pub fn freeze(rt: &HostRuntime, n: u32) -> Result<Run, RunError> {
@@ -56,11 +55,11 @@ pub fn freeze(rt: &HostRuntime, n: u32) -> Result<Run, RunError> {
     let k = copies(n);
     let lists = lists(alloc, k, n, CHUNK)?;
     let mut kept = Vec::with_capacity(alloc, k)?;
-    let start = Instant::now(rt)?;
+    let start = begun(rt);
     for list in lists {
         kept.push(list.freeze(alloc)?)?;
     }
-    let mut run = Run::since(rt, start, k, Sum::new())?;
+    let mut run = Run::since(rt, start, k, Sum::new());
     for text in &kept {
         run.sum.add(text.len());
         run.sum.mark(text.chunk());
@@ -74,11 +73,11 @@ pub fn coalesce(rt: &HostRuntime, n: u32) -> Result<Run, RunError> {
     let k = copies(n);
     let lists = lists(alloc, k, n, 8)?;
     let mut kept = Vec::with_capacity(alloc, k)?;
-    let start = Instant::now(rt)?;
+    let start = begun(rt);
     for list in lists {
         kept.push(list.coalesce(alloc)?)?;
     }
-    let mut run = Run::since(rt, start, k, Sum::new())?;
+    let mut run = Run::since(rt, start, k, Sum::new());
     for part in &kept {
         run.sum.mark(part.as_ref());
     }
@@ -90,11 +89,11 @@ pub fn drain(rt: &HostRuntime, n: u32) -> Result<Run, RunError> {
     let k = copies(n);
     let mut lists = lists(rt.alloc(), k, n, 8)?;
     let mut sum = Sum::new();
-    let start = Instant::now(rt)?;
+    let start = begun(rt);
     for list in &mut lists {
         read_turns(list, n as usize, &mut sum);
     }
-    Run::since(rt, start, k.saturating_mul(n as usize), sum)
+    Ok(Run::since(rt, start, k.saturating_mul(n as usize), sum))
 }
 
 // Writes over all bytes so many times.
@@ -116,21 +115,21 @@ pub fn overwrite(rt: &HostRuntime, n: u32) -> Result<Run, RunError> {
         return Err(RunError::Unfit);
     }
     let mut sum = Sum::new();
-    let start = Instant::now(rt)?;
+    let start = begun(rt);
     overwrite_turns(&mut list, source.as_slice(), k);
     sum.mark(list.chunk());
-    Run::since(rt, start, k, sum)
+    Ok(Run::since(rt, start, k, sum))
 }
 
 /// Keeps `n` writable buffers: for the bytes that each requests.
 pub fn hold(rt: &HostRuntime, n: u32) -> Result<Run, RunError> {
     let alloc = rt.alloc();
-    let start = Instant::now(rt)?;
+    let start = begun(rt);
     let mut kept = Vec::with_capacity(alloc, n as usize)?;
     for _ in 0..n {
         kept.push(IoBufMut::with_capacity(alloc, CHUNK)?)?;
     }
-    let mut run = Run::since(rt, start, n as usize, Sum::new())?;
+    let mut run = Run::since(rt, start, n as usize, Sum::new());
     run.sum.add(kept.len());
     Ok(run)
 }

@@ -53,7 +53,10 @@ fn repetition(rt: &HostRuntime, name: &str) -> Result<u64, RunError> {
     let begun = Instant::now(rt)?;
     for _ in 0..100_000 {
         let run = run_named(rt, name)?;
-        nanos = nanos.saturating_add(run.nanos);
+        let Some(time) = run.time else {
+            return Err(RunError::Clock);
+        };
+        nanos = nanos.saturating_add(u64::try_from(time.as_nanos()).unwrap_or(u64::MAX));
         ops = ops.saturating_add(run.ops);
         if nanos >= 8_000_000 || begun.elapsed(rt)?.as_millis() >= 60 {
             break;
