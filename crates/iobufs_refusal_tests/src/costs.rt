@@ -223,6 +223,17 @@ fn compared<B: Counted>(
     }
 }
 
+// What a call gives the second time.
+fn again<B: Counted>(
+    alloc: Global,
+    shape: &Shape,
+    buf: &mut B,
+    row: &Row,
+) -> Result<Given, BufError> {
+    let mut args = Args::new(alloc, shape, row.0, row.1)?;
+    buf.make(alloc, row.0, &mut args)
+}
+
 // How a call ended whose allocation failed: what it left, and what it gives the second time.
 fn repeated<B: Counted>(
     alloc: Global,
@@ -237,8 +248,7 @@ fn repeated<B: Counted>(
     if is_gone {
         return Ok(Ended::Refused);
     }
-    let mut args = Args::new(alloc, shape, row.0, row.1)?;
-    let Ok(given) = buf.make(alloc, row.0, &mut args) else {
+    let Ok(given) = again(alloc, shape, buf, row) else {
         return Ok(Ended::Failed);
     };
     match compared(alloc, &given, shape, buf, row)? {

@@ -1,6 +1,6 @@
 // Frames of bytes that come in pieces.
 use crate::made::shows;
-use crate::word::{Ended, end, mark};
+use crate::word::{Ended, end, end_case, mark};
 use iobufs::bufs::IoBufs;
 use iobufs_core::buf::IoBuf;
 use iobufs_core::codec::{BufError, Error, RangeCfg};
@@ -11,7 +11,11 @@ use std::process::Abort;
 const RANGE: RangeCfg = RangeCfg { lo: 0, hi: 1024 };
 
 // Two frames, the first in two pieces.
-const PIECES: [&'static [u8]; 2] = [b"\x03ab", b"c\x01d"];
+const FIRST: &[u8] = b"\x03ab";
+
+const SECOND: &[u8] = b"c\x01d";
+
+const PIECES: [&'static [u8]; 2] = [FIRST, SECOND];
 
 // Those frames with lengths of two bytes.
 const FIXED_PIECES: [&'static [u8]; 2] = [b"\0\x03ab", b"c\0\x01d"];
@@ -36,67 +40,57 @@ fn feed(alloc: Global, frames: &mut Frames, chunk: &'static [u8]) -> Result<(), 
     }
 }
 
-#[test]
-fn feed_nothing(rt: HostRuntime) {
-    let mut frames = Frames::default();
-    let ((), word) = lent!(
-        rt,
-        feed(rt.alloc(), &mut frames, PIECES[0]),
-        BufError::Memory,
-        false
-    );
-    end(&rt, word, shows(&frames.rest, &[b"\x03ab"]));
-}
+// What is fed, a chunk more, and what is held then.
+const FEEDS: [(
+    &'static str,
+    &'static [&'static [u8]],
+    &'static [u8],
+    &'static [&'static [u8]],
+); 2] = rows! {
+    "feed_nothing", &[], FIRST, &[FIRST];
+    "feed_behind_a_piece", &[FIRST], SECOND, &PIECES;
+};
 
 #[test]
-fn feed_behind_a_piece(rt: HostRuntime) {
-    let mut frames = fed(rt.alloc(), Prefix::Spelled, &PIECES[..1]).expect(&rt, "a fixture");
-    let ((), word) = lent!(
-        rt,
-        feed(rt.alloc(), &mut frames, PIECES[1]),
-        BufError::Memory,
-        shows(&frames.rest, &[b"\x03ab"])
-    );
-    end(&rt, word, shows(&frames.rest, &PIECES));
+fn feeds(rt: HostRuntime) {
+    for (case, before, chunk, after) in FEEDS {
+        let mut frames = fed(rt.alloc(), Prefix::Spelled, before).expect(&rt, "a fixture");
+        let ((), word) = lent!(
+            rt,
+            feed(rt.alloc(), &mut frames, chunk),
+            BufError::Memory,
+            shows(&frames.rest, before)
+        );
+        end_case(&rt, case, word, shows(&frames.rest, after));
+    }
 }
 
-#[test]
-fn next_across_pieces(rt: HostRuntime) {
-    let mut frames = fed(rt.alloc(), Prefix::Spelled, &PIECES).expect(&rt, "a fixture");
-    let (body, word) = lent!(
-        rt,
-        frames.next(rt.alloc(), &RANGE),
-        Error::Memory,
-        shows(&frames.rest, &PIECES)
-    );
-    let body = body.expect(&rt, "a frame");
-    let is_abc = body.as_ref() == b"abc".as_slice();
-    end(&rt, word, is_abc && shows(&frames.rest, &[b"\x01d"]));
-}
+// What is fed, the body of the first frame, and what is left.
+const NEXT: [(
+    &'static str,
+    Prefix,
+    &'static [&'static [u8]],
+    Option<&'static [u8]>,
+    &'static [&'static [u8]],
+); 3] = rows! {
+    "next_across_pieces", Prefix::Spelled, &PIECES, Some(b"abc"), &[b"\x01d"];
+    "next_of_an_open_front", Prefix::Spelled, &[FIRST], None, &[FIRST];
+    "next_behind_a_fixed_length", FIXED, &FIXED_PIECES, Some(b"abc"), &[b"\0\x01d"];
+};
 
 #[test]
-fn next_of_an_open_front(rt: HostRuntime) {
-    let mut frames = fed(rt.alloc(), Prefix::Spelled, &PIECES[..1]).expect(&rt, "a fixture");
-    let (body, word) = lent!(rt, frames.next(rt.alloc(), &RANGE), Error::Memory, false);
-    end(
-        &rt,
-        word,
-        body.is_none() && shows(&frames.rest, &[b"\x03ab"]),
-    );
-}
-
-#[test]
-fn next_behind_a_fixed_length(rt: HostRuntime) {
-    let mut frames = fed(rt.alloc(), FIXED, &FIXED_PIECES).expect(&rt, "a fixture");
-    let (body, word) = lent!(
-        rt,
-        frames.next(rt.alloc(), &RANGE),
-        Error::Memory,
-        shows(&frames.rest, &FIXED_PIECES)
-    );
-    let body = body.expect(&rt, "a frame");
-    let is_abc = body.as_ref() == b"abc".as_slice();
-    end(&rt, word, is_abc && shows(&frames.rest, &[b"\0\x01d"]));
+fn next(rt: HostRuntime) {
+    for (case, prefix, before, wanted, left) in NEXT {
+        let mut frames = fed(rt.alloc(), prefix, before).expect(&rt, "a fixture");
+        let (body, word) = lent!(
+            rt,
+            frames.next(rt.alloc(), &RANGE),
+            Error::Memory,
+            shows(&frames.rest, before)
+        );
+        let body = body.as_ref().map(|body| body.as_ref());
+        end_case(&rt, case, word, body == wanted && shows(&frames.rest, left));
+    }
 }
 
 // The frames of new chunks.
@@ -130,19 +124,16 @@ fn framed_behind_a_fixed_length(rt: HostRuntime) {
     end(&rt, word, shows(&frame, &[b"\0\x03", b"abc"]));
 }
 
-#[test]
-fn a_fixed_length_is_written(rt: HostRuntime) {
-    let (length, word) = lent!(rt, FIXED.written(rt.alloc(), 3), BufError::Memory, true);
-    end(&rt, word, length.as_ref() == b"\0\x03".as_slice());
-}
+// How a length is written, the length, and its bytes.
+const WRITTEN: [(&'static str, Prefix, usize, &'static [u8]); 2] = rows! {
+    "a_fixed_length_is_written", FIXED, 3, b"\0\x03";
+    "a_length_is_written", Prefix::Spelled, 300, b"\xac\x02";
+};
 
 #[test]
-fn a_length_is_written(rt: HostRuntime) {
-    let (length, word) = lent!(
-        rt,
-        Prefix::Spelled.written(rt.alloc(), 300),
-        BufError::Memory,
-        true
-    );
-    end(&rt, word, length.as_ref() == b"\xac\x02".as_slice());
+fn written(rt: HostRuntime) {
+    for (case, prefix, n, bytes) in WRITTEN {
+        let (length, word) = lent!(rt, prefix.written(rt.alloc(), n), BufError::Memory, true);
+        end_case(&rt, case, word, length.as_ref() == bytes);
+    }
 }

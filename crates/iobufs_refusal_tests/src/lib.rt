@@ -14,17 +14,16 @@ macro_rules! rows {
 // The result of a call, and whether an allocation of it failed first. Such a failure is `$memory`, and leaves
 // `$same` true.
 macro_rules! lent {
-    ($rt:expr, $call:expr, $memory:pat, $same:expr) => {{
+    ($rt:expr, $call:expr, $memory:expr, $same:expr) => {{
         mark(&$rt, "call");
         let first = $call;
         mark(&$rt, "done");
-        match first {
-            Ok(answer) => (answer, Ended::Done),
-            Err($memory) => {
-                assert!($rt; $same, "changed by a failure");
-                ($call.expect(&$rt, "the second call"), Ended::Refused)
+        match crate::word::granted(&$rt, first, $memory) {
+            Some(answer) => (answer, Ended::Done),
+            None => {
+                crate::word::assert_unchanged(&$rt, $same);
+                (crate::word::second(&$rt, $call), Ended::Refused)
             }
-            Err(_) => panic!($rt; "another error"),
         }
     }};
 }

@@ -44,32 +44,37 @@ fn run(rt: HostRuntime) {
     end(&rt, word, replies.as_slice() == done.as_slice());
 }
 
+// Three views.
+const VIEWS: [Cmd; 3] = [
+    Cmd::Static {
+        dst: 0,
+        text: b"ab",
+    },
+    Cmd::Static {
+        dst: 1,
+        text: b"cde",
+    },
+    Cmd::Static {
+        dst: 2,
+        text: b"fg",
+    },
+];
+
+fn apply(table: &mut Table, cmd: &Cmd) -> Result<(), BufError> {
+    match table.apply(cmd) {
+        Reply::Done => Ok(()),
+        _ => Err(BufError::Memory),
+    }
+}
+
 // Three views under the names 0 to 2, and `IoBufs` of the first two of them under the name 3.
 fn filled(alloc: Global) -> Result<Table, BufError> {
     let mut table = Table::new(alloc, 4)?;
-    let mut sources = Vec::with_capacity(alloc, 2)?;
-    sources.push(0)?;
-    sources.push(1)?;
-    let cmds = [
-        Cmd::Static {
-            dst: 0,
-            text: b"ab",
-        },
-        Cmd::Static {
-            dst: 1,
-            text: b"cde",
-        },
-        Cmd::Static {
-            dst: 2,
-            text: b"fg",
-        },
-        Cmd::Gather { dst: 3, sources },
-    ];
-    for cmd in cmds {
-        if table.apply(&cmd) != Reply::Done {
-            return Err(BufError::Memory);
-        }
+    for cmd in &VIEWS {
+        apply(&mut table, cmd)?;
     }
+    let sources = Vec::from_slice(alloc, &[0, 1])?;
+    apply(&mut table, &Cmd::Gather { dst: 3, sources })?;
     Ok(table)
 }
 

@@ -1,4 +1,5 @@
 // The words that a test prints: `call` and `done` around each call, and then how the call ended.
+use std::fmt::Debug;
 use std::process::Abort;
 
 // How a call ended.
@@ -23,8 +24,38 @@ pub fn mark(rt: &(impl Print + Abort), word: &str) {
     println!(rt; "{word}").expect(rt, "the word is printed");
 }
 
+// What a call gave, or nothing where an allocation failed.
+pub fn granted<A, E: PartialEq + Drop>(
+    rt: &impl Abort,
+    first: Result<A, E>,
+    memory: E,
+) -> Option<A> {
+    match first {
+        Ok(answer) => Some(answer),
+        Err(error) => {
+            assert!(rt; error == memory, "another error");
+            None
+        }
+    }
+}
+
+pub fn assert_unchanged(rt: &impl Abort, same: bool) {
+    assert!(rt; same, "changed by a failure");
+}
+
+// What a call gives the second time.
+pub fn second<A, E: Debug + Drop>(rt: &impl Abort, answer: Result<A, E>) -> A {
+    answer.expect(rt, "the second call")
+}
+
 // How the call ended, if it gave what it should.
 pub fn end(rt: &(impl Print + Abort), ended: Ended, holds: bool) {
     assert!(rt; holds, "another answer");
     println!(rt; "{ended:?}").expect(rt, "the word is printed");
+}
+
+// How the call of a case of a table ended.
+pub fn end_case(rt: &(impl Print + Abort), case: &str, ended: Ended, holds: bool) {
+    assert!(rt; holds, "{case}: another answer");
+    println!(rt; "{case} {ended:?}").expect(rt, "the word is printed");
 }

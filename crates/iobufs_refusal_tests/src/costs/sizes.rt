@@ -63,12 +63,11 @@ fn pieces(
     length: &'static [u8],
     body: &'static [u8],
 ) -> Result<Vec<IoBuf>, BufError> {
-    let first = body.len() / 3;
-    let second = first.saturating_add(first);
-    let mut pieces = Vec::new(alloc);
-    pieces.push(IoBuf::from(length))?;
-    for range in [0..first, first..second, second..body.len()] {
-        pieces.push(IoBuf::from(body.get(range).unwrap_or_default()))?;
+    let (first, rest) = body.split_at(body.len() / 3);
+    let (second, third) = rest.split_at(rest.len() / 2);
+    let mut pieces = Vec::with_capacity(alloc, 4)?;
+    for piece in [length, first, second, third] {
+        pieces.push(IoBuf::from(piece))?;
     }
     Ok(pieces)
 }
@@ -188,13 +187,11 @@ fn assert_steps(rt: &(impl Abort + AllocGlobal), threads: u32, count: usize) -> 
         act: Act::Begin(Call::New(64, 16, 1), true),
     };
     assert!(rt; machine.step(first) == owner::Reply::Made(0), "no block");
-    let mut steps = Vec::with_capacity(rt.alloc(), count)?;
-    for _ in 0..count {
-        steps.push(Step {
-            party,
-            act: Act::Begin(Call::IsUnique(0), true),
-        })?;
-    }
+    let step = Step {
+        party,
+        act: Act::Begin(Call::IsUnique(0), true),
+    };
+    let steps = vec![in rt.alloc(); step; count]?;
     let replies = machine.run(steps.as_slice())?;
     assert!(rt; replies.len() == count, "another number of replies");
     for reply in &replies {
