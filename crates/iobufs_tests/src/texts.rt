@@ -5,7 +5,7 @@ use bytes::Bytes;
 use iobufs::bufs::IoBufs;
 use iobufs_core::buf::{IoBuf, IoBufMut};
 use iobufs_core::codec::{Buf, BufError, BufMut, OwnedBuf};
-use std::alloc::Global;
+use std::alloc::{AllocError, Global};
 use std::process::Abort;
 use std::test::Fail;
 
@@ -118,18 +118,31 @@ fn a_text_of_chunks(rt: HostRuntime) -> Result<(), Fail> {
     Ok(())
 }
 
+// A text has one chunk, of these bytes.
+fn assert_single(
+    rt: &(impl Abort + AllocGlobal),
+    text: &IoBufs,
+    wanted: &[u8],
+) -> Result<(), AllocError> {
+    assert!(rt; text.as_single().is_some(), "{text:?}");
+    assert_same!(rt; chunks(rt.alloc(), text)?.as_slice(), wanted);
+    Ok(())
+}
+
 #[test]
 fn texts_of_one_buffer(rt: HostRuntime) -> Result<(), Fail> {
     let alloc = rt.alloc();
-    let texts = [
-        IoBufs::from_mut(part(alloc, b"ab", 2)?)?,
-        IoBufs::from_vec(Vec::from_slice(alloc, b"cd")?)?,
-        IoBufs::from(Bytes::copy_from_slice(alloc, b"ef")?),
-    ];
-    for (text, wanted) in texts.iter().zip([b"ab".as_slice(), b"cd", b"ef"]) {
-        assert!(rt; text.as_single().is_some(), "{text:?}");
-        assert_same!(rt; chunks(alloc, text)?.as_slice(), wanted);
-    }
+    assert_single(&rt, &IoBufs::from_mut(part(alloc, b"ab", 2)?)?, b"ab")?;
+    assert_single(
+        &rt,
+        &IoBufs::from_vec(Vec::from_slice(alloc, b"cd")?)?,
+        b"cd",
+    )?;
+    assert_single(
+        &rt,
+        &IoBufs::from(Bytes::copy_from_slice(alloc, b"ef")?),
+        b"ef",
+    )?;
     Ok(())
 }
 

@@ -1,4 +1,2 @@
 pub mod InOrder
 pub mod Send
-pub mod Triple
-pub mod TripleLaws

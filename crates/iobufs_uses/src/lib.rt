@@ -2,8 +2,8 @@
 //!
 //! - `frame`: a frame codec. `send`: a sender of chunk lists. `store`: parts filled from a reader. `pool`, a caller of the
 //!   machine: the memory of freed blocks.
-//! - `note`, `request`: messages, and an enum, read by their parts. `triple`: a codec of its own. `alike`: code that is
-//!   generic in the value and in the reader.
+//! - `note`, `request`: messages, and an enum, read by their parts. `alike`: code that is generic in the value and in the
+//!   reader.
 //! - The contracts are in the words of the layer and its `CallerFacts`.
 #![tactic(auto)]
 
@@ -14,4 +14,3 @@ pub mod pool;
 pub mod request;
 pub mod send;
 pub mod store;
-pub mod triple;

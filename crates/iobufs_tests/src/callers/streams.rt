@@ -175,11 +175,11 @@ const READINGS: [Reading; 13] = rows! {
     "the end inside a u16", BIG_16, b"\0", false, &[1], b"", Ending::Cut;
 };
 
-fn frame_reader<'a>(
+fn frame_reader<R: Read + Drop>(
     alloc: Global,
     prefix: Prefix,
-    from: Steps<'a>,
-) -> Result<FrameReader<Steps<'a>>, AllocError> {
+    from: R,
+) -> Result<FrameReader<R>, AllocError> {
     match prefix {
         Prefix::Spelled => FrameReader::new(alloc, from, RANGE),
         _ => FrameReader::with_prefix(alloc, from, prefix, RANGE),
@@ -187,9 +187,9 @@ fn frame_reader<'a>(
 }
 
 // Takes all bodies, with `|` after each, and tells why no further one comes.
-fn take_bodies(
+fn take_bodies<R: Read + Drop>(
     alloc: Global,
-    reader: &mut FrameReader<Steps<'_>>,
+    reader: &mut FrameReader<R>,
     bodies: &mut Vec<u8>,
 ) -> Result<Ending, AllocError> {
     for _ in 0..9 {
@@ -245,7 +245,7 @@ const WRITINGS: [Writing; 5] = rows! {
     LITTLE_32, &[3], &[&[b"abc"], &[], &[b"hello"]], FRAMES_LITTLE_32;
 };
 
-fn frame_writer(prefix: Prefix, to: Recorder) -> FrameWriter<Recorder> {
+fn frame_writer<W: Write + Drop>(prefix: Prefix, to: W) -> FrameWriter<W> {
     match prefix {
         Prefix::Spelled => FrameWriter::new(to),
         _ => FrameWriter::with_prefix(to, prefix),
@@ -253,9 +253,9 @@ fn frame_writer(prefix: Prefix, to: Recorder) -> FrameWriter<Recorder> {
 }
 
 // A frame is not sent when it is put, and sent when it is sent.
-fn send_body(
+fn send_body<W: Write + Drop>(
     rt: &(impl Abort + AllocGlobal),
-    writer: &mut FrameWriter<Recorder>,
+    writer: &mut FrameWriter<W>,
     pieces: &[&'static [u8]],
 ) -> Result<(), Fail> {
     assert!(rt; writer.is_sent());
@@ -367,10 +367,10 @@ const ECHOES: [Echo; 19] = rows! {
     "the last flush", VARINT, FRAMES, false, b"", VARINT, 7, PIPE, b"\x03abc|\0|\x05hello", 0, Ending::End, ALL;
 };
 
-fn echoed(
+fn echoed<R: Read + Drop, W: Write + Drop>(
     rt: &(impl Abort + AllocGlobal),
-    from: &mut FrameReader<Steps<'_>>,
-    to: &mut FrameWriter<Recorder>,
+    from: &mut FrameReader<R>,
+    to: &mut FrameWriter<W>,
 ) -> Ending {
     assert!(rt; to.is_sent());
     match echo(rt.alloc(), from, to) {

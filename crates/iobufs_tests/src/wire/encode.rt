@@ -8,7 +8,6 @@ use iobufs::bufs::IoBufs;
 use iobufs::builder::EncodeExt;
 use iobufs_core::buf::{IoBuf, IoBufMut};
 use iobufs_core::codec::{Buf, BufMut, Encode, EncodeSize, Error, Write};
-use iobufs_uses::triple::Triple;
 use std::process::Abort;
 
 // The size of a value, and how many of its bytes are put inline.
@@ -117,18 +116,6 @@ fn inline_values(rt: HostRuntime) {
     assert_written(&rt, "four bytes", &0x04050607u32, 4, &[b"\x04\x05\x06\x07"]);
     let eight: &[u8] = b"\x08\x09\x0a\x0b\x0c\x0d\x0e\x0f";
     assert_written(&rt, "eight bytes", &0x08090a0b0c0d0e0fu64, 8, &[eight]);
-    let record = Triple {
-        kind: 1,
-        number: 0x0203,
-        place: 0x04050607,
-    };
-    assert_written(
-        &rt,
-        "a record",
-        &record,
-        7,
-        &[b"\x01\x02\x03\x04\x05\x06\x07"],
-    );
     assert_written(
         &rt,
         "two runs of zeros",

@@ -4,7 +4,6 @@ use crate::wire::chunks::{ANY, UP_TO_1024, bytewise, chunks_of, view};
 use iobufs::bufs::IoBufs;
 use iobufs_core::buf::IoBuf;
 use iobufs_core::codec::{Error, OwnedBuf, RangeCfg, Read};
-use iobufs_uses::triple::Triple;
 use std::process::Abort;
 
 const NONE: RangeCfg = RangeCfg { lo: 1, hi: 0 };
@@ -59,18 +58,13 @@ fn lengths_are_read(rt: HostRuntime) {
 }
 
 #[test]
-fn prefixes_of_a_record(rt: HostRuntime) {
-    let record = Triple {
-        kind: 1,
-        number: 0x0203,
-        place: 0x04050607,
-    };
-    let whole: &[u8] = b"\x01\x02\x03\x04\x05\x06\x07";
-    for n in 0..7 {
+fn prefixes_of_a_number(rt: HostRuntime) {
+    let whole: &[u8] = b"\x01\x02\x03\x04\x05\x06\x07\x08";
+    for n in 0..8 {
         let mut prefix = bytewise(&rt, &IoBuf::from(&whole[..n]));
-        assert_same!(rt; Triple::read_cfg(rt.alloc(), &mut prefix, &()), Err(END));
+        assert_same!(rt; u64::read_cfg(rt.alloc(), &mut prefix, &()), Err(END));
         assert_same!(rt; (prefix.len(), prefix.chunk_count()), (n, n), "the first {n} bytes");
     }
     let mut all = bytewise(&rt, &IoBuf::from(whole));
-    assert_same!(rt; Triple::read_cfg(rt.alloc(), &mut all, &()), Ok(record));
+    assert_same!(rt; u64::read_cfg(rt.alloc(), &mut all, &()), Ok(0x0102030405060708));
 }
