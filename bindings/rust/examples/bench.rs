@@ -1,10 +1,10 @@
-//! The workloads of one buffer, of texts and of parts, as a library that exports what `bench/README.md` says of a timing
-//! over the border: how many workloads there are, their names, and one run of each with its nanoseconds, its number of
-//! operations and the sum of what it saw. They do what the workloads of these names in `crates/iobufs_bench` do.
+//! bench [--sums] [NAME..]
+//!
+//! The workloads of one buffer, of texts and of parts, which do what those of these names in `crates/iobufs_bench` do. Prints
+//! the nanoseconds an operation of each, or with `--sums` what one run of each saw, and its operations.
 use iobufs::{IoBuf, IoBufMut, IoBufs, IoBufsMut};
-use std::ffi::{CString, c_char};
+use std::env;
 use std::hint::black_box;
-use std::sync::OnceLock;
 use std::time::Instant;
 
 const MIB: usize = 1 << 20;
@@ -282,87 +282,72 @@ fn parts_freeze(n: usize) -> Run {
     )
 }
 
-type Workload = (CString, Box<dyn Fn() -> Run + Send + Sync>);
+type Workload = (String, Box<dyn Fn() -> Run>);
 
-fn workloads() -> &'static [Workload] {
-    static ALL: OnceLock<Vec<Workload>> = OnceLock::new();
-    ALL.get_or_init(|| {
-        let mut all: Vec<Workload> = Vec::new();
-        let mut add =
-            |name: String, run: Box<dyn Fn() -> Run + Send + Sync>| all.push((CString::new(name).unwrap(), run));
-        add("put64_1m_freeze".into(), Box::new(put64));
-        add("put_u8_64k_freeze".into(), Box::new(put_u8));
-        add("split_1m_1k_drop".into(), Box::new(split_drop));
-        add("split_1m_1k_keep".into(), Box::new(split_keep));
-        add("clone_drop_native".into(), Box::new(|| clone_drop(native(1024))));
+fn workloads() -> Vec<Workload> {
+    let mut all: Vec<Workload> = Vec::new();
+    let mut add = |name: String, run: Box<dyn Fn() -> Run>| all.push((name, run));
+    add("put64_1m_freeze".into(), Box::new(put64));
+    add("put_u8_64k_freeze".into(), Box::new(put_u8));
+    add("split_1m_1k_drop".into(), Box::new(split_drop));
+    add("split_1m_1k_keep".into(), Box::new(split_keep));
+    add("clone_drop_native".into(), Box::new(|| clone_drop(native(1024))));
+    add(
+        "clone_drop_static".into(),
+        Box::new(|| clone_drop(IoBuf::from(b"abcdefghijklmnopqrstuvwxyz"))),
+    );
+    add("new_share_drop_64".into(), Box::new(new_share_drop));
+    add("slice_drop_64".into(), Box::new(slice_drop));
+    add("read_view_bytewise_1m".into(), Box::new(read_bytewise));
+    add("read_view_64_1m".into(), Box::new(read64));
+    add("recover_put64_freeze".into(), Box::new(recover));
+    for n in [4, 64, 4096] {
+        add(format!("text{n}_append"), Box::new(move || joined(n, IoBufs::append)));
+        add(format!("text{n}_prepend"), Box::new(move || joined(n, IoBufs::prepend)));
+        let advance = |text: &mut IoBufs| {
+            text.advance(100);
+            mark(text.chunk())
+        };
         add(
-            "clone_drop_static".into(),
-            Box::new(|| clone_drop(IoBuf::from(b"abcdefghijklmnopqrstuvwxyz"))),
+            format!("text{n}_advance100"),
+            Box::new(move || drained(n, 100, advance, 1)),
         );
-        add("new_share_drop_64".into(), Box::new(new_share_drop));
-        add("slice_drop_64".into(), Box::new(slice_drop));
-        add("read_view_bytewise_1m".into(), Box::new(read_bytewise));
-        add("read_view_64_1m".into(), Box::new(read64));
-        add("recover_put64_freeze".into(), Box::new(recover));
-        for n in [4, 64, 4096] {
-            add(format!("text{n}_append"), Box::new(move || joined(n, IoBufs::append)));
-            add(format!("text{n}_prepend"), Box::new(move || joined(n, IoBufs::prepend)));
-            let advance = |text: &mut IoBufs| {
-                text.advance(100);
-                mark(text.chunk())
-            };
-            add(
-                format!("text{n}_advance100"),
-                Box::new(move || drained(n, 100, advance, 1)),
-            );
-            add(
-                format!("text{n}_take300"),
-                Box::new(move || drained(n, 300, |text| mark(text.take_owned(300).chunk()), 0)),
-            );
-            add(
-                format!("text{n}_split1000"),
-                Box::new(move || drained(n, 1000, |text| mark(text.split_to(1000).chunk()), 0)),
-            );
-            add(format!("text{n}_len"), Box::new(move || text_len(n)));
-            add(format!("text{n}_split_mid"), Box::new(move || split_mid(n)));
-            add(format!("text{n}_coalesce"), Box::new(move || coalesced(n)));
-            add(format!("text{n}_clone_drop"), Box::new(move || text_clone_drop(n)));
-            add(format!("text{n}_walk"), Box::new(move || walk(n)));
-            add(format!("text{n}_bytewise"), Box::new(move || text_bytewise(n)));
-        }
-        for n in [2, 3, 64] {
-            add(format!("parts{n}_put64"), Box::new(move || parts_put(n, 64)));
-            add(format!("parts{n}_freeze"), Box::new(move || parts_freeze(n)));
-        }
-        all
-    })
-}
-
-/// The number of workloads.
-#[unsafe(no_mangle)]
-pub extern "C" fn bench_count() -> u32 {
-    workloads().len() as u32
-}
-
-/// The name of a workload; null behind the last.
-#[unsafe(no_mangle)]
-pub extern "C" fn bench_name(index: u32) -> *const c_char {
-    workloads()
-        .get(index as usize)
-        .map_or(std::ptr::null(), |(name, _)| name.as_ptr())
-}
-
-/// One run of a workload.
-///
-/// # Safety
-/// `operations` and `sum` may be written.
-#[unsafe(no_mangle)]
-pub unsafe extern "C" fn bench_run(index: u32, operations: *mut u64, sum: *mut u64) -> u64 {
-    let (ns, count, seen) = workloads()[index as usize].1();
-    // SAFETY: the caller's.
-    unsafe {
-        *operations = count as u64;
-        *sum = seen;
+        add(
+            format!("text{n}_take300"),
+            Box::new(move || drained(n, 300, |text| mark(text.take_owned(300).chunk()), 0)),
+        );
+        add(
+            format!("text{n}_split1000"),
+            Box::new(move || drained(n, 1000, |text| mark(text.split_to(1000).chunk()), 0)),
+        );
+        add(format!("text{n}_len"), Box::new(move || text_len(n)));
+        add(format!("text{n}_split_mid"), Box::new(move || split_mid(n)));
+        add(format!("text{n}_coalesce"), Box::new(move || coalesced(n)));
+        add(format!("text{n}_clone_drop"), Box::new(move || text_clone_drop(n)));
+        add(format!("text{n}_walk"), Box::new(move || walk(n)));
+        add(format!("text{n}_bytewise"), Box::new(move || text_bytewise(n)));
     }
-    ns
+    for n in [2, 3, 64] {
+        add(format!("parts{n}_put64"), Box::new(move || parts_put(n, 64)));
+        add(format!("parts{n}_freeze"), Box::new(move || parts_freeze(n)));
+    }
+    all
+}
+
+fn main() {
+    let words: Vec<String> = env::args().skip(1).collect();
+    let (flags, names): (Vec<&String>, Vec<&String>) = words.iter().partition(|word| *word == "--sums");
+    for (name, run) in workloads() {
+        if !names.is_empty() && !names.contains(&&name) {
+            continue;
+        }
+        if flags.is_empty() {
+            let each = |(nanos, operations, _): Run| nanos as f64 / operations as f64;
+            let least = (0..5).map(|_| each(run())).fold(f64::INFINITY, f64::min);
+            println!("{name} {least:.3}");
+        } else {
+            let (_, operations, sum) = run();
+            println!("{name} {sum} {operations}");
+        }
+    }
 }
