@@ -1,6 +1,8 @@
 //! Values that are written and read: worked by hand, and the original's test of a view as a value.
 use iobufs::codec::{BufsMut, Decode, Encode, EncodeExt, EncodeSize, RangeCfg, Read, Sink, Source, Write};
 use iobufs::{Builder, Error, IoBuf, IoBufMut, IoBufs, IoBufsMut};
+use std::fmt::Debug;
+use std::ops::RangeInclusive;
 
 #[test]
 fn test_iobuf_codec_roundtrip() {
@@ -116,6 +118,136 @@ fn refusals_change_nothing() {
     let mut view = IoBuf::from(b"\x80\x00");
     assert_eq!(IoBuf::read_cfg(&mut view, &(..).into()), Err(Error::InvalidVarint));
     assert_eq!(view.len(), 2);
+}
+
+const ANY: RangeInclusive<usize> = 0..=usize::MAX;
+
+const UP_TO_1024: RangeInclusive<usize> = 0..=1024;
+
+/// No length.
+const NONE: RangeInclusive<usize> = RangeInclusive::new(1, 0);
+
+const END: Error = Error::EndOfBuffer;
+
+const INVALID: Error = Error::InvalidVarint;
+
+/// Bytes, the lengths that are admitted, and what is read. A length takes all of the bytes, an error takes none.
+const LENGTHS: [(&[u8], RangeInclusive<usize>, Result<usize, Error>); 14] = [
+    (b"\x00", ANY, Ok(0)),
+    (b"\xac\x02", ANY, Ok(300)),
+    (b"\xff\xff\xff\xff\xff\xff\xff\xff\xff\x01", ANY, Ok(usize::MAX)),
+    (b"", UP_TO_1024, Err(END)),
+    (b"\x00", UP_TO_1024, Ok(0)),
+    (b"\x00", NONE, Err(Error::InvalidLength(0))),
+    (b"\x80\x80\x80\x80\x80\x80\x80\x80\x80", UP_TO_1024, Err(END)),
+    (b"\x80\x80\x80\x80\x80\x80\x80\x80\x80\x01", UP_TO_1024, Err(Error::InvalidLength(1 << 63))),
+    (b"\x80\x80\x80\x80\x80\x80\x80\x80\x80\x01", ANY, Ok(1 << 63)),
+    (b"\x80\x80\x80\x80\x80\x80\x80\x80\x10", ANY, Ok(1 << 60)),
+    (b"\xff\xff\xff\xff\xff\xff\xff\xff\x7f", ANY, Ok((1 << 63) - 1)),
+    (b"\x80\x80\x80\x80\x80\x80\x80\x80\x80\x00", ANY, Err(INVALID)),
+    (b"\xff\xff\xff\xff\xff\xff\xff\xff\xff\x7f", ANY, Err(INVALID)),
+    (b"\xff\xff\xff\xff\xff\xff\xff\xff\xff\xff", ANY, Err(INVALID)),
+];
+
+/// A value is read that takes so many bytes, or an error changes nothing.
+fn assert_read<T: Read + PartialEq + Debug, B: Source + Clone + PartialEq + Debug>(
+    mut buf: B,
+    cfg: &T::Cfg,
+    wanted: &Result<T, Error>,
+    taken: usize,
+) {
+    let before = buf.clone();
+    assert_eq!(&T::read_cfg(&mut buf, cfg), wanted, "{before:?}");
+    match wanted {
+        Ok(_) => assert_eq!(buf.remaining(), before.remaining() - taken),
+        Err(_) => assert_eq!(buf, before),
+    }
+}
+
+#[test]
+fn lengths_are_read() {
+    for (bytes, range, wanted) in LENGTHS {
+        let cfg = range.into();
+        assert_read(IoBuf::from(bytes), &cfg, &wanted, bytes.len());
+        assert_read(IoBufs::from(bytes), &cfg, &wanted, bytes.len());
+        assert_read(in_bytes(bytes), &cfg, &wanted, bytes.len());
+    }
+}
+
+#[test]
+fn prefixes_of_a_number() {
+    let whole = b"\x01\x02\x03\x04\x05\x06\x07\x08";
+    for n in 0..8 {
+        assert_read::<u64, _>(in_bytes(&whole[..n]), &(), &Err(END), 0);
+    }
+    assert_read(in_bytes(whole), &(), &Ok(0x0102_0304_0506_0708u64), 8);
+}
+
+/// A small generator of numbers, the same in every run.
+struct Generator(u64);
+
+impl Generator {
+    fn below(&mut self, limit: u64) -> u64 {
+        self.0 = self.0.wrapping_mul(6364136223846793005).wrapping_add(1442695040888963407);
+        (self.0 >> 32) % limit
+    }
+
+    /// A number near a power of 128, or any.
+    fn length(&mut self) -> u64 {
+        let power = 128u64.wrapping_pow(self.below(10) as u32);
+        match self.below(3) {
+            0 => self.below(40),
+            1 => power.wrapping_sub(1).wrapping_add(self.below(3)),
+            _ => power.wrapping_mul(self.below(128)),
+        }
+    }
+
+    /// A varint, perhaps one that is too long or not whole, and some bytes after it.
+    fn bytes(&mut self) -> Vec<u8> {
+        let (mut bytes, mut rest) = (Vec::new(), self.length());
+        while rest >= 128 && bytes.len() < 9 {
+            bytes.push(128 | rest as u8);
+            rest /= 128;
+        }
+        match self.below(8) {
+            0 => {}
+            1 => bytes.extend([128 | rest as u8, self.below(3) as u8]),
+            _ => bytes.push(rest as u8),
+        }
+        bytes.extend((0..self.below(40)).map(|_| self.below(256) as u8));
+        bytes
+    }
+}
+
+/// The bytes behind a length in a range, and how many the length takes, by the rules of varints.
+fn plain(bytes: &[u8], range: RangeInclusive<usize>) -> Result<(&[u8], usize), Error> {
+    let end = bytes.iter().take(10).position(|byte| *byte < 128);
+    let end = end.ok_or(if bytes.len() < 10 { END } else { INVALID })?;
+    if (end > 0 && bytes[end] == 0) || (end == 9 && bytes[end] > 1) {
+        return Err(INVALID);
+    }
+    let n = bytes[..=end].iter().rev().fold(0, |n, byte| n << 7 | usize::from(byte & 127));
+    if !range.contains(&n) {
+        return Err(Error::InvalidLength(n));
+    }
+    Ok((bytes[end + 1..].get(..n).ok_or(END)?, end + 1))
+}
+
+#[test]
+fn generated_bytes_are_read_by_the_rules() {
+    let mut generator = Generator(20261122);
+    for i in 0..10_000 {
+        let range = [UP_TO_1024, 2..=19, ANY][i % 3].clone();
+        let bytes = generator.bytes();
+        let found = plain(&bytes, range.clone());
+        let taken = found.as_ref().map_or(0, |(body, length)| body.len() + length);
+        let (cfg, wanted) = (range.into(), found.map(|(body, _)| IoBuf::copy_from_slice(body)));
+        let view = IoBuf::copy_from_slice(&bytes);
+        let pieces: IoBufs = (0..bytes.len()).map(|i| view.slice(i..=i)).collect();
+        assert_read(pieces, &cfg, &wanted, taken);
+        assert_read(IoBufs::from(view.clone()), &cfg, &wanted, taken);
+        assert_read(view, &cfg, &wanted, taken);
+    }
 }
 
 /// A value of a caller: a view between a number and a byte.

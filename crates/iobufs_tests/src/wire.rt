@@ -1,8 +1,6 @@
 // Worked examples of encoding, which no contract gives: lengths, views, and types of several fields.
 mod chunks;
 mod encode;
-mod lengths;
-mod made;
 mod message;
 mod parts;
 mod shard;

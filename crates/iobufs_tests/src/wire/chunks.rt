@@ -3,7 +3,6 @@ use crate::same::assert_same;
 use iobufs::bufs::IoBufs;
 use iobufs_core::buf::IoBuf;
 use iobufs_core::codec::{Buf, RangeCfg};
-use std::ops::Bound::Included;
 use std::process::Abort;
 
 pub const ANY: RangeCfg = RangeCfg {
@@ -11,25 +10,10 @@ pub const ANY: RangeCfg = RangeCfg {
     hi: usize::MAX,
 };
 
-pub const UP_TO_1024: RangeCfg = RangeCfg { lo: 0, hi: 1024 };
-
 pub const UP_TO_9: RangeCfg = RangeCfg { lo: 0, hi: 9 };
 
 pub fn view(bytes: &'static [u8]) -> IoBuf {
     IoBuf::from(bytes)
-}
-
-// A chunk for each byte of a view, sliced from it.
-pub fn bytewise(rt: &(impl Abort + AllocGlobal), view: &IoBuf) -> IoBufs {
-    let mut all = IoBufs::default();
-    for i in 0..view.len() {
-        let byte = view
-            .slice(Included(i), Included(i))
-            .expect(rt, "a byte is sliced");
-        all.append(rt.alloc(), byte)
-            .expect(rt, "a byte is appended");
-    }
-    all
 }
 
 // A chunk for each byte, in a buffer of its own.
