@@ -88,8 +88,11 @@ fn next(rt: HostRuntime) {
             Error::Memory,
             shows(&frames.rest, before)
         );
-        let body = body.as_ref().map(|body| body.as_ref());
-        end_case(&rt, case, word, body == wanted && shows(&frames.rest, left));
+        let is_wanted = match &body {
+            Some(body) => wanted == Some(body.as_ref()),
+            None => wanted.is_none(),
+        };
+        end_case(&rt, case, word, is_wanted && shows(&frames.rest, left));
     }
 }
 

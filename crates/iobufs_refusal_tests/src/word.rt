@@ -48,14 +48,12 @@ pub fn second<A, E: Debug + Drop>(rt: &impl Abort, answer: Result<A, E>) -> A {
     answer.expect(rt, "the second call")
 }
 
-// How the call ended, if it gave what it should.
-pub fn end(rt: &(impl Print + Abort), ended: Ended, holds: bool) {
+// How the call of a case of a table ended, if it gave what it should.
+pub fn end_case(rt: &(impl Print + Abort), case: &str, ended: Ended, holds: bool) {
     assert!(rt; holds, "another answer");
-    println!(rt; "{ended:?}").expect(rt, "the word is printed");
+    println!(rt; "{case} {ended:?}").expect(rt, "the word is printed");
 }
 
-// How the call of a case of a table ended.
-pub fn end_case(rt: &(impl Print + Abort), case: &str, ended: Ended, holds: bool) {
-    assert!(rt; holds, "{case}: another answer");
-    println!(rt; "{case} {ended:?}").expect(rt, "the word is printed");
+pub fn end(rt: &(impl Print + Abort), ended: Ended, holds: bool) {
+    end_case(rt, "", ended, holds);
 }

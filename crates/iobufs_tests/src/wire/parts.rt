@@ -116,33 +116,35 @@ const REQUESTS: [(&'static str, Asked, &'static [&'static [u8]]); 3] = rows! {
 
 const CFG: <RequestParts as Look>::Cfg = ((UP_TO_9, ()), ((UP_TO_9, UP_TO_9), ()));
 
-// A value is written as these chunks, and read from them and from their bytes.
+// A value, given four times, is written as these chunks, and read from them and from their bytes.
 fn assert_parted<T: IntoParts + PartialEq + Drop>(
     rt: &(impl Abort + AllocGlobal),
     what: &str,
-    make: &impl Fn() -> T,
+    values: [T; 4],
     chunks: &[&[u8]],
     cfg: &<T::Parts as Look>::Cfg,
 )
 where
     T::Parts: Write,
 {
-    let (bytes, value) = (concatenated(rt, chunks), make());
-    assert_same!(rt; make().into_parts().encode_size(), Some(bytes.len()), "{what}");
-    let encoded = make().encode(rt.alloc()).expect(rt, what);
+    let [parts, whole, pieces, value] = values;
+    let bytes = concatenated(rt, chunks);
+    assert_same!(rt; parts.into_parts().encode_size(), Some(bytes.len()), "{what}");
+    let encoded = whole.encode(rt.alloc()).expect(rt, what);
     assert_same!(rt; encoded.as_ref(), bytes.as_slice(), "{what}");
-    let mut pieces: IoBufs = make().encode_iobufs(rt.alloc()).expect(rt, what);
+    let mut pieces: IoBufs = pieces.encode_iobufs(rt.alloc()).expect(rt, what);
     assert_chunks(rt, what, &pieces, chunks);
     let read = T::read_whole(rt.alloc(), &mut pieces, cfg).expect(rt, what);
     assert!(rt; read == value && pieces.is_empty(), "{what}: another value");
-    assert_by_parts(rt, what, &bytes, cfg, &value);
+    assert_by_parts(rt, what, &bytes, cfg, &read);
     assert_prefixes::<T::Parts>(rt, what, &bytes, cfg);
 }
 
 #[test]
 fn requests(rt: HostRuntime) {
     for (name, asked, chunks) in REQUESTS {
-        assert_parted(&rt, name, &|| request(asked), chunks, &CFG);
+        let values = [(); 4].map(|()| request(asked));
+        assert_parted(&rt, name, values, chunks, &CFG);
     }
 }
 
@@ -166,25 +168,14 @@ const NO_REQUESTS: [(&'static str, &'static [u8], Fault); 3] = rows! {
     "a long key", b"\x01\x0aabcdefghij\0", Fault::Codec(Error::InvalidLength(10));
 };
 
-// Reading a value by its parts fails with this fault, and leaves the bytes.
-fn assert_not_parted<T: ByParts + Drop>(
-    rt: &(impl Abort + AllocGlobal),
-    what: &str,
-    bytes: &'static [u8],
-    cfg: &<T::Parts as Look>::Cfg,
-    fault: Fault,
-) {
-    let mut parts = copied_bytewise(rt, bytes);
-    assert_refused::<T::Parts, IoBufs>(rt, what, &mut parts, cfg, fault);
-    let mut view = view(bytes);
-    assert_same!(rt; T::read_whole(rt.alloc(), &mut view, cfg).err(), Some(fault), "{what}");
-    assert_same!(rt; view.as_ref(), bytes, "{what}");
-}
-
 #[test]
 fn bytes_that_are_no_request(rt: HostRuntime) {
     for (what, bytes, fault) in NO_REQUESTS {
-        assert_not_parted::<Request>(&rt, what, bytes, &CFG, fault);
+        let mut parts = copied_bytewise(&rt, bytes);
+        assert_refused::<RequestParts, IoBufs>(&rt, what, &mut parts, &CFG, fault);
+        let mut view = view(bytes);
+        assert_same!(rt; Request::read_whole(rt.alloc(), &mut view, &CFG).err(), Some(fault), "{what}");
+        assert_same!(rt; view.as_ref(), bytes, "{what}");
     }
 }
 
