@@ -132,7 +132,9 @@ const END: Error = Error::EndOfBuffer;
 const INVALID: Error = Error::InvalidVarint;
 
 /// Bytes, the lengths that are admitted, and what is read. A length takes all of the bytes, an error takes none.
-const LENGTHS: [(&[u8], RangeInclusive<usize>, Result<usize, Error>); 14] = [
+type Case = (&'static [u8], RangeInclusive<usize>, Result<usize, Error>);
+
+const LENGTHS: [Case; 14] = [
     (b"\x00", ANY, Ok(0)),
     (b"\xac\x02", ANY, Ok(300)),
     (b"\xff\xff\xff\xff\xff\xff\xff\xff\xff\x01", ANY, Ok(usize::MAX)),
