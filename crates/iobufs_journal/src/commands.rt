@@ -35,13 +35,14 @@ fn cut<D: Disk>(disk: &mut D, ending: Ending) -> Result<u64, Failure> {
     Ok(len.saturating_sub(ending.taken))
 }
 
-// The number of a journal's records after its torn end, if it has one, is cut off.
-fn cut_back<D: Disk>(alloc: Global, disk: &mut D) -> Result<u64, Failure> {
+// The number of a journal's records once its torn end, if it has one, is cut off, and whether they are synced.
+fn cut_back<D: Disk>(alloc: Global, disk: &mut D) -> Result<(u64, bool), Failure> {
     let ending = print(alloc, &mut front(disk)?, &mut io::sink())?;
     if planned(ending.end, true, false) == Plan::Cut {
         cut(disk, ending)?;
+        return Ok((ending.found, true));
     }
-    Ok(ending.found)
+    Ok((ending.found, disk.flush().is_ok()))
 }
 
 /// Appends the lines of a reader as records to a journal that is whole. If it fails then, it tells how many it appended.
@@ -65,11 +66,13 @@ pub fn append<D: Disk, R: Read, W: Write>(
         Err(failure) => failure,
     };
     let _ = match cut_back(alloc, disk) {
-        Ok(found) => {
+        Ok((found, is_synced)) => {
             let lines = found.saturating_sub(ending.found);
-            let but = match failure {
-                Failure::Unsynced(_) => ", but a crash may lose some",
-                _ => "",
+            let is_safe = is_synced && !matches!(failure, Failure::Unsynced(_));
+            let but = if is_safe {
+                ""
+            } else {
+                ", but a crash may lose some"
             };
             writeln!(told, "{name}: {lines} lines were appended{but}")
         }
