@@ -223,7 +223,7 @@ fn compared<B: Counted>(
     }
 }
 
-// What a call gives the second time.
+// The result of a second call.
 fn again<B: Counted>(
     alloc: Global,
     shape: &Shape,

@@ -40,7 +40,7 @@ fn feed(alloc: Global, frames: &mut Frames, chunk: &'static [u8]) -> Result<(), 
     }
 }
 
-// What is fed, a chunk more, and what is held then.
+// A name, fed chunks, a chunk more, and those that are held then.
 const FEEDS: [(
     &'static str,
     &'static [&'static [u8]],
@@ -65,7 +65,7 @@ fn feeds(rt: HostRuntime) {
     }
 }
 
-// What is fed, the body of the first frame, and what is left.
+// A name, a prefix, fed chunks, the body of the first frame, and the chunks that are left.
 const NEXT: [(
     &'static str,
     Prefix,

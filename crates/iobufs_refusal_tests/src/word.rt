@@ -24,7 +24,7 @@ pub fn mark(rt: &(impl Print + Abort), word: &str) {
     println!(rt; "{word}").expect(rt, "the word is printed");
 }
 
-// What a call gave, or nothing where an allocation failed.
+// The result of a call, or nothing if an allocation failed.
 pub fn granted<A, E: PartialEq + Drop>(
     rt: &impl Abort,
     first: Result<A, E>,
@@ -43,7 +43,7 @@ pub fn assert_unchanged(rt: &impl Abort, same: bool) {
     assert!(rt; same, "changed by a failure");
 }
 
-// What a call gives the second time.
+// The result of a second call.
 pub fn second<A, E: Debug + Drop>(rt: &impl Abort, answer: Result<A, E>) -> A {
     answer.expect(rt, "the second call")
 }
