@@ -15,7 +15,6 @@ pub mod Reserved
 pub mod GoodPlaces
 pub mod Walk
 pub mod Sole
-pub mod OneAnswer
 pub use TryIntoMut.*
 pub use New.*
 pub use Run.*
@@ -25,4 +24,3 @@ pub use Reserved.*
 pub use GoodPlaces.*
 pub use Walk.*
 pub use Sole.*
-pub use OneAnswer.*

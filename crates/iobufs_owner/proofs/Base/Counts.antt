@@ -1,5 +1,5 @@
 -- How a count changes with its list.
-use Rattle.iobufs_owner.proofs.Base.Known.{◌≡◌, ◌≢◌, ℕ, zero, suc, ◌+◌, ◌<◌, ◌≤◌, Bool, true, false, cond, List, [], ◌∷◌, ◌++◌, length, get_or, set, map, ap, refl, arith, Option, Some, map-append, map-set, World, LiveHandle, Unfinished, Dropping, holds, holders, users, still_holds, drops, tally, reading, read_handle, read_call, State, Handle, Pending, Tables, eqb_tells, inl, inr}
+use Rattle.iobufs_owner.proofs.Base.Known.{◌≡◌, ◌≢◌, ℕ, zero, suc, ◌+◌, ◌<◌, ◌≤◌, Bool, true, false, cond, List, [], ◌∷◌, ◌++◌, length, get_or, set, map, ap, refl, arith, Option, Some, World, Unfinished, Dropping, holds, holders, users, still_holds, drops, tally, reading, read_handle, read_call, State, Handle, Pending, Tables, eqb_tells, inl, inr}
 
 -- an element after a list adds one to the count where it passes, else nothing
 pub count-append : {X : Type 0} (p : X → Bool) (xs : List X) (y : X) → tally p (xs ++ y ∷ []) ≡ tally p xs + cond (p y) 1 0
@@ -71,16 +71,6 @@ holders-as s b = omega (arith, count-map (holds b) (read_handle s.tables) s.hand
 pub users-as : (s : State) (b : ℕ) → users (reading s) b ≡ tally (held_by s.tables b) s.handles + tally (drops_by s.tables b) s.calls
 unfolding users
 users-as s b = omega (arith, count-map (holds b) (read_handle s.tables) s.handles, count-map (drops b) (read_call s.tables) s.calls)
-
--- reading, after a handle more and after a handle changed
-pub reading-append : (s : State) (x : Option Handle) → reading (record s { handles = s.handles ++ x ∷ [] })
-    ≡ record (reading s) { handles = (reading s).handles ++ read_handle s.tables x ∷ [] }
-reading-append s x = ap (λ (hs : List (Option LiveHandle)). record (reading s) { handles = hs }) (map-append (read_handle s.tables) s.handles (x ∷ []))
-
--- another handle under a number is, read, another handle of the world there
-pub reading-set : (s : State) (h : ℕ) (x : Option Handle)
-    → reading (record s { handles = set s.handles h x }) ≡ record (reading s) { handles = set (reading s).handles h (read_handle s.tables x) }
-reading-set s h x = ap (λ (hs : List (Option LiveHandle)). record (reading s) { handles = hs }) (map-set (read_handle s.tables) s.handles h x)
 
 drops-more : (b : ℕ) (c : Option Unfinished) → still_holds b c ≡ true → drops b c ≡ true
 drops-more b (Some (Dropping c true left)) e = absurd (cc)

@@ -1,8 +1,9 @@
 -- The meaning of a handle's word in a sound machine; and puts, advances, freezes and recoveries in place keep it sound.
-use Rattle.iobufs_owner.proofs.Base.Known.{◌≡◌, inl, inr, ℕ, ◌+◌, ◌-◌, ◌%◌, ◌^◌, ◌<◌, ◌≤◌, ◌&&◌, ◌||◌, zero, suc, get_or, List, [], ◌∷◌, Bool, true, false, Option, Some, None, SomeIff, sym, ◌∙◌, ap, subst, refl, arith, length, leb_tells, mod-eq_of_lt, Handle, View, Mut, Record, Kind, Block, Pending, Word, Empty, Descriptor, Counted, HasRoom, IsWord, word_of, State, Tables, owner_of, base_by, block_with, handle_at, record_at, block_at, size_in, tail_in, retailed, edited, detached_handle, is_lent, Lends, advanced, frozen, thawed, is_mut, holders, is_block, reading, read_handle, read_call, IsSound, FitsWord, DescribesBlock, HoldsNothing, IsDescribed, IsCounted, LiesIn, LeavesBehind, alone, describes, is_descriptor, hidden, pow_pos, length-map, nat_tests, and_right, IsPlace, eqb_tells, log_below, log_of}
+use Rattle.iobufs_owner.proofs.Base.Known.{◌≡◌, inl, inr, ℕ, ◌+◌, ◌-◌, ◌%◌, ◌^◌, ◌<◌, ◌≤◌, ◌&&◌, ◌||◌, zero, suc, get_or, List, [], ◌∷◌, Bool, true, false, Option, Some, None, SomeIff, sym, ◌∙◌, ap, subst, refl, arith, length, leb_tells, mod-eq_of_lt, Handle, View, Mut, Record, Kind, Block, Pending, Word, Empty, Descriptor, Counted, HasRoom, IsWord, word_of, State, Tables, owner_of, base_by, block_with, handle_at, record_at, block_at, size_in, tail_in, retailed, edited, is_lent, Lends, advanced, frozen, thawed, is_mut, holders, is_block, reading, read_handle, read_call, IsSound, FitsWord, DescribesBlock, HoldsNothing, IsDescribed, IsCounted, LiesIn, LeavesBehind, alone, describes, is_descriptor, hidden, pow_pos, length-map, nat_tests, and_right, IsPlace, eqb_tells, log_below, log_of}
 use Rattle.iobufs_owner.proofs.Base.Words.{word-size, word-tail, retailed-is, log-below}
-use Rattle.iobufs_owner.proofs.Base.StaysSound.{sound-edited, at-some, owner-empty, owner-counted}
-use Rattle.iobufs_owner.proofs.Base.Lent.{owner-same, base-mut}
+use Rattle.iobufs_owner.proofs.Base.Kept.{at-some}
+use Rattle.iobufs_owner.proofs.Base.StaysSound.{sound-edited, owner-empty, owner-counted}
+use Rattle.iobufs_owner.proofs.Base.Lent.{owner-same}
 use Rattle.iobufs_owner.proofs.Base.Counts.{count-some, holders-few}
 
 -- in a sound machine a handle fits the tables, by its word
@@ -152,12 +153,9 @@ fits-again g calls x y (Counted r) same o lies behind nothing f = record {
   native = λ m. f.native (sym same ∙ m);
 }
 
-put-lies : (b : Block) (x : Handle) (n : ℕ) → x.kind ≡ Mut → n ≤ x.cap - x.len → LiesIn b x x.kind → LiesIn b (record x { len = x.len + n }) x.kind
-put-lies b x n m l f = let lies = rw m at f in rw m (record { begins = lies.begins; ends = lies.ends; within = omega (arith, lies.within) })
-
 -- bytes put to a writable handle leave the block that it holds
 pub owner-put : (g : Tables) (x : Handle) (n : ℕ) → x.kind ≡ Mut → owner_of g (record x { len = x.len + n }) ≡ owner_of g x
-owner-put g x n m = owner-same g x (record x { len = x.len + n }) refl (base-mut g x (record x { len = x.len + n }) m m refl)
+owner-put g x n m = owner-same g x (record x { len = x.len + n }) refl (λ w. rw m refl)
 
 -- bytes put to a writable handle that no call borrows, within its capacity, keep the machine sound
 pub sound-put : (s : State) (h : ℕ) (x : Handle) (n : ℕ) → IsSound s → Lends s h Mut x → n ≤ x.cap - x.len → IsSound (edited s h (record x { len = x.len + n }))
@@ -165,7 +163,9 @@ sound-put s h x n k t l =
     let y : Handle = record x { len = x.len + n } in
     let o = owner-put s.tables x n t.kind_is in
     sound-edited s h x y k t.at t.free o (λ b. rw o refl) (λ b a. alone-at s h x b k t.at (rw o at a))
-    (fits-again s.tables s.calls x y x.word refl o (λ b f. put-lies b x n t.kind_is l f) (λ b tail f. rw t.kind_is (rw t.kind_is at f))
+    (fits-again s.tables s.calls x y x.word refl o (λ b f.
+    let lies = rw t.kind_is at f in rw t.kind_is (record { begins = lies.begins; ends = lies.ends; within = omega (arith, l, lies.within) }))
+    (λ b tail f. rw t.kind_is (rw t.kind_is at f))
     (λ f. let z = f.no_bytes t.kind_is in record {
       no_room = f.no_room;
       ends = omega (arith, f.no_room, f.ends);
@@ -227,7 +227,6 @@ sound-advanced s h x n k at free l =
 pub base-frozen : (g : Tables) (x : Handle) (w b log tail : ℕ) → x.kind ≡ Mut → x.len ≤ x.cap → IsDescribed g x w b log tail
     → x.cap - x.len < 2 ^ g.tail_bits → base_by g (frozen x (Descriptor (retailed g w (x.cap - x.len)))) (retailed g w (x.cap - x.len)) ≡ base_by g x w
 base-frozen g x w b log tail m c d l =
-    let n : ℕ = x.cap - x.len in
     let room = room-again g x w b log tail (x.cap - x.len) d l in
     let word = word-again g x w b log tail (x.cap - x.len) d in
     let size = word-size g.align_bits g.tail_bits g.size_bits (retailed g w (x.cap - x.len)) (block_at g b).size log (x.cap - x.len) room word in
@@ -250,6 +249,11 @@ empty-at s h x k at i = subst (λ (v : Word). FitsWord s.tables s.calls x v) i (
 -- a handle of this kind lies in its block as this kind does
 pub lies-as : (b : Block) (x : Handle) (kind : Kind) → x.kind ≡ kind → LiesIn b x x.kind → LiesIn b x kind
 lies-as b x kind e l = subst (λ (q : Kind). LiesIn b x q) e l
+
+-- the view that a handle in its block becomes is in it too
+pub frozen-lies : (b : Block) (x : Handle) (w : Word) (kind : Kind) → LiesIn b x kind → LiesIn b (frozen x w) View
+frozen-lies b x w View l = record { begins = l.begins; ends = l.ends; no_room = refl }
+frozen-lies b x w Mut l = record { begins = l.begins; ends = omega (arith, l.ends, l.within); no_room = refl }
 
 -- where a handle lies isn't told by its word
 pub lies-still : (b : Block) (x : Handle) (v : Word) (kind : Kind) → LiesIn b x kind → LiesIn b (record x { word = v }) kind
@@ -348,29 +352,10 @@ sound-frozen_described s h x w k t i l =
 pub sound-frozen_counted : (s : State) (h : ℕ) (x : Handle) (r : ℕ) → IsSound s → Lends s h Mut x → x.word ≡ Counted r
     → IsSound (edited s h (frozen x (Counted r)))
 sound-frozen_counted s h x r k t i =
-    let lies = lies-as (block_at s.tables (record_at s.tables r).block) x Mut t.kind_is (counted-at s h x r k t.at i).lies in
     sound-recounted s h x (frozen x (Counted r)) Mut r k t i refl refl
-    (record { begins = lies.begins; ends = omega (arith, lies.ends, lies.within); no_room = refl })
-
--- a writable handle without block that no call borrows becomes a view, and the machine stays sound
-pub sound-frozen_empty : (s : State) (h : ℕ) (x : Handle) → IsSound s → Lends s h Mut x → x.word ≡ Empty → IsSound (edited s h (frozen x Empty))
-sound-frozen_empty s h x k t i =
-    let f = empty-at s h x k t.at i in
-    sound-emptied s h x (frozen x Empty) Mut k t i refl (record { no_room = refl; ends = f.ends; no_bytes = λ m. absurd (cc) })
-
--- a handle without block becomes the detached view
-pub sound-detached_empty : (s : State) (h : ℕ) (x : Handle) (kind : Kind) → IsSound s → Lends s h kind x → x.word ≡ Empty
-    → IsSound (edited s h (detached_handle 0))
-sound-detached_empty s h x kind k t i =
-    sound-emptied s h x (detached_handle 0) kind k t i refl (record { no_room = refl; ends = omega arith; no_bytes = λ m. refl })
+    (frozen-lies (block_at s.tables (record_at s.tables r).block) x (Counted r) x.kind (counted-at s h x r k t.at i).lies)
 
 -- ---- TryIntoMut
-
--- an empty view without block that no call borrows becomes writable, and the machine stays sound
-pub sound-thawed_empty : (s : State) (h : ℕ) (x : Handle) → IsSound s → Lends s h View x → x.word ≡ Empty → x.len ≡ 0 → IsSound (edited s h (thawed x 0 Empty))
-sound-thawed_empty s h x k t i z =
-    let f = empty-at s h x k t.at i in
-    sound-emptied s h x (thawed x 0 Empty) View k t i refl (record { no_room = refl; ends = f.ends; no_bytes = λ m. z })
 
 -- a view by a descriptor gives the same base as a writable handle with the tail for spare bytes and a descriptor of tail 0
 pub base-thawed : (g : Tables) (x : Handle) (w b log tail : ℕ) → x.kind ≡ View → IsDescribed g x w b log tail
@@ -421,20 +406,6 @@ sound-thawed_counted s h x r k t i native one =
     })
 
 -- ---- what a handle finds
-
--- a descriptor is a word of the format, and its tail leads to the end of the block
-pub word-at : (s : State) (h : ℕ) (x : Handle) (w : ℕ) → IsSound s → handle_at s h ≡ Some x → x.word ≡ Descriptor w
-    → IsWord s.tables.align_bits s.tables.tail_bits s.tables.size_bits w
-word-at s h x w k at i = let d = described-at s h x w k at i in word-fits s x w d.block d.log d.tail k d.says
-
--- in a sound machine a view by a descriptor and the tail after it are less than 2^64 bytes together
-pub tail-small : (s : State) (h : ℕ) (x : Handle) (w : ℕ) → IsSound s → Lends s h View x → x.word ≡ Descriptor w → x.len + tail_in s.tables w < 2 ^ 64
-tail-small s h x w k t i =
-    let d = described-at s h x w k t.at i in
-    let behind = behind-as (block_at s.tables d.block) x d.tail View t.kind_is d.says.behind in
-    let tail = tail-says s.tables x w d.block d.log d.tail d.says in
-    let ends = (k.blocks.places d.block no_block d.says.known).ends in
-    rw tail (omega (arith, behind, ends))
 
 -- the value of a `Some`
 pub same-some : (o : Option ℕ) (v : ℕ) (P : Type 0) (w : ℕ) → o ≡ Some v → SomeIff o P w → v ≡ w

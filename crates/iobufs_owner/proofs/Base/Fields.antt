@@ -11,3 +11,7 @@ pub still : {m n : Inside} → IsReady m → length n.blocks.items ≡ length m.
     → vec_capacity n.freed_blocks ≡ vec_capacity m.freed_blocks → vec_capacity n.freed_records ≡ vec_capacity m.freed_records → IsSound (state_of n)
     → IsReady n
 still k b r f g sound = record { sound = sound; block_room = rw (b, f) k.block_room; record_room = rw (r, g) k.record_room }
+
+-- the state that users see is sound
+pub now : {m : Inside} {n : Seen} → IsReady m → seen_of m ≡ n → IsSound n.state
+now k e = subst IsSound (ap (λ (n : Seen). n.state) e) k.sound

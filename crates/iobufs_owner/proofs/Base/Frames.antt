@@ -1,7 +1,7 @@
 -- Tables that keep what handles and calls speak of leave readings, counts, holders and users as they were; and blocks
 -- by their bases.
-use Rattle.iobufs_owner.proofs.Base.Known.{releases, holds, drops, still_holds, ◌≡◌, ◌≢◌, ℕ, ◌+◌, ◌==◌, Bool, true, false, cond, List, [], ◌∷◌, ◌++◌, length, map, ap, refl, arith, All, Option, Some, None, option_map, length-append, All-head, All-tail, get_or_append_left, State, Tables, block_with, tally, read_handle, read_call, Fits, alone, describes, Block, Handle, Pending, eq-eqb, ne_eqb, LiveHandle, IsSound, Unfinished, sym, ◌∙◌}
-use Rattle.iobufs_owner.proofs.Base.Kept.{Keeps, owner-kept, KeepsLetGo, calls-read-kept, releases-kept}
+use Rattle.iobufs_owner.proofs.Base.Known.{releases, holds, drops, still_holds, ◌≡◌, ◌≢◌, ℕ, ◌+◌, ◌==◌, Bool, true, false, cond, List, [], ◌∷◌, ◌++◌, length, map, ap, refl, arith, All, Option, Some, None, option_map, length-append, All-head, All-tail, get_or_append_left, State, Tables, block_with, tally, read_handle, read_call, Fits, alone, describes, Block, Handle, Pending, eq-eqb, ne_eqb, LiveHandle, IsSound, Unfinished, sym, ◌∙◌, FitsCall}
+use Rattle.iobufs_owner.proofs.Base.Kept.{Keeps, owner-kept, KeepsLetGo, calls-read-kept, release-kept}
 use Rattle.iobufs_owner.proofs.Base.Counts.{count-map, held_by, still_by, drops_by}
 
 pub read-kept : (g k : Tables) (calls : List (Option Pending)) (o : Option Handle) → Keeps g k → Fits g calls o → read_handle k o ≡ read_handle g o
@@ -15,21 +15,10 @@ handles-kept g k calls [] e f = refl
 handles-kept g k calls (o ∷ hs) e f =
     rw (read-kept g k calls o e (All-head (Fits g calls) o hs f), handles-kept g k calls hs e (All-tail (Fits g calls) o hs f)) refl
 
--- as many handles that fit have to be alone on a block, by tables that keep what they speak of
-pub alone-kept : (g k : Tables) (calls : List (Option Pending)) (b : ℕ) (hs : List (Option Handle)) → Keeps g k → All (Fits g calls) hs
-    → tally (alone k b) hs ≡ tally (alone g b) hs
-alone-kept g k calls b [] e f = refl
-alone-kept g k calls b (None ∷ hs) e f = rw (alone-kept g k calls b hs e (All-tail (Fits g calls) None hs f)) refl
-alone-kept g k calls b (Some x ∷ hs) e f =
-    rw (owner-kept g k calls x e (All-head (Fits g calls) (Some x) hs f), alone-kept g k calls b hs e (All-tail (Fits g calls) (Some x) hs f)) refl
-
--- as many handles that fit describe a block, by tables that keep what they speak of
-pub describes-kept : (g k : Tables) (calls : List (Option Pending)) (b : ℕ) (hs : List (Option Handle)) → Keeps g k → All (Fits g calls) hs
-    → tally (describes k b) hs ≡ tally (describes g b) hs
-describes-kept g k calls b [] e f = refl
-describes-kept g k calls b (None ∷ hs) e f = rw (describes-kept g k calls b hs e (All-tail (Fits g calls) None hs f)) refl
-describes-kept g k calls b (Some x ∷ hs) e f =
-    rw (owner-kept g k calls x e (All-head (Fits g calls) (Some x) hs f), describes-kept g k calls b hs e (All-tail (Fits g calls) (Some x) hs f)) refl
+-- as many elements of a list pass another test that agrees on those that fit
+tally-kept : {X : Type 0} (P : X → Type 0) (p q : X → Bool) (xs : List X) → ((x : X) → P x → p x ≡ q x) → All P xs → tally p xs ≡ tally q xs
+tally-kept P p q [] e f = refl
+tally-kept P p q (x ∷ xs) e f = rw (e x (All-head P x xs f), tally-kept P p q xs e (All-tail P x xs f)) refl
 
 -- ---- the first block with a base
 found-step : (v : Bool) (o p : Option ℕ) (b : ℕ) → ((c : ℕ) → o ≡ Some c → p ≡ Some c) → cond v (Some 0) (option_map (λ i. i + 1) o) ≡ Some b
@@ -88,7 +77,11 @@ alike s k i e a =
           ∙ count-map (still_holds b) (read_call s.tables) s.calls;
       drops = λ b. sym (count-map (drops b) (read_call k) s.calls) ∙ ap (λ (xs : List (Option Unfinished)). tally (drops b) xs) cs
           ∙ count-map (drops b) (read_call s.tables) s.calls;
-      alone = λ b. alone-kept s.tables k s.calls b s.handles e i.fit;
-      describes = λ b. describes-kept s.tables k s.calls b s.handles e i.fit;
-      releases = λ b. releases-kept s k b s.calls e i.calls_fit;
+      alone = λ b. tally-kept (Fits s.tables s.calls) (alone k b) (alone s.tables b) s.handles
+          (λ o. elim o as (λ o. Fits s.tables s.calls o → alone k b o ≡ alone s.tables b o)
+          [ None ↦ λ f. refl | Some x ↦ λ f. rw (owner-kept s.tables k s.calls x e f) refl ]) i.fit;
+      describes = λ b. tally-kept (Fits s.tables s.calls) (describes k b) (describes s.tables b) s.handles
+          (λ o. elim o as (λ o. Fits s.tables s.calls o → describes k b o ≡ describes s.tables b o)
+          [ None ↦ λ f. refl | Some x ↦ λ f. rw (owner-kept s.tables k s.calls x e f) refl ]) i.fit;
+      releases = λ b. tally-kept (FitsCall s) (releases k b) (releases s.tables b) s.calls (λ c f. release-kept s k b c e f) i.calls_fit;
     }

@@ -1,7 +1,7 @@
 -- Holders and users as counts over the machine's own lists.
 use Rattle.iobufs_owner.proofs.Base.Known.{◌≡◌, ℕ, ◌+◌, ◌<◌, ◌≤◌, ◌==◌, ◌&&◌, ◌||◌, Bool, true, false, cond, get_or, refl, arith, Option, Some, None, State, Tables, owner_of, record_at, handle_at, Dropping, holds, holders, users, still_holds, drops, tally, reading, read_handle, read_call, has_let_go, alone, describes, is_descriptor, releases, is_mut, Handle, Pending, Subtract, Release, eq-eqb, and_parts}
+use Rattle.iobufs_owner.proofs.Base.Kept.{at-some}
 use Rattle.iobufs_owner.proofs.Base.Counts.{count-some, count-most, held_by, holders-as, users-as}
-use Rattle.iobufs_owner.proofs.Base.StaysSound.{at-some}
 
 -- a handle that has to be alone on a block holds it
 pub alone-holds : (g : Tables) (b : ℕ) (o : Option Handle) → alone g b o ≡ true → holds b (read_handle g o) ≡ true

@@ -1,5 +1,5 @@
 -- Tables that keep what live handles and calls speak of (`Keeps`): handles and calls that fit go on to fit.
-use Rattle.iobufs_owner.proofs.Base.Known.{◌≡◌, ◌≢◌, inl, inr, set, ℕ, zero, suc, ◌<◌, ◌≤◌, ◌==◌, Bool, true, false, List, [], ◌∷◌, length, get_or, map, sym, ◌∙◌, ap, refl, arith, All, Option, Some, None, length-set, get_or-set_same, get_or-set_other, All-from_get_or, All-head, All-tail, All-weaker, eqb_tells, State, Tables, owner_of, owner_by, base_by, record_at, block_at, handle_at, call_at, block_with, holders, tally, reading, read_call, has_let_go, borrows_it, is_lent, FitsWord, Fits, FitsCall, Shares, SpeaksOf, IsDescribed, hidden, releases, Handle, Share, Pending, Loaded, Ready, Add, Subtract, Release, Word, Empty, Descriptor, Counted, eq-eqb, or_right}
+use Rattle.iobufs_owner.proofs.Base.Known.{IsSound, IsCounted, ◌≡◌, ◌≢◌, inl, inr, set, ℕ, zero, suc, ◌<◌, ◌≤◌, ◌==◌, Bool, true, false, List, [], ◌∷◌, length, get_or, map, sym, ◌∙◌, ap, refl, arith, All, Option, Some, None, length-set, get_or-set_same, get_or-set_other, All-from_get_or, All-head, All-tail, eqb_tells, State, Tables, owner_of, owner_by, base_by, record_at, block_at, handle_at, call_at, block_with, holders, reading, read_call, has_let_go, borrows_it, is_lent, FitsWord, Fits, FitsCall, Shares, SpeaksOf, IsDescribed, hidden, releases, Handle, Share, Pending, Loaded, Ready, Add, Subtract, Release, Word, Empty, Descriptor, Counted, eq-eqb, Record, list_any_at}
 
 -- tables that keep what live handles and calls speak of: the bits, each block, the block of each live record
 pub record Keeps (g k : Tables) : Type 0 where
@@ -11,17 +11,23 @@ pub record Keeps (g k : Tables) : Type 0 where
   pub with' : (base b : ℕ) → block_with base g.blocks ≡ Some b → block_with base k.blocks ≡ Some b
   pub records : (r : ℕ) → (record_at g r).live ≡ true → (record_at k r).block ≡ (record_at g r).block
 
--- unchanged tables keep what live handles and calls speak of
-pub keeps-self : (g : Tables) → Keeps g g
-keeps-self g = record {
+-- tables with other records keep what live handles and calls speak of, if each live record keeps its block
+pub keeps-records : (g : Tables) (rs : List Record)
+    → ((r : ℕ) → (record_at g r).live ≡ true → (record_at (record g { records = rs }) r).block ≡ (record_at g r).block)
+    → Keeps g (record g { records = rs })
+keeps-records g rs same = record {
   align_bits = refl;
   tail_bits = refl;
   size_bits = refl;
   longer = omega arith;
   blocks = λ b h. refl;
   with' = λ base b h. h;
-  records = λ r h. refl;
+  records = same;
 }
+
+-- unchanged tables keep what live handles and calls speak of
+pub keeps-self : (g : Tables) → Keeps g g
+keeps-self g = keeps-records g g.records (λ r h. refl)
 
 -- a handle that fits holds the same block by tables that keep what it speaks of
 pub owner-kept : (g k : Tables) (calls : List (Option Pending)) (x : Handle) → Keeps g k → FitsWord g calls x x.word → owner_of k x ≡ owner_of g x
@@ -55,35 +61,31 @@ described-kept g k x w b log tail o e d =
       behind = rw same d.behind;
     }
 
--- the record by which a fitting handle goes is live
-pub live-of : (g : Tables) (calls : List (Option Pending)) (x : Handle) (w : Word) (r : ℕ) → w ≡ Counted r → FitsWord g calls x w → (record_at g r).live ≡ true
-live-of g calls x Empty r i f = absurd (cc)
-live-of g calls x (Descriptor w) r i f = absurd (cc)
-live-of g calls x (Counted q) r i f = let e : q ≡ r = cc in rw e at f.live
+-- a handle that fits goes on to fit by tables that keep what it speaks of, where the record by which it goes, if any, stays live and is shown
+pub fit-on : {g k : Tables} {cs : List (Option Pending)} (ds : List (Option Pending)) (o : Option Handle) → Keeps g k
+    → ((x : Handle) (r : ℕ) → o ≡ Some x → x.word ≡ Counted r → IsCounted g cs x r → ((record_at k r).live ≡ true) × (hidden ds r ≡ 0))
+    → Fits g cs o → Fits k ds o
+fit-on ds None e on f = tt
+fit-on {g} {k} {cs} ds (Some x) e on f =
+    let o = owner-kept g k cs x e f in
+    let by : (w : Word) → x.word ≡ w → FitsWord g cs x w → FitsWord k ds x w = λ w. elim w as (λ w. x.word ≡ w → FitsWord g cs x w → FitsWord k ds x w) [
+      | Empty ↦ λ i f. f
+      | Descriptor w ↦ λ i d. record { block = d.block; log = d.log; tail = d.tail; says = described-kept g k x w d.block d.log d.tail o e d.says }
+      | Counted r ↦ λ i f.
+          let n = on x r refl i f in
+          let b = e.records r f.live in
+          let same = e.blocks (record_at g r).block f.known in
+          let longer = e.longer in
+          let known = f.known in
+          record { live = n.0; known = rw b (omega arith); shown = n.1; lies = rw (b, same) f.lies; native = λ m. rw (b, same) (f.native m) }
+    ] in
+    by x.word refl f
 
--- a handle fits tables that keep what it speaks of
-pub fits-kept : (g k : Tables) (calls : List (Option Pending)) (x : Handle) (w : Word) → owner_of k x ≡ owner_of g x → Keeps g k
-    → ((r : ℕ) → w ≡ Counted r → (record_at k r).live ≡ true) → FitsWord g calls x w → FitsWord k calls x w
-fits-kept g k calls x Empty o e l f = f
-fits-kept g k calls x (Descriptor w) o e l d =
-    record { block = d.block; log = d.log; tail = d.tail; says = described-kept g k x w d.block d.log d.tail o e d.says }
-fits-kept g k calls x (Counted r) o e l f =
-    let b = e.records r f.live in
-    let same = e.blocks (record_at g r).block f.known in
-    let longer = e.longer in
-    let known = f.known in
-    record { live = l r refl; known = rw b (omega arith); shown = f.shown; lies = rw (b, same) f.lies; native = λ m. rw (b, same) (f.native m) }
-
--- handles that fit go on to fit tables that keep what they speak of, where each live record stays live
-pub all-fit-kept : (g k : Tables) (calls : List (Option Pending)) (hs : List (Option Handle)) → Keeps g k
-    → ((r : ℕ) → (record_at g r).live ≡ true → (record_at k r).live ≡ true) → All (Fits g calls) hs → All (Fits k calls) hs
-all-fit-kept g k calls hs e l f =
-    All-weaker (Fits g calls) (Fits k calls)
-    (λ o. elim o as (λ o. Fits g calls o → Fits k calls o) [
-      | None ↦ λ t. t
-      | Some x ↦
-          λ t. fits-kept g k calls x x.word (owner-kept g k calls x e t) e (λ r i. l r (live-of g calls x x.word r i t)) t
-    ]) hs f
+-- each handle of a list fits the new tables, if those that go by a record do
+pub all-fit-on : {g k : Tables} {cs : List (Option Pending)} (ds : List (Option Pending)) (hs : List (Option Handle)) → Keeps g k
+    → ((i r : ℕ) (x : Handle) → get_or hs i None ≡ Some x → x.word ≡ Counted r → IsCounted g cs x r → ((record_at k r).live ≡ true) × (hidden ds r ≡ 0))
+    → All (Fits g cs) hs → All (Fits k ds) hs
+all-fit-on {k} ds hs e on f = All-from_get_or (Fits k ds) hs None (λ i l. fit-on ds (get_or hs i None) e (λ x r. on i r x) (f i None l))
 
 -- ---- unfinished calls
 
@@ -149,39 +151,35 @@ call-kept s t (Some (Release r)) l f =
       alone = rw (l.tables.records r f.live, l.let_go r refl f.live) (l.holders r refl ∙ f.alone);
     }
 
--- a call of the list borrows what the list borrows
-pub lent-by : (i : ℕ) (cs : List (Option Pending)) (p : ℕ) (d : Option Pending) → p < length cs → borrows_it i (get_or cs p d) ≡ true → is_lent i cs ≡ true
-lent-by i [] p d h e = absurd (omega arith)
-lent-by i (c ∷ cs) zero d h e = rw e refl
-lent-by i (c ∷ cs) (suc p) d h e = rw (lent-by i cs p d (omega arith) e) (or_right (borrows_it i c) true refl)
+-- if there is an entry at an index, the index is inside the list
+pub at-some : {X : Type 0} (xs : List (Option X)) (i : ℕ) (x : X) → get_or xs i None ≡ Some x → i < length xs
+at-some [] i x e = absurd (cc)
+at-some (y ∷ xs) zero x e = omega arith
+at-some (y ∷ xs) (suc i) x e = omega (arith, at-some xs i x e)
 
 -- where no handle that is lent changes, and what calls name and hold stays, each call fits as before
-pub calls-fit-kept : (s t : State) → t.calls ≡ s.calls → Keeps s.tables t.tables
+pub calls-fit-kept : {s : State} (t : State) → IsSound s → t.calls ≡ s.calls → Keeps s.tables t.tables
     → ((p r : ℕ) → p < length s.calls → names r (call_at s p) ≡ true → (record_at s.tables r).live ≡ true → (record_at t.tables r).live ≡ true)
-    → ((i : ℕ) (x : Handle) → is_lent i s.calls ≡ true → handle_at s i ≡ Some x → handle_at t i ≡ Some x) → All (Fits s.tables s.calls) s.handles
-    → ((i : ℕ) (x : Handle) → handle_at s i ≡ Some x → i < length s.handles) → All (KeepsLetGo s.tables t.tables) s.calls
+    → ((i : ℕ) (x : Handle) → is_lent i s.calls ≡ true → handle_at s i ≡ Some x → handle_at t i ≡ Some x) → All (KeepsLetGo s.tables t.tables) s.calls
     → ((p r : ℕ) → p < length s.calls → call_at s p ≡ Some (Release r)
-    → holders (reading t) (record_at s.tables r).block ≡ holders (reading s) (record_at s.tables r).block) → All (FitsCall s) s.calls → All (FitsCall t) s.calls
-calls-fit-kept s t same e live at fit inside a n f = All-from_get_or (FitsCall t) s.calls None (λ p h. call-kept s t (call_at s p) (record {
+    → holders (reading t) (record_at s.tables r).block ≡ holders (reading s) (record_at s.tables r).block) → All (FitsCall t) s.calls
+calls-fit-kept {s} t k same e live at a n = All-from_get_or (FitsCall t) s.calls None (λ p h. call-kept s t (call_at s p) (record {
   tables = e;
   live = λ r m t. live p r h m t;
   hidden = λ r _ _. rw same refl;
-  handle = λ i x b a. at i x (lent-by i s.calls p None h b) a;
-  owner = λ i x a. owner-kept s.tables t.tables s.calls x e (rw a at (fit i None (inside i x a)));
+  handle = λ i x b a. at i x (list_any_at (borrows_it i) s.calls p None h b) a;
+  owner = λ i x a. owner-kept s.tables t.tables s.calls x e (rw a at (k.fit i None (at-some s.handles i x a)));
   let_go = a p None h;
   holders = λ r i. n p r h i;
-}) (f p None h))
+}) (k.calls_fit p None h))
 
 -- calls fit if the holders of blocks stay
-pub calls-kept : (s t : State) → t.calls ≡ s.calls → Keeps s.tables t.tables
+pub calls-kept : {s : State} (t : State) → IsSound s → t.calls ≡ s.calls → Keeps s.tables t.tables
     → ((r : ℕ) → (record_at s.tables r).live ≡ true → (record_at t.tables r).live ≡ true)
-    → ((i : ℕ) (x : Handle) → is_lent i s.calls ≡ true → handle_at s i ≡ Some x → handle_at t i ≡ Some x) → All (Fits s.tables s.calls) s.handles
-    → ((i : ℕ) (x : Handle) → handle_at s i ≡ Some x → i < length s.handles) → All (KeepsLetGo s.tables t.tables) s.calls
-    → ((b : ℕ) → b < length s.tables.blocks → holders (reading t) b ≡ holders (reading s) b)
-    → ((r : ℕ) → (record_at s.tables r).live ≡ true → (record_at s.tables r).block < length s.tables.blocks) → All (FitsCall s) s.calls
-    → All (FitsCall t) s.calls
-calls-kept s t same e live at fit inside a n known f = calls-fit-kept s t same e (λ _ r _ _ t. live r t) at fit inside a
-    (λ p r h i. n (record_at s.tables r).block (known r (let g = rw i at (f p None h) in g.live))) f
+    → ((i : ℕ) (x : Handle) → is_lent i s.calls ≡ true → handle_at s i ≡ Some x → handle_at t i ≡ Some x) → All (KeepsLetGo s.tables t.tables) s.calls
+    → ((b : ℕ) → b < length s.tables.blocks → holders (reading t) b ≡ holders (reading s) b) → All (FitsCall t) s.calls
+calls-kept {s} t k same e live at a n = calls-fit-kept t k same e (λ _ r _ _ t. live r t) at a
+    (λ p r h i. n (record_at s.tables r).block (let g = rw i at (k.calls_fit p None h) in (k.counted r g.live).known))
 
 -- a call that fits is read alike by tables that keep what it speaks of, if it has let go as before
 pub call-read-kept : (s : State) (k : Tables) (c : Option Pending) → Keeps s.tables k → KeepsLetGo s.tables k c → FitsCall s c
@@ -199,28 +197,10 @@ calls-read-kept s k (c ∷ cs) e a f = rw (
   calls-read-kept s k cs e (All-tail (KeepsLetGo s.tables k) c cs a) (All-tail (FitsCall s) c cs f),
 ) refl
 
-release-kept : (s : State) (k : Tables) (b : ℕ) (c : Option Pending) → Keeps s.tables k → FitsCall s c → releases k b c ≡ releases s.tables b c
+-- a call that fits releases the same block by tables that keep what it speaks of
+pub release-kept : (s : State) (k : Tables) (b : ℕ) (c : Option Pending) → Keeps s.tables k → FitsCall s c → releases k b c ≡ releases s.tables b c
 release-kept s k b (Some (Release r)) e f = rw (e.records r f.live) refl
 release-kept s k b c e f = refl
-
--- as many calls that fit release a block, by tables that keep what they speak of
-pub releases-kept : (s : State) (k : Tables) (b : ℕ) (cs : List (Option Pending)) → Keeps s.tables k → All (FitsCall s) cs
-    → tally (releases k b) cs ≡ tally (releases s.tables b) cs
-releases-kept s k b [] e f = refl
-releases-kept s k b (c ∷ cs) e f = rw (release-kept s k b c e (All-head (FitsCall s) c cs f), releases-kept s k b cs e (All-tail (FitsCall s) c cs f)) refl
-
--- a handle fits calls that hide no more records
-pub fits-calls : (g : Tables) (cs ds : List (Option Pending)) (x : Handle) (w : Word) → ((r : ℕ) → hidden ds r ≤ hidden cs r) → FitsWord g cs x w
-    → FitsWord g ds x w
-fits-calls g cs ds x Empty e f = f
-fits-calls g cs ds x (Descriptor w) e f = f
-fits-calls g cs ds x (Counted r) e f = record {
-  live = f.live;
-  known = f.known;
-  shown = (let n = e r in let z = f.shown in omega arith);
-  lies = f.lies;
-  native = f.native;
-}
 
 -- another call for a thread: if it fits, and each other call is left what it relies on, all fit
 pub calls-fit-set : (s t : State) (p : ℕ) (c : Option Pending) → p < length s.calls → FitsCall t c

@@ -1,5 +1,5 @@
 -- Properties of a handle that a call may have (`lend_of`), and when a changed handle holds the block that it held.
-use Rattle.iobufs_owner.proofs.Base.Known.{◌≡◌, ℕ, ◌+◌, Bool, true, false, cond, Option, Some, None, Ok, Err, ap, sym, ◌∙◌, refl, arith, Handle, Kind, View, Mut, Word, Empty, Descriptor, Counted, WrongKind, Borrowed, State, Tables, owner_of, owner_by, base_by, block_with, handle_at, lend_of, is_lent, Lends, same_kind, asked, lend_any_of}
+use Rattle.iobufs_owner.proofs.Base.Known.{◌≡◌, ℕ, Bool, true, false, cond, Option, Some, None, Ok, Err, ap, sym, ◌∙◌, refl, Handle, Kind, View, Mut, Word, Empty, Descriptor, Counted, WrongKind, Borrowed, State, Tables, owner_of, owner_by, base_by, block_with, handle_at, lend_of, is_lent, Lends, same_kind, asked, lend_any_of}
 
 -- kinds that the test finds alike are the same
 pub same-kind : (a b : Kind) → same_kind a b ≡ true → a ≡ b
@@ -38,7 +38,3 @@ owner-same g x y e b =
     let by : (v : Word) → owner_by g y v ≡ owner_by g x v =
     λ v. elim v as (λ v. owner_by g y v ≡ owner_by g x v) [ Empty ↦ refl | Descriptor w ↦ ap (λ n. block_with n g.blocks) (b w) | Counted r ↦ refl ] in
     rw e (by x.word)
-
--- by any word writable handles whose capacities end at one address give the same base
-pub base-mut : (g : Tables) (x y : Handle) → x.kind ≡ Mut → y.kind ≡ Mut → y.ptr + y.cap ≡ x.ptr + x.cap → (w : ℕ) → base_by g y w ≡ base_by g x w
-base-mut g x y p q e w = rw (p, q) (omega (arith, e))

@@ -1,10 +1,9 @@
 -- The logs of freed blocks and freed records stay exact (`LogsBlocks`, `LogsRecords`) where one comes or is freed.
-use Rattle.iobufs_owner.proofs.Base.Known.{◌≡◌, ◌≢◌, ◌⊎◌, inl, inr, ℕ, zero, suc, ◌+◌, ◌<◌, ◌≤◌, ◌==◌, ◌||◌, Bool, true, false, not, cond, List, [], ◌∷◌, ◌++◌, length, get_or, set, map, sym, ◌∙◌, ap, refl, arith, All, nat_eq, length-append, length-set, All-push, All-weaker, All-head, All-tail, ext_get_or, get_or-map, get_or-set_same, get_or-set_other, length-map, get_or_append_left, get_or-append_seam, eqb_tells, Tables, block_at, triple, tally, is_freed, same_freed, ArePlaced, IsTripleOf, LogsBlocks, LogsRecords, is_logged, is_dead, Block, Freed, Record, ne_eqb, eq-eqb, or_parts, or_right}
-use Rattle.iobufs_owner.proofs.Base.Counts.{count-append, count-set, count-map}
+use Rattle.iobufs_owner.proofs.Base.Known.{◌≡◌, ◌≢◌, ◌⊎◌, inl, inr, ℕ, zero, suc, ◌+◌, ◌<◌, ◌==◌, ◌||◌, Bool, true, false, not, cond, List, [], ◌∷◌, ◌++◌, length, get_or, set, map, sym, ◌∙◌, ap, refl, arith, All, nat_eq, length-append, length-set, All-push, All-weaker, ext_get_or, get_or-map, get_or-set_same, get_or-set_other, length-map, get_or_append_left, get_or-append_seam, eqb_tells, Tables, block_at, triple, tally, is_freed, same_freed, ArePlaced, IsTripleOf, LogsBlocks, LogsRecords, is_logged, is_dead, Block, Freed, Record, ne_eqb, eq-eqb, or_right, list_any-append, list_any_at, list_any_none}
+use Rattle.iobufs_owner.proofs.Base.Counts.{count-append, count-few, count-set, count-map}
 use Rattle.iobufs_owner.proofs.Base.Edits.{no_block}
-
-abbrev pub no_record : Record
-no_record = record { count = 0; block = 0; live = false }
+use Rattle.iobufs_owner.proofs.Base.StaysSound.{no_record}
+use Rattle.std.specs.List.{list_any}
 
 -- ---- tests
 
@@ -12,17 +11,15 @@ pub or-none : (a : Bool) → (a || false) ≡ a
 or-none true = refl
 or-none false = refl
 
-count-within : {X : Type 0} (p : X → Bool) (xs : List X) → tally p xs ≤ length xs
-count-within p [] = omega arith
-count-within p (x ∷ xs) = elim (p x) as (λ v. cond v 1 0 + tally p xs ≤ length (x ∷ xs))
-    [ true ↦ omega (arith, count-within p xs) | false ↦ omega (arith, count-within p xs) ]
+any-push : {X : Type 0} (p : X → Bool) (xs : List X) (y : X) → list_any p (xs ++ y ∷ []) ≡ (list_any p xs || p y)
+any-push p xs y = list_any-append p xs (y ∷ []) ∙ ap (λ (v : Bool). list_any p xs || v) (or-none (p y))
 
 -- where one fails, fewer pass than there are
 pub count-short : {X : Type 0} (p : X → Bool) (xs : List X) (i : ℕ) (d : X) → i < length xs → p (get_or xs i d) ≡ false → tally p xs < length xs
 count-short p [] i d l e = absurd (omega arith)
-count-short p (x ∷ xs) zero d l e = rw e (omega (arith, count-within p xs))
+count-short p (x ∷ xs) zero d l e = rw e (omega (arith, count-few p xs))
 count-short p (x ∷ xs) (suc i) d l e = elim (p x) as (λ v. cond v 1 0 + tally p xs < length (x ∷ xs))
-    [ true ↦ omega (arith, count-short p xs i d (omega arith) e) | false ↦ omega (arith, count-within p xs) ]
+    [ true ↦ omega (arith, count-short p xs i d (omega arith) e) | false ↦ omega (arith, count-few p xs) ]
 
 -- one more that isn't among them
 pub once-push : {X : Type 0} (xs : List X) (y : X) → ((i j : ℕ) (d : X) → i < j → j < length xs → get_or xs i d ≢ get_or xs j d)
@@ -42,29 +39,17 @@ below-or c n h = elim (eqb_tells c n) [ inl e ↦ inr e.1 | inr e ↦ inl (let n
 
 -- ---- freed records
 
-is_logged-append : (q : ℕ) (log : List ℕ) (r : ℕ) → is_logged q (log ++ r ∷ []) ≡ (is_logged q log || (q == r))
-is_logged-append q [] r = elim (q == r) as (λ v. (v || false) ≡ (false || v)) [ true ↦ refl | false ↦ refl ]
-is_logged-append q (x ∷ log) r = rw (is_logged-append q log r)
-    (elim (q == x) as (λ v. (v || (is_logged q log || (q == r))) ≡ ((v || is_logged q log) || (q == r))) [ true ↦ refl | false ↦ refl ])
-
 -- each entry of a log of records is logged there
 pub logged-at : (log : List ℕ) (i d : ℕ) → i < length log → is_logged (get_or log i d) log ≡ true
-logged-at [] i d l = absurd (omega arith)
-logged-at (r ∷ log) zero d l = rw (eq-eqb r r refl) refl
-logged-at (r ∷ log) (suc i) d l = rw (logged-at log i d (omega arith)) (or_right (get_or log i d == r) true refl)
-
-not-logged-above : (n : ℕ) (log : List ℕ) → All (λ r. r < n) log → is_logged n log ≡ false
-not-logged-above n [] a = refl
-not-logged-above n (r ∷ log) a =
-    let l = All-head (λ r. r < n) r log a in
-    rw (ne_eqb n r (omega arith), not-logged-above n log (All-tail (λ r. r < n) r log a)) refl
+logged-at log i d l = list_any_at (λ q. get_or log i d == q) log i d l (eq-eqb (get_or log i d) (get_or log i d) refl)
 
 -- one record more, which is live
-pub record-log-more : (rs : List Record) (log : List ℕ) (v : Record) → v.live ≡ true → LogsRecords rs log → LogsRecords (rs ++ v ∷ []) log
-record-log-more rs log v e k = record {
+pub record-log-more : {rs : List Record} {log : List ℕ} (v : Record) → v.live ≡ true → LogsRecords rs log → LogsRecords (rs ++ v ∷ []) log
+record-log-more {rs} {log} v e k = record {
   exact = λ r l. elim (below-or r (length rs) (rw length-append at l)) [
     | inl m ↦ rw (get_or_append_left rs (v ∷ []) no_record r m) (k.exact r m)
-    | inr m ↦ rw (m, get_or-append_seam rs v [] no_record, e) (not-logged-above (length rs) log k.known)
+    | inr m ↦ rw (m, get_or-append_seam rs v [] no_record, e) (list_any_none (λ q. length rs == q) log
+        (All-weaker (λ q. q < length rs) (λ q. (length rs == q) ≡ false) (λ q l. ne_eqb (length rs) q (omega arith)) log k.known))
   ];
   known = All-weaker (λ r. r < length rs) (λ r. r < length (rs ++ v ∷ [])) (λ r l. rw length-append (omega arith)) log k.known;
   once = k.once;
@@ -72,9 +57,9 @@ record-log-more rs log v e k = record {
 }
 
 -- another count for a record
-pub record-log-counted : (rs : List Record) (log : List ℕ) (r : ℕ) (v : Record) → r < length rs → v.live ≡ (get_or rs r no_record).live
+pub record-log-counted : {rs : List Record} {log : List ℕ} (r : ℕ) (v : Record) → r < length rs → v.live ≡ (get_or rs r no_record).live
     → LogsRecords rs log → LogsRecords (set rs r v) log
-record-log-counted rs log r v l e k = record {
+record-log-counted {rs} {log} r v l e k = record {
   exact = λ q m. let n : q < length rs = (let z = rw length-set at m in z) in elim (eqb_tells q r) [
     | inl i ↦ rw (i.1, get_or-set_same rs r v no_record l) (k.exact r l ∙ ap not (sym e))
     | inr i ↦ rw (get_or-set_other rs r q v no_record i.1) (k.exact q n)
@@ -86,12 +71,12 @@ record-log-counted rs log r v l e k = record {
 }
 
 -- a live record is freed
-pub record-log-dead : (rs : List Record) (log : List ℕ) (r : ℕ) (v : Record) → r < length rs → v.live ≡ false → (get_or rs r no_record).live ≡ true
+pub record-log-dead : {rs : List Record} {log : List ℕ} (r : ℕ) (v : Record) → r < length rs → v.live ≡ false → (get_or rs r no_record).live ≡ true
     → LogsRecords rs log → LogsRecords (set rs r v) (log ++ r ∷ [])
-record-log-dead rs log r v l dead live k =
+record-log-dead {rs} {log} r v l dead live k =
     let before : is_logged r log ≡ false = k.exact r l ∙ ap not live in
     record {
-      exact = λ q m. let n : q < length rs = (let z = rw length-set at m in z) in is_logged-append q log r ∙ elim (eqb_tells q r) [
+      exact = λ q m. let n : q < length rs = (let z = rw length-set at m in z) in any-push (λ x. q == x) log r ∙ elim (eqb_tells q r) [
         | inl i ↦ rw (i.1, eq-eqb r r refl, get_or-set_same rs r v no_record l, dead) (or_right (is_logged r log) true refl)
         | inr i ↦ rw (ne_eqb q r i.1, get_or-set_other rs r q v no_record i.1) (or-none (is_logged q log) ∙ k.exact q n)
       ];
@@ -104,25 +89,14 @@ record-log-dead rs log r v l dead live k =
     }
 
 -- where a record is live, the log has room
-pub record-log-room : (rs : List Record) (log : List ℕ) (r : ℕ) → r < length rs → (get_or rs r no_record).live ≡ true → LogsRecords rs log
+pub record-log-room : {rs : List Record} {log : List ℕ} (r : ℕ) → r < length rs → (get_or rs r no_record).live ≡ true → LogsRecords rs log
     → length log < length rs
-record-log-room rs log r l live k = let s = count-short is_dead rs r no_record l (ap not live) in let m = k.many in omega (arith, s, m)
+record-log-room {rs} r l live k = let s = count-short is_dead rs r no_record l (ap not live) in let m = k.many in omega (arith, s, m)
 
 -- ---- freed blocks
 
-pub is_freed-append : (b : Block) (fs : List Freed) (f : Freed) → is_freed b (fs ++ f ∷ []) ≡ (is_freed b fs || same_freed b f)
-is_freed-append b [] f = elim (same_freed b f) as (λ v. (v || false) ≡ (false || v)) [ true ↦ refl | false ↦ refl ]
-is_freed-append b (x ∷ fs) f = rw (is_freed-append b fs f)
-    (elim (same_freed b x) as (λ v. (v || (is_freed b fs || same_freed b f)) ≡ ((v || is_freed b fs) || same_freed b f)) [ true ↦ refl | false ↦ refl ])
-
 same-triple : (b : Block) → same_freed b (triple b) ≡ true
 same-triple b = rw (eq-eqb b.base b.base refl, eq-eqb b.size b.size refl, eq-eqb b.align b.align refl) refl
-
--- if the log doesn't have a block, no entry of it is the block's triple
-not-logged : (b : Block) (fs : List Freed) (i : ℕ) (d : Freed) → is_freed b fs ≡ false → i < length fs → get_or fs i d ≢ triple b
-not-logged b [] i d e l h = absurd (omega arith)
-not-logged b (f ∷ fs) zero d e l h = let z = rw (h, same-triple b) at e in cc
-not-logged b (f ∷ fs) (suc i) d e l h = not-logged b fs i d (or_parts (same_freed b f) (is_freed b fs) e).1 (omega arith) h
 
 -- two blocks have two bases
 pub bases : (g : Tables) (b c : ℕ) → ArePlaced g.blocks → b < length g.blocks → c < length g.blocks → b ≢ c → (block_at g b).base ≢ (block_at g c).base
@@ -142,7 +116,7 @@ freed-more g log b k l =
     let bs : List Block = g.blocks in
     ext_get_or false (map new bs) (set (map old bs) b true) (simp (length-set, length-map)) (λ i h.
     let li : i < length g.blocks = rw length-map at h in
-    get_or-map new bs i no_block false li ∙ is_freed-append (block_at g i) log (triple (block_at g b)) ∙ elim (eqb_tells i b) [
+    get_or-map new bs i no_block false li ∙ any-push (same_freed (block_at g i)) log (triple (block_at g b)) ∙ elim (eqb_tells i b) [
       | inl z ↦ rw (z.1, same-triple (block_at g b), get_or-set_same (map old bs) b true false (rw length-map l))
           (or_right (is_freed (block_at g b) log) true refl)
       | inr z ↦ rw (ne_eqb (block_at g i).base (block_at g b).base (bases g i b k li l z.1), get_or-set_other (map old bs) b i true false z.1)
@@ -150,18 +124,19 @@ freed-more g log b k l =
     ])
 
 -- the block that is freed had users and has none, and all others keep having some or none
-pub block-log-freed : (g : Tables) (log : List Freed) (b : ℕ) (used used' : ℕ → ℕ) → ArePlaced g.blocks → b < length g.blocks → 0 < used b → used' b ≡ 0
+pub block-log-freed : (g : Tables) {log : List Freed} (b : ℕ) {used used' : ℕ → ℕ} → ArePlaced g.blocks → b < length g.blocks → 0 < used b → used' b ≡ 0
     → ((c : ℕ) → c ≢ b → nat_eq (used' c) 0 ≡ nat_eq (used c) 0) → LogsBlocks g.blocks log used → LogsBlocks g.blocks (log ++ triple (block_at g b) ∷ []) used'
-block-log-freed g log b used used' p l some none others k =
+block-log-freed g {log} b {used} {used'} p l some none others k =
     let before : is_freed (block_at g b) log ≡ false = k.freed b l ∙ ne_eqb (used b) 0 (omega arith) in
     record {
-      freed = λ c t. is_freed-append (block_at g c) log (triple (block_at g b)) ∙ elim (eqb_tells c b) [
+      freed = λ c t. any-push (same_freed (block_at g c)) log (triple (block_at g b)) ∙ elim (eqb_tells c b) [
         | inl i ↦ rw (i.1, none, same-triple (block_at g b)) (or_right (is_freed (block_at g b) log) true refl)
         | inr i ↦ rw (others c i.1, ne_eqb (block_at g c).base (block_at g b).base (bases g c b p t l i.1))
             (or-none (is_freed (block_at g c) log) ∙ k.freed c t)
       ];
       known = All-push (IsTripleOf g.blocks) log (triple (block_at g b)) k.known (record { block = b; known = l; is = refl });
-      once = λ i j d h t. once-push log (triple (block_at g b)) (λ i j d h t. k.once i j d h t) (λ i d t. not-logged (block_at g b) log i d before t) i j d h t;
+      once = λ i j d h t. once-push log (triple (block_at g b)) (λ i j d h t. k.once i j d h t) (λ i d t h.
+          let z = list_any_at (same_freed (block_at g b)) log i d t (rw h (same-triple (block_at g b))) in cc) i j d h t;
       many =
           let old : Block → Bool = λ (x : Block). is_freed x log in
           let new : Block → Bool = λ (x : Block). is_freed x (log ++ triple (block_at g b) ∷ []) in
@@ -175,19 +150,9 @@ block-log-freed g log b used used' p l some none others k =
           rw length-append (omega (arith, a, o, c2, m));
     }
 
--- blocks that keep having users or none
-pub block-log-alike : (bs : List Block) (log : List Freed) (used used' : ℕ → ℕ) → ((b : ℕ) → b < length bs → nat_eq (used' b) 0 ≡ nat_eq (used b) 0)
-    → LogsBlocks bs log used → LogsBlocks bs log used'
-block-log-alike bs log used used' e k = record {
-  freed = λ b l. rw (e b l) (k.freed b l);
-  known = k.known;
-  once = k.once;
-  many = k.many;
-}
-
 -- where a block has a user, the log has room
-pub block-log-room : (bs : List Block) (log : List Freed) (used : ℕ → ℕ) (b : ℕ) → b < length bs → 0 < used b → LogsBlocks bs log used → length log < length bs
-block-log-room bs log used b l some k =
+pub block-log-room : {bs : List Block} {log : List Freed} {used : ℕ → ℕ} (b : ℕ) → b < length bs → 0 < used b → LogsBlocks bs log used → length log < length bs
+block-log-room {bs} {log} {used} b l some k =
     let before : is_freed (get_or bs b no_block) log ≡ false = k.freed b l ∙ ne_eqb (used b) 0 (omega arith) in
     let s = count-short (λ (x : Block). is_freed x log) bs b no_block l before in
     let m = k.many in
@@ -196,18 +161,16 @@ block-log-room bs log used b l some k =
 -- a new block isn't in the log
 pub fresh-log : (g : Tables) (b : Block) (fs : List Freed) → All (λ (x : Block). x.base ≢ b.base) g.blocks → All (IsTripleOf g.blocks) fs
     → is_freed b fs ≡ false
-fresh-log g b [] other known = refl
-fresh-log g b (f ∷ fs) other known =
-    let one = All-head (IsTripleOf g.blocks) f fs known in
+fresh-log g b fs other known = list_any_none (same_freed b) fs (λ i d l.
+    let one = known i d l in
     let ne = other one.block no_block one.known in
-    let base : f.base ≡ (block_at g one.block).base = ap (λ (f : Freed). f.base) one.is in
-    rw (ne_eqb b.base f.base (λ i. ne (sym base ∙ sym i)), fresh-log g b fs other (All-tail (IsTripleOf g.blocks) f fs known)) refl
+    rw (ne_eqb b.base (get_or fs i d).base (λ i. ne (sym (ap (λ (f : Freed). f.base) one.is) ∙ sym i))) refl)
 
 -- one block more, which has a user
-pub block-log-more : (g : Tables) (b : Block) (log : List Freed) (used used' : ℕ → ℕ) → All (λ (x : Block). x.base ≢ b.base) g.blocks
+pub block-log-more : (g : Tables) (b : Block) {log : List Freed} {used used' : ℕ → ℕ} → All (λ (x : Block). x.base ≢ b.base) g.blocks
     → used' (length g.blocks) ≡ 1 → ((c : ℕ) → c < length g.blocks → used' c ≡ used c) → LogsBlocks g.blocks log used
     → LogsBlocks (g.blocks ++ b ∷ []) log used'
-block-log-more g b log used used' other one others k =
+block-log-more g b {log} {used} {used'} other one others k =
     let new = fresh-log g b log other k.known in
     let at : get_or (g.blocks ++ b ∷ []) (length g.blocks) no_block ≡ b = get_or-append_seam g.blocks b [] no_block in
     record {

@@ -1,13 +1,7 @@
 -- Users see under a number the entry of the tables, read: a handle, its capacity, and the cause against it.
-use Rattle.iobufs_owner.proofs.Base.Known.{◌≡◌, ℕ, zero, suc, Bool, true, false, cond, Option, Some, None, Result, Ok, Err, List, [], ◌∷◌, map, get_or, sym, refl, arith, Handle, Kind, View, Mut, Pending, Loaded, Word, Empty, Descriptor, Counted, Refusal, WrongKind, Borrowed, State, Tables, owner_of, handle_at, IsSound, FitsWord, LiveHandle, held_at, borrows, is_shared, reading, read_handle, read_held, read_call, lend_of, is_lent, borrows_it, same_kind, alone_of, any_of, view_of, capacity, capacity_in, ap, asked, is_empty, is_some, lend_any_of, lend_owning_of, lend_owning_view_of, lend_view_of, not, owning_of, owning_view_of, ◌&&◌}
+use Rattle.iobufs_owner.proofs.Base.Known.{◌≡◌, ℕ, Bool, true, false, cond, Option, Some, None, Result, Ok, Err, List, [], ◌∷◌, map, sym, refl, arith, Handle, Kind, View, Mut, Pending, Loaded, Word, Empty, Descriptor, Counted, Refusal, WrongKind, Borrowed, State, Tables, owner_of, handle_at, IsSound, FitsWord, LiveHandle, held_at, borrows, is_shared, reading, read_handle, read_held, read_call, lend_of, is_lent, borrows_it, same_kind, alone_of, any_of, view_of, capacity, capacity_in, ap, asked, is_empty, is_some, lend_any_of, lend_owning_of, lend_owning_view_of, lend_view_of, not, owning_of, owning_view_of, ◌&&◌, get_or-read}
 use Rattle.iobufs_owner.proofs.Base.StaysSound.{owner-empty, owner-counted}
 use Rattle.iobufs_owner.proofs.Base.Edits.{fits-at, described-at}
-
--- a mapped list has at each index the element of the list, mapped; after its end it has the default, mapped
-pub get_or-read : {X Y : Type 0} (f : X → Y) (xs : List X) (i : ℕ) (d : X) → get_or (map f xs) i (f d) ≡ f (get_or xs i d)
-get_or-read f [] i d = refl
-get_or-read f (x ∷ xs) zero d = refl
-get_or-read f (x ∷ xs) (suc i) d = get_or-read f xs i d
 
 -- users see under a number the handle of the tables, read
 pub held-reads : (s : State) (h : ℕ) → held_at (reading s) h ≡ read_handle s.tables (handle_at s h)
@@ -35,25 +29,26 @@ found-reads g x true false = refl
 found-reads g x false u = refl
 
 -- users see what may be had under a number, or the same cause against it, where their test gives the same result for its entry
-asked-reads : (g : Tables) (test : Handle → Bool) (seen : LiveHandle → Bool) (b c : Bool) (o : Option Handle)
-    → ((x : Handle) → o ≡ Some x → seen (read_held g x) ≡ test x) → c ≡ b → asked seen c (read_handle g o) ≡ read_lent g (asked test b o)
-asked-reads g test seen b c None t e = refl
-asked-reads g test seen b c (Some x) t e = rw (t x refl, e) (found-reads g x (test x) b)
+asked-reads : (s : State) (h : ℕ) (test : Handle → Bool) (seen : LiveHandle → Bool) {b c : Bool}
+    → ((x : Handle) → handle_at s h ≡ Some x → seen (read_held s.tables x) ≡ test x) → c ≡ b
+    → asked seen c (held_at (reading s) h) ≡ read_lent s.tables (asked test b (handle_at s h))
+asked-reads s h test seen {b} {c} t e =
+    let by : (o : Option Handle) → handle_at s h ≡ o → asked seen c (read_handle s.tables o) ≡ read_lent s.tables (asked test b o) =
+    λ o. elim o as (λ o. handle_at s h ≡ o → asked seen c (read_handle s.tables o) ≡ read_lent s.tables (asked test b o))
+    [ None ↦ λ a. refl | Some x ↦ λ a. rw (t x a, e) (found-reads s.tables x (test x) b) ] in
+    rw (held-reads s h) (by (handle_at s h) refl)
 
 -- users see the handle of this kind that a call may have alone, or the same cause against it
 pub alone-reads : (s : State) (h : ℕ) (kind : Kind) → alone_of (reading s) h kind ≡ read_lent s.tables (lend_of s h kind)
-alone-reads s h kind = rw (held-reads s h) (asked-reads s.tables (λ x. same_kind x.kind kind) (λ x. same_kind x.kind kind) (is_lent h s.calls)
-    (is_shared h (reading s).calls) (handle_at s h) (λ x _. refl) (shared-reads s.tables h s.calls))
+alone-reads s h kind = asked-reads s h (λ x. same_kind x.kind kind) (λ x. same_kind x.kind kind) (λ x _. refl) (shared-reads s.tables h s.calls)
 
 -- users see the handle of either kind that a call may have alone, or the same cause against it
 pub any-reads : (s : State) (h : ℕ) → any_of (reading s) h ≡ read_lent s.tables (lend_any_of s h)
-any-reads s h = rw (held-reads s h) (asked-reads s.tables (λ x. true) (λ x. true) (is_lent h s.calls) (is_shared h (reading s).calls) (handle_at s h)
-    (λ x _. refl) (shared-reads s.tables h s.calls))
+any-reads s h = asked-reads s h (λ x. true) (λ x. true) (λ x _. refl) (shared-reads s.tables h s.calls)
 
 -- users see the view that a call may share, or the same cause against it
 pub view-reads : (s : State) (h : ℕ) → view_of (reading s) h ≡ read_lent s.tables (lend_view_of s h)
-view-reads s h = rw (held-reads s h) (asked-reads s.tables (λ x. same_kind x.kind View) (λ x. same_kind x.kind View) false false (handle_at s h)
-    (λ x _. refl) refl)
+view-reads s h = asked-reads s h (λ x. same_kind x.kind View) (λ x. same_kind x.kind View) {b = false} (λ x _. refl) refl
 
 owner-some : (s : State) (h : ℕ) (x : Handle) (w : Word) → IsSound s → handle_at s h ≡ Some x → x.word ≡ w
     → is_some (owner_of s.tables x) ≡ not (is_empty w)
@@ -63,14 +58,13 @@ owner-some s h x (Counted r) k at e = rw (owner-counted s.tables x r e) refl
 
 -- in a sound machine users see the handle with a block that a call may have alone, or the same cause against it
 pub owning-reads : (s : State) (h : ℕ) → IsSound s → owning_of (reading s) h ≡ read_lent s.tables (lend_owning_of s h)
-owning-reads s h k = rw (held-reads s h) (asked-reads s.tables (λ x. not (is_empty x.word)) (λ x. is_some x.block) (is_lent h s.calls)
-    (is_shared h (reading s).calls) (handle_at s h) (λ x at. owner-some s h x x.word k at refl) (shared-reads s.tables h s.calls))
+owning-reads s h k =
+    asked-reads s h (λ x. not (is_empty x.word)) (λ x. is_some x.block) (λ x at. owner-some s h x x.word k at refl) (shared-reads s.tables h s.calls)
 
 -- in a sound machine users see the view with a block that a call may have alone, or the same cause against it
 pub owning-view-reads : (s : State) (h : ℕ) → IsSound s → owning_view_of (reading s) h ≡ read_lent s.tables (lend_owning_view_of s h)
-owning-view-reads s h k = rw (held-reads s h) (asked-reads s.tables (λ x. same_kind x.kind View && not (is_empty x.word))
-    (λ x. same_kind x.kind View && is_some x.block) (is_lent h s.calls) (is_shared h (reading s).calls) (handle_at s h)
-    (λ x at. ap (λ (v : Bool). same_kind x.kind View && v) (owner-some s h x x.word k at refl)) (shared-reads s.tables h s.calls))
+owning-view-reads s h k = asked-reads s h (λ x. same_kind x.kind View && not (is_empty x.word)) (λ x. same_kind x.kind View && is_some x.block)
+    (λ x at. ap (λ (v : Bool). same_kind x.kind View && v) (owner-some s h x x.word k at refl)) (shared-reads s.tables h s.calls)
 
 -- in a sound machine the capacity that users see of a writable handle is its own
 pub capacity-reads : (s : State) (h : ℕ) (x : Handle) → IsSound s → handle_at s h ≡ Some x → x.kind ≡ Mut → capacity (reading s) (read_held s.tables x) ≡ x.cap

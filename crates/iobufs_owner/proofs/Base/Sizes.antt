@@ -1,16 +1,12 @@
 -- Steps that add no entry want no room, and steps that are taken have found it.
-use Rattle.iobufs_owner.proofs.Base.Known.{◌≡◌, ◌⊎◌, inl, inr, ℕ, ◌<◌, ◌≤◌, length, ap, refl, arith, Result, Ok, Err, result_unwrap_or, Room, Full, Step, Reply, Refused, State, Seen, KeepsRoom, Outcome, IsSound, WantsRoom, Moves, Took, IsCarriedOut, moved}
-use Rattle.iobufs_owner.specs.State.{Room as Space}
+use Rattle.iobufs_owner.proofs.Base.Known.{◌≡◌, ◌⊎◌, inl, inr, ℕ, ◌<◌, ◌≤◌, length, ap, refl, arith, Result, Ok, Err, result_unwrap_or, Room, Full, Step, Reply, Refused, State, Seen, Outcome, IsSound, WantsRoom, Moves, Took, IsCarriedOut, moved, ◌^◌}
+use Rattle.iobufs_owner.specs.State.{IsFull}
 
 -- every table has memory for its entries
 pub record HasMemory (m : Seen) : Type 0 where
   pub blocks : length m.state.tables.blocks ≤ m.room.blocks
   pub handles : length m.state.handles ≤ m.room.handles
   pub records : length m.state.tables.records ≤ m.room.records
-
--- no table loses capacity if none changes
-pub keeps-room : (r : Space) → KeepsRoom r r
-keeps-room r = (omega arith, omega arith, omega arith)
 
 -- how many handles, blocks and records there are
 pub record Entries : Type 0 where
@@ -53,26 +49,16 @@ answered m o reply t (inr (w, e, f)) = inr (record { grows = wants-grows m o.sta
 
 -- ---- a step finds room, or wants it
 
+-- a table that has memory for more entries than before wasn't full
+not-full : {n t room : ℕ} → t ≤ room → t ≤ 2 ^ 32 → n < t → IsFull room n → ⊥
+not-full h g l (inl used) = omega (arith, h, l, used)
+not-full h g l (inr many) = omega (arith, g, l, many)
+
 -- after a step that was taken every table has memory for its entries: so those that it added had room
 found : (m next : Seen) (t : State) → next.state ≡ t → next.room ≡ m.room → IsSound next.state → HasMemory next → WantsRoom m t → ⊥
-found m next t e f sound held (inl (grows, full)) =
-    let a = ap (λ (s : State). length s.handles) e in
-    let b = ap (λ (r : Space). r.handles) f in
-    let l = held.handles in
-    let g = sound.size.few_handles in
-    elim full [ inl used ↦ omega (arith, a, b, l, grows, used) | inr many ↦ omega (arith, a, g, grows, many) ]
-found m next t e f sound held (inr (inl (grows, full))) =
-    let a = ap (λ (s : State). length s.tables.blocks) e in
-    let b = ap (λ (r : Space). r.blocks) f in
-    let l = held.blocks in
-    let g = sound.size.few_blocks in
-    elim full [ inl used ↦ omega (arith, a, b, l, grows, used) | inr many ↦ omega (arith, a, g, grows, many) ]
-found m next t e f sound held (inr (inr (grows, full))) =
-    let a = ap (λ (s : State). length s.tables.records) e in
-    let b = ap (λ (r : Space). r.records) f in
-    let l = held.records in
-    let g = sound.size.few_records in
-    elim full [ inl used ↦ omega (arith, a, b, l, grows, used) | inr many ↦ omega (arith, a, g, grows, many) ]
+found m next t e f sound held (inl (grows, full)) = not-full (rw (e, f) at held.handles) (rw e at sound.size.few_handles) grows full
+found m next t e f sound held (inr (inl (grows, full))) = not-full (rw (e, f) at held.blocks) (rw e at sound.size.few_blocks) grows full
+found m next t e f sound held (inr (inr (grows, full))) = not-full (rw (e, f) at held.records) (rw e at sound.size.few_records) grows full
 
 -- a step leaves the room of each table, whichever its result
 pub room-of : (m : Seen) (o : Outcome) (result : Result Reply Full) (next : Seen) → Took m o result next → next.room ≡ m.room

@@ -1,6 +1,6 @@
 -- A handle without block more, and a handle that changes and holds what it held, keep the machine sound.
-use Rattle.iobufs_owner.proofs.Base.Known.{◌≡◌, ◌≢◌, ℕ, zero, suc, ◌^◌, ◌<◌, Bool, true, false, List, [], ◌∷◌, ◌++◌, length, get_or, set, ◌∙◌, refl, arith, Option, Some, None, length-append, length-set, All-push, All-set, get_or_append_left, get_or-set_other, with_handle, edited, is_lent, State, Tables, owner_of, record_at, handle_at, holders, users, tally, reading, IsSound, FitsWord, Fits, alone, describes, LogsBlocks, Block, Freed, Handle, Empty, Counted, All, FitsCall, FitsRecord, IsInSize, Pending, Record, call_at, subst, ◌≤◌}
-use Rattle.iobufs_owner.proofs.Base.Kept.{keeps-self, calls-kept}
+use Rattle.iobufs_owner.proofs.Base.Known.{◌≡◌, ℕ, ◌^◌, ◌<◌, Bool, true, false, List, [], ◌∷◌, ◌++◌, length, get_or, set, ◌∙◌, refl, arith, Option, Some, None, length-append, length-set, All-push, All-set, get_or_append_left, get_or-set_other, with_handle, edited, is_lent, State, Tables, owner_of, record_at, handle_at, holders, users, tally, reading, IsSound, FitsWord, Fits, alone, describes, LogsBlocks, Block, Freed, Handle, Empty, Counted, All, FitsCall, FitsRecord, IsInSize, Pending, Record, call_at, subst, ◌≤◌, ◌+◌, releases, hidden, FitsRecordAt, LogsRecords, nat_eq, ap, Release}
+use Rattle.iobufs_owner.proofs.Base.Kept.{keeps-self, calls-kept, at-some, Keeps, KeepsLetGo, Leaves, names, owner-kept}
 use Rattle.iobufs_owner.proofs.Base.Counts.{count-append, count-set, held_by, holders-as, users-as}
 
 -- a handle without block owns none
@@ -13,12 +13,6 @@ pub owner-counted : (g : Tables) (x : Handle) (r : ℕ) → x.word ≡ Counted r
 unfolding owner_of
 owner-counted g x r e = rw e refl
 
--- if there is an entry at an index, the index is inside the list
-pub at-some : {X : Type 0} (xs : List (Option X)) (i : ℕ) (x : X) → get_or xs i None ≡ Some x → i < length xs
-at-some [] i x e = absurd (cc)
-at-some (y ∷ xs) zero x e = omega arith
-at-some (y ∷ xs) (suc i) x e = omega (arith, at-some xs i x e)
-
 -- in a sound machine an unfinished call fits
 pub call-fits : (s : State) (p : ℕ) (c : Pending) → IsSound s → call_at s p ≡ Some c → FitsCall s (Some c)
 call-fits s p c k at = subst (λ (c : Option Pending). FitsCall s c) at (k.calls_fit p None (at-some s.calls p c at))
@@ -27,20 +21,44 @@ call-fits s p c k at = subst (λ (c : Option Pending). FitsCall s c) at (k.calls
 pub append-at : {X : Type 0} (xs : List (Option X)) (y : Option X) (i : ℕ) (x : X) → get_or xs i None ≡ Some x → get_or (xs ++ y ∷ []) i None ≡ Some x
 append-at xs y i x e = get_or_append_left xs (y ∷ []) None i (at-some xs i x e) ∙ e
 
--- an entry stays at its index if another index is set
-pub set-at : {X : Type 0} (xs : List (Option X)) (h i : ℕ) (y : Option X) (x : X) → i ≢ h → get_or xs i None ≡ Some x → get_or (set xs h y) i None ≡ Some x
-set-at xs h i y x ne e = get_or-set_other xs h i y None ne ∙ e
+abbrev pub no_record : Record
+no_record = record { count = 0; block = 0; live = false }
+
+-- where handles stay, a change leaves a call what it relies on if it leaves its records and the holders of the block that it frees
+pub leaves : {s : State} (t : State) (c : Option Pending) → IsSound s → t.handles ≡ s.handles → Keeps s.tables t.tables → KeepsLetGo s.tables t.tables c
+    → ((r : ℕ) → names r c ≡ true → (record_at s.tables r).live ≡ true → (record_at t.tables r).live ≡ true)
+    → ((r : ℕ) → names r c ≡ true → (record_at s.tables r).live ≡ true → hidden t.calls r ≡ hidden s.calls r) → ((r : ℕ) → c ≡ Some (Release r)
+    → holders (reading t) (record_at s.tables r).block ≡ holders (reading s) (record_at s.tables r).block) → Leaves s t c
+leaves {s} t c k same e gone live hid held = record {
+  tables = e;
+  live = live;
+  hidden = hid;
+  handle = λ i x _ a. rw same a;
+  owner = λ i x a. owner-kept s.tables t.tables s.calls x e (rw a at (k.fit i None (at-some s.handles i x a)));
+  let_go = gone;
+  holders = held;
+}
+
+-- a handle that is lent stays where another one, that isn't, is changed
+pub lent-stays : (s : State) (h : ℕ) (o : Option Handle) → is_lent h s.calls ≡ false → (i : ℕ) (x : Handle) → is_lent i s.calls ≡ true
+    → handle_at s i ≡ Some x → get_or (set s.handles h o) i None ≡ Some x
+lent-stays s h o free i x lent at = get_or-set_other s.handles h i o None (λ e. let q = rw e at lent in absurd (cc)) ∙ at
 
 -- ---- facts that a change leaves
 
--- the log of freed blocks, where blocks keep their users
-pub block-log-kept : (bs : List Block) (log : List Freed) (used used' : ℕ → ℕ) → ((b : ℕ) → used' b ≡ used b) → LogsBlocks bs log used → LogsBlocks bs log used'
-block-log-kept bs log used used' e k = record {
-  freed = λ b l. rw e (k.freed b l);
+-- blocks that keep having users or none
+pub block-log-alike : {bs : List Block} {log : List Freed} {used used' : ℕ → ℕ} → ((b : ℕ) → b < length bs → nat_eq (used' b) 0 ≡ nat_eq (used b) 0)
+    → LogsBlocks bs log used → LogsBlocks bs log used'
+block-log-alike e k = record {
+  freed = λ b l. rw (e b l) (k.freed b l);
   known = k.known;
   once = k.once;
   many = k.many;
 }
+
+-- the log of freed blocks, where blocks keep their users
+pub block-log-kept : {bs : List Block} {log : List Freed} {used used' : ℕ → ℕ} → ((b : ℕ) → used' b ≡ used b) → LogsBlocks bs log used → LogsBlocks bs log used'
+block-log-kept e k = block-log-alike (λ b l. ap (λ n. nat_eq n 0) (e b)) k
 
 -- a record that fits goes on to fit where fewer handles describe its block
 pub fits-fewer : {v : Record} {b m h u d e : ℕ} → FitsRecord v b m h u d → e ≤ d → FitsRecord v b m h u e
@@ -58,46 +76,64 @@ pub sized : {bits most a b c d a' b' c' d' : ℕ} → IsInSize bits most a b c d
     → IsInSize bits most a' b' c' d'
 sized k a b c d = record { wide = k.wide; ceiling = k.ceiling; few_blocks = a; few_records = b; few_handles = c; few_calls = d }
 
+-- another table of records, other handles and calls
+abbrev pub changed : State → List Record → List (Option Handle) → List (Option Pending) → List ℕ → State
+changed s rs hs cs log = record s { tables = record s.tables { records = rs }; handles = hs; calls = cs; freed_records = log }
+
+-- other records, handles and calls that fit keep the machine sound, where blocks keep their holders and users
+pub sound-same : (s : State) (rs : List Record) (hs : List (Option Handle)) (cs : List (Option Pending)) (log : List ℕ) → IsSound s
+    → IsInSize (1 + s.tables.align_bits + s.tables.tail_bits + s.tables.size_bits) s.ceiling (length s.tables.blocks) (length rs) (length hs) (length cs)
+    → All (Fits (record s.tables { records = rs }) cs) hs → All (FitsCall (changed s rs hs cs log)) cs
+    → ((b : ℕ) → tally (releases (record s.tables { records = rs }) b) cs ≤ 1)
+    → ((b : ℕ) → holders (reading (changed s rs hs cs log)) b ≡ holders (reading s) b)
+    → ((b : ℕ) → users (reading (changed s rs hs cs log)) b ≡ users (reading s) b)
+    → ((r : ℕ) → (get_or rs r no_record).live ≡ true → FitsRecordAt (changed s rs hs cs log) r (get_or rs r no_record))
+    → ((q r : ℕ) → (get_or rs q no_record).live ≡ true → (get_or rs r no_record).live ≡ true → hidden cs q ≡ 0 → hidden cs r ≡ 0
+    → (get_or rs q no_record).block ≡ (get_or rs r no_record).block → q ≡ r)
+    → ((b : ℕ) → 0 < tally (alone (record s.tables { records = rs }) b) hs → holders (reading s) b ≡ 1) → LogsRecords rs log → IsSound (changed s rs hs cs log)
+sound-same s rs hs cs log k size fit calls one hm um counted shown sole records = record {
+  size = size;
+  blocks = k.blocks;
+  fit = fit;
+  calls_fit = calls;
+  one_release = one;
+  counted = counted;
+  one_record = shown;
+  sole = λ b p. rw hm (sole b p);
+  capped = λ b. rw hm (k.capped b);
+  known_users = λ b e. k.known_users b (rw um at e);
+  block_log = block-log-kept um k.block_log;
+  record_log = records;
+}
+
 -- other handles that fit keep the machine sound, where blocks keep their holders and users, no more of them describe a block,
 -- those that must be alone are, and those that calls borrow stay
 pub sound-handles : (s : State) (hs : List (Option Handle)) → IsSound s → length hs ≤ 2 ^ 32 → All (Fits s.tables s.calls) hs
-    → ((b : ℕ) → holders (reading (record s { handles = hs })) b ≡ holders (reading s) b)
-    → ((b : ℕ) → users (reading (record s { handles = hs })) b ≡ users (reading s) b)
+    → ((b : ℕ) → tally (held_by s.tables b) hs ≡ tally (held_by s.tables b) s.handles)
     → ((b : ℕ) → tally (describes s.tables b) hs ≤ tally (describes s.tables b) s.handles)
     → ((b : ℕ) → 0 < tally (alone s.tables b) hs → holders (reading s) b ≡ 1)
     → ((i : ℕ) (x : Handle) → is_lent i s.calls ≡ true → handle_at s i ≡ Some x → get_or hs i None ≡ Some x) → IsSound (record s { handles = hs })
-sound-handles s hs k few fit hm um dm sole stay =
+sound-handles s hs k few fit held dm sole stay =
     let next : State = record s { handles = hs } in
-    record {
-      size = sized k.size k.size.few_blocks k.size.few_records few k.size.few_calls;
-      blocks = k.blocks;
-      fit = fit;
-      calls_fit = calls-kept s next refl (keeps-self s.tables) (λ r t. t) stay k.fit (λ i z a. at-some s.handles i z a) (λ i d l q j t. refl)
-          (λ b l. hm b) (λ r live. (k.counted r live).known) k.calls_fit;
-      one_release = k.one_release;
-      counted = λ r live. rw (hm, um) (fits-fewer (k.counted r live) (dm (record_at s.tables r).block));
-      one_record = k.one_record;
-      sole = λ b p. rw hm (sole b p);
-      capped = λ b. rw hm (k.capped b);
-      known_users = λ b e. k.known_users b (rw um at e);
-      block_log = block-log-kept s.tables.blocks s.freed_blocks (users (reading s)) (users (reading next)) um k.block_log;
-      record_log = k.record_log;
-    }
+    let hm : (b : ℕ) → holders (reading next) b ≡ holders (reading s) b = λ b. omega (arith, holders-as s b, holders-as next b, held b) in
+    let um : (b : ℕ) → users (reading next) b ≡ users (reading s) b = λ b. omega (arith, users-as s b, users-as next b, held b) in
+    sound-same s _ _ _ _ k (sized k.size k.size.few_blocks k.size.few_records few k.size.few_calls)
+    fit
+    (calls-kept next k refl (keeps-self s.tables) (λ r t. t) stay (λ i d l q j t. refl) (λ b l. hm b))
+    k.one_release hm um
+    (λ r live. rw (hm, um) (fits-fewer (k.counted r live) (dm (record_at s.tables r).block)))
+    k.one_record
+    (λ b p. sole b p) k.record_log
 
 -- a handle without block more
 pub sound-detached : (s : State) (x : Handle) → IsSound s → x.word ≡ Empty → FitsWord s.tables s.calls x x.word → length s.handles < 2 ^ 32
     → IsSound (with_handle s x)
 sound-detached s x k e f l =
     let o = owner-empty s.tables x e in
-    let held : (b : ℕ) → tally (held_by s.tables b) (s.handles ++ Some x ∷ []) ≡ tally (held_by s.tables b) s.handles = λ b. rw count-append
-    (rw o (omega arith)) in
-    let a : (b : ℕ) → tally (alone s.tables b) (s.handles ++ Some x ∷ []) ≡ tally (alone s.tables b) s.handles = λ b. rw count-append (rw o (omega arith)) in
-    let d : (b : ℕ) → tally (describes s.tables b) (s.handles ++ Some x ∷ []) ≡ tally (describes s.tables b) s.handles =
-    λ b. rw count-append (rw o (omega arith)) in
     sound-handles s (s.handles ++ Some x ∷ []) k (rw length-append (omega arith)) (All-push (Fits s.tables s.calls) s.handles (Some x) k.fit f)
-    (λ b. omega (arith, holders-as s b, holders-as (with_handle s x) b, held b)) (λ b. omega (arith, users-as s b, users-as (with_handle s x) b, held b))
-    (λ b. omega (arith, d b))
-    (λ b h. k.sole b (rw a at h)) (λ i y b a. append-at s.handles (Some x) i y a)
+    (λ b. rw count-append (rw o (omega arith))) (λ b. rw count-append (rw o (omega arith)))
+    (λ b h. k.sole b (let z = rw (count-append (alone s.tables b) s.handles (Some x), o) at h in omega (arith, z)))
+    (λ i y b a. append-at s.handles (Some x) i y a)
 
 -- where a change makes a handle that must be alone, its block has one holder; else there are no more such handles than before
 pub alone-edited : {P : Type 0} (g : Tables) (hs : List (Option Handle)) (h : ℕ) (y : Handle) (b : ℕ) → h < length hs
@@ -114,12 +150,7 @@ pub sound-edited : (s : State) (h : ℕ) (x y : Handle) → IsSound s → handle
     → ((b : ℕ) → alone s.tables b (Some y) ≡ true → holders (reading s) b ≡ 1) → FitsWord s.tables s.calls y y.word → IsSound (edited s h y)
 sound-edited s h x y k at free o same only f =
     let l = at-some s.handles h x at in
-    let held : (b : ℕ) → tally (held_by s.tables b) (set s.handles h (Some y)) ≡ tally (held_by s.tables b) s.handles = λ b. let e =
-    rw (at, o) at (count-set (held_by s.tables b) s.handles h (Some y) None l) in omega (arith, e) in
-    let d : (b : ℕ) → tally (describes s.tables b) (set s.handles h (Some y)) ≡ tally (describes s.tables b) s.handles = λ b. let e =
-    rw (at, same b) at (count-set (describes s.tables b) s.handles h (Some y) None l) in omega (arith, e) in
     sound-handles s (set s.handles h (Some y)) k (rw length-set k.size.few_handles) (All-set (Fits s.tables s.calls) s.handles h (Some y) f k.fit)
-    (λ b. omega (arith, holders-as s b, holders-as (edited s h y) b, held b)) (λ b. omega (arith, users-as s b, users-as (edited s h y) b, held b))
-    (λ b. omega (arith, d b))
-    (λ b p. alone-edited s.tables s.handles h y b l (k.sole b) (only b) p)
-    (λ i z b a. set-at s.handles h i (Some y) z (λ e. let q = rw e at b in absurd (cc)) a)
+    (λ b. let e = rw (at, o) at (count-set (held_by s.tables b) s.handles h (Some y) None l) in omega (arith, e))
+    (λ b. let e = rw (at, same b) at (count-set (describes s.tables b) s.handles h (Some y) None l) in omega (arith, e))
+    (λ b p. alone-edited s.tables s.handles h y b l (k.sole b) (only b) p) (lent-stays s h (Some y) free)

@@ -1,13 +1,9 @@
 -- One holder more of a counted block keeps the machine sound.
-use Rattle.iobufs_owner.proofs.Base.{◌≡◌, ◌≢◌, inl, inr, ℕ, zero, suc, ◌+◌, ◌^◌, ◌<◌, ◌≤◌, ◌==◌, Bool, true, false, cond, List, [], ◌∷◌, ◌++◌, length, get_or, set, sym, ◌∙◌, ap, subst, refl, arith, All, Option, Some, None, nat_eq, length-append, length-set, All-push, get_or-set_same, get_or-set_other, nat_tests, eqb_tells, State, Tables, owner_of, record_at, block_at, handle_at, holds, holders, users, still_holds, tally, reading, read_handle, read_call, has_let_go, IsSound, Fits, FitsWord, LiesIn, alone, describes, counted, with_count, with_handle, Record, Handle, Kind, View, Pending, Release, Word, Counted, count-append, count-some, count-map, count-less, Keeps, KeepsLetGo, all-fit-kept, calls-fit-kept, at-some, append-at, owner-counted, ne_eqb, eq-eqb, counted-at, live-inside, alone-shared, describes-counted, alone-holds, held_by, held-at, holders-as, block-log-alike, record-log-counted, sized, alike, users-as}
+use Rattle.iobufs_owner.proofs.Base.{part, lies-as, ◌≡◌, ◌≢◌, inl, inr, ℕ, ◌+◌, ◌^◌, ◌<◌, ◌≤◌, ◌==◌, Bool, true, false, cond, List, [], ◌∷◌, ◌++◌, length, get_or, set, sym, ◌∙◌, ap, refl, arith, All, Option, Some, None, nat_eq, length-append, length-set, All-push, get_or-set_same, get_or-set_other, nat_tests, eqb_tells, State, Tables, owner_of, record_at, block_at, handle_at, holders, users, tally, reading, has_let_go, IsSound, Fits, alone, describes, counted, with_count, with_handle, Record, Handle, View, Pending, Release, Counted, count-append, count-some, count-less, Keeps, KeepsLetGo, calls-fit-kept, at-some, append-at, owner-counted, ne_eqb, eq-eqb, counted-at, live-inside, alone-shared, describes-counted, alone-holds, held_by, held-at, holders-as, block-log-alike, record-log-counted, sized, alike, users-as, all-fit-on, get_or-read, map-set_same, keeps-records, no_record, still_by}
 
 -- a write that keeps a field keeps it everywhere
 pub field-set : {X Y : Type 0} (f : X → Y) (xs : List X) (i q : ℕ) (v d : X) → f v ≡ f (get_or xs i d) → f (get_or (set xs i v) q d) ≡ f (get_or xs q d)
-field-set f [] i q v d e = refl
-field-set f (x ∷ xs) zero zero v d e = e
-field-set f (x ∷ xs) zero (suc q) v d e = refl
-field-set f (x ∷ xs) (suc i) zero v d e = refl
-field-set f (x ∷ xs) (suc i) (suc q) v d e = field-set f xs i q v d e
+field-set f xs i q v d e = sym (get_or-read f (set xs i v) q d) ∙ ap (λ l. get_or l q (f d)) (map-set_same f xs i v d e) ∙ get_or-read f xs q d
 
 -- ---- another count for a record
 
@@ -21,15 +17,7 @@ counted-live g r n q = field-set (λ (v : Record). v.live) g.records r q _ _ ref
 
 -- tables with another count for a record keep what live handles and calls speak of
 pub counted-keeps : (g : Tables) (r n : ℕ) → Keeps g (counted g r n)
-counted-keeps g r n = record {
-  align_bits = refl;
-  tail_bits = refl;
-  size_bits = refl;
-  longer = omega arith;
-  blocks = λ b h. refl;
-  with' = λ base b e. e;
-  records = λ q e. counted-block g r n q;
-}
+counted-keeps g r n = keeps-records g (counted g r n).records (λ q e. counted-block g r n q)
 
 -- where the count of that record stays 0, or stays another, each drop has let go as before
 pub counted-let_go : (g : Tables) (r n q : ℕ) → nat_eq n 0 ≡ has_let_go g r → has_let_go (counted g r n) q ≡ has_let_go g q
@@ -38,30 +26,26 @@ counted-let_go g r n q e = field-set (λ (v : Record). nat_eq v.count 0) g.recor
 -- a shared view beside those that must be alone
 alone-less : (s : State) (h : ℕ) (x : Handle) (b : ℕ) → handle_at s h ≡ Some x → owner_of s.tables x ≡ Some b → alone s.tables b (Some x) ≡ false
     → tally (alone s.tables b) s.handles < holders (reading s) b
-unfolding holders
-alone-less s h x b at o f =
-    let l = at-some s.handles h x at in
-    let m = count-map (holds b) (read_handle s.tables) s.handles in
-    let t = count-less (λ (o : Option Handle). holds b (read_handle s.tables o)) (alone s.tables b) s.handles h None (alone-holds s.tables b) l
-    (rw (at, o) (eq-eqb b b refl)) (rw at f) in
-    omega (arith, m, t)
+alone-less s h x b at o f = omega (
+  arith,
+  holders-as s b,
+  count-less (held_by s.tables b) (alone s.tables b) s.handles h None (alone-holds s.tables b)
+      (at-some s.handles h x at) (held-at s h x b at o) (rw at f),
+)
 
 -- a handle holds the block, so a drop that releases is one of another block
 pub release-elsewhere : (s : State) (h b p q : ℕ) (x : Handle) (d : Option Pending) → handle_at s h ≡ Some x → owner_of s.tables x ≡ Some b
     → p < length s.calls → get_or s.calls p d ≡ Some (Release q)
     → holders (reading s) (record_at s.tables q).block ≡ cond (has_let_go s.tables q) 0 1 → (record_at s.tables q).block ≢ b
-unfolding holders
 release-elsewhere s h b p q x d at o l i n e =
-    let m = count-map (holds b) (read_handle s.tables) s.handles in
-    let one = count-some (λ (o : Option Handle). holds b (read_handle s.tables o)) s.handles h None (at-some s.handles h x at) (rw (at, o) (eq-eqb b b refl)) in
-    let mc = count-map (still_holds b) (read_call s.tables) s.calls in
-    let two : has_let_go s.tables q ≡ false → 0 < tally (λ (c : Option Pending). still_holds b (read_call s.tables c)) s.calls =
-    λ f. count-some (λ (c : Option Pending). still_holds b (read_call s.tables c)) s.calls p d l
-    (rw (i, f) (eq-eqb b (record_at s.tables q).block (sym e))) in
+    let one = count-some (held_by s.tables b) s.handles h None (at-some s.handles h x at) (held-at s h x b at o) in
+    let sum = holders-as s b in
     let n' = rw e at n in
     let by : (v : Bool) → has_let_go s.tables q ≡ v → ⊥ = λ v. elim v as (λ v. has_let_go s.tables q ≡ v → ⊥) [
-      | true ↦ λ f. (let z = rw f at n' in omega (arith, z, m, one))
-      | false ↦ λ f. (let z = rw f at n' in omega (arith, z, m, one, mc, two f))
+      | true ↦ λ f. (let z = rw f at n' in omega (arith, z, sum, one))
+      | false ↦ λ f. (let z = rw f at n' in
+          let two = count-some (still_by s.tables b) s.calls p d l (rw (i, f) (eq-eqb b (record_at s.tables q).block (sym e))) in
+          omega (arith, z, sum, one, two))
     ] in
     by (has_let_go s.tables q) refl
 
@@ -79,30 +63,30 @@ counted-more s h x r k at w =
 
 -- a record of the table has the count that it is given
 pub counted-same : (g : Tables) (r n : ℕ) → r < length g.records → (record_at (counted g r n) r).count ≡ n
-counted-same g r n l = rw (get_or-set_same g.records r (record { count = n; block = (record_at g r).block; live = (record_at g r).live })
-    (record { count = 0; block = 0; live = false }) l) refl
+counted-same g r n l = rw (get_or-set_same g.records r _ no_record l) refl
 
 -- another count for one record leaves those of the others
 pub counted-other : (g : Tables) (r n q : ℕ) → q ≢ r → (record_at (counted g r n) q).count ≡ (record_at g q).count
-counted-other g r n q ne = rw (get_or-set_other g.records r q (record { count = n; block = (record_at g r).block; live = (record_at g r).live })
-    (record { count = 0; block = 0; live = false }) ne) refl
+counted-other g r n q ne = rw (get_or-set_other g.records r q _ no_record ne) refl
 
--- one more view by the record of a view, inside the record's block and counted there, keeps the machine sound, where the
--- count was at most the ceiling and there were fewer than 2^32 handles
-pub sound-added : (s : State) (h r : ℕ) (x y : Handle) → IsSound s → handle_at s h ≡ Some x → x.kind ≡ View → x.word ≡ Counted r → y.kind ≡ View
-    → y.word ≡ Counted r → LiesIn (block_at s.tables (record_at s.tables r).block) y View → (record_at s.tables r).count ≤ s.ceiling
-    → length s.handles < 2 ^ 32 → IsSound (with_handle (with_count s r ((record_at s.tables r).count + 1)) y)
-sound-added s h r x y k at xv xw yv yw lies low few =
+-- a part of a view, by the record of the view and counted there, keeps the machine sound, where the count was at most the
+-- ceiling and there were fewer than 2^32 handles
+pub sound-added : (s : State) (h r lo hi : ℕ) (x : Handle) → IsSound s → handle_at s h ≡ Some x → x.kind ≡ View → x.word ≡ Counted r → lo ≤ hi → hi ≤ x.len
+    → (record_at s.tables r).count ≤ s.ceiling → length s.handles < 2 ^ 32
+    → IsSound (with_handle (with_count s r ((record_at s.tables r).count + 1)) (part x lo hi (Counted r)))
+sound-added s h r lo hi x k at xv xw low high on few =
     let g : Tables = s.tables in
     let n : ℕ = (record_at s.tables r).count + 1 in
+    let y : Handle = part x lo hi (Counted r) in
     let g' : Tables = counted s.tables r ((record_at s.tables r).count + 1) in
     let next : State = with_handle (with_count s r ((record_at s.tables r).count + 1)) y in
     let b : ℕ = (record_at s.tables r).block in
     let fx = counted-at s h x r k at xw in
+    let lies = lies-as (block_at g b) x View xv fx.lies in
     let e = counted-keeps g r n in
     let live : (q : ℕ) → (record_at g q).live ≡ true → (record_at g' q).live ≡ true = λ q t. counted-live g r n q ∙ t in
     let ox : owner_of g x ≡ Some b = owner-counted g x r xw in
-    let o : owner_of g' y ≡ Some b = owner-counted g' y r yw ∙ ap Some (counted-block g r n r) in
+    let o : owner_of g' y ≡ Some b = owner-counted g' y r refl ∙ ap Some (counted-block g r n r) in
     let gone : All (KeepsLetGo g g') s.calls = λ i d l q j t. counted-let_go g r n q (counted-more s h x r k at xw) in
     let v = alike s g' k e gone in
     let held : (c : ℕ) → tally (held_by g' c) (s.handles ++ Some y ∷ []) ≡ tally (held_by g c) s.handles + cond (c == b) 1 0 =
@@ -112,9 +96,9 @@ sound-added s h r x y k at xv xw yv yw lies low few =
     let um : (c : ℕ) → users (reading next) c ≡ users (reading s) c + cond (c == b) 1 0 =
     λ c. omega (arith, users-as s c, users-as next c, held c, v.drops c) in
     let am : (c : ℕ) → tally (alone g' c) (s.handles ++ Some y ∷ []) ≡ tally (alone g c) s.handles =
-    λ c. rw (count-append (alone g' c) s.handles (Some y), v.alone c, alone-shared g' c y r yw yv) (omega arith) in
+    λ c. rw (count-append (alone g' c) s.handles (Some y), v.alone c, alone-shared g' c y r refl refl) (omega arith) in
     let dm : (c : ℕ) → tally (describes g' c) (s.handles ++ Some y ∷ []) ≡ tally (describes g c) s.handles =
-    λ c. rw (count-append (describes g' c) s.handles (Some y), v.describes c, describes-counted g' c y r yw)
+    λ c. rw (count-append (describes g' c) s.handles (Some y), v.describes c, describes-counted g' c y r refl)
     (omega arith) in
     let me = k.counted r fx.live in
     let less = alone-less s h x b at ox (alone-shared g b x r xw xv) in
@@ -122,18 +106,17 @@ sound-added s h r x y k at xv xw yv yw lies low few =
     record {
       size = sized k.size k.size.few_blocks (rw length-set k.size.few_records) (rw length-append (omega arith)) k.size.few_calls;
       blocks = k.blocks;
-      fit = All-push (Fits g' s.calls) s.handles (Some y) (all-fit-kept g g' s.calls s.handles e live k.fit)
-          (subst (λ (v : Word). FitsWord g' s.calls y v) (sym yw) (record {
+      fit = All-push (Fits g' s.calls) s.handles (Some y) (all-fit-on s.calls s.handles e (λ _ q z _ _ c. (live q c.live, c.shown)) k.fit)
+          (record {
             live = live r fx.live;
             known = rw counted-block fx.known;
             shown = fx.shown;
-            lies = rw (counted-block g r n r) (subst (λ (q : Kind). LiesIn (block_at g b) y q) (sym yv) lies);
-            native = λ m. absurd (let q = sym yv ∙ m in cc);
-          }));
-      calls_fit = calls-fit-kept s next refl e (λ _ q _ _ t. live q t) (λ i z l a. append-at s.handles (Some y) i z a) k.fit
-          (λ i z a. at-some s.handles i z a) gone
+            lies = rw (counted-block g r n r) (record { begins = omega (arith, lies.begins); ends = omega (arith, lies.ends); no_room = refl });
+            native = λ m. absurd (cc);
+          });
+      calls_fit = calls-fit-kept next k refl e (λ _ q _ _ t. live q t) (λ i z l a. append-at s.handles (Some y) i z a) gone
           (λ p q l i. let f = rw i at (k.calls_fit p None l) in
-          rw (hm, ne_eqb (record_at g q).block b (release-elsewhere s h b p q x None at ox l i f.alone)) (omega arith)) k.calls_fit;
+          rw (hm, ne_eqb (record_at g q).block b (release-elsewhere s h b p q x None at ox l i f.alone)) (omega arith));
       one_release = λ c. rw (v.releases c) (k.one_release c);
       counted = λ q l.
           let lq : (record_at g q).live ≡ true = sym (counted-live g r n q) ∙ l in
@@ -164,12 +147,10 @@ sound-added s h r x y k at xv xw yv yw lies low few =
       ];
       known_users = λ c t. let u = rw um at t in
           elim (eqb_tells c b) [ inl i ↦ rw i.1 me.known | inr i ↦ k.known_users c (let v = rw i.0 at u in omega (arith, v)) ];
-      block_log = block-log-alike g.blocks s.freed_blocks (users (reading s)) (users (reading next))
-          (λ c t. elim (eqb_tells c b) [
-            | inl i ↦ rw (i.1, um, eq-eqb b b refl) (sym (more-some (users (reading s) b) me.used))
-            | inr i ↦
-                rw (um, i.0) (ap (λ m. nat_eq m 0) (omega arith))
-          ]) k.block_log;
-      record_log = record-log-counted g.records s.freed_records r (record { count = n; block = (record_at g r).block; live = (record_at g r).live })
-          inside refl k.record_log;
+      block_log = block-log-alike (λ c t. elim (eqb_tells c b) [
+        | inl i ↦ rw (i.1, um, eq-eqb b b refl) (sym (more-some (users (reading s) b) me.used))
+        | inr i ↦
+            rw (um, i.0) (ap (λ m. nat_eq m 0) (omega arith))
+      ]) k.block_log;
+      record_log = record-log-counted r _ inside refl k.record_log;
     }

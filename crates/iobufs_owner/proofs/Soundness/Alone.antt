@@ -1,5 +1,5 @@
 -- If a handle is the only holder of its block and goes by a record, nothing else speaks of the block or the record.
-use Rattle.iobufs_owner.proofs.Base.{◌≡◌, ◌≢◌, inl, inr, ℕ, ◌<◌, ◌==◌, ◌&&◌, Bool, true, false, cond, length, sym, ◌∙◌, ap, refl, arith, Option, Some, None, nat_tests, eqb_tells, State, owner_of, record_at, handle_at, call_at, Dropping, drops, holders, users, tally, reading, read_call, has_let_go, IsSound, Fits, FitsCall, hidden, readies, tables_without, is_lent, Handle, Pending, Loaded, Ready, Add, Subtract, Release, Counted, count-some, count-two, count-sum, lent-by, names, fits-kept, owner-kept, live-of, at-some, owner-counted, eq-eqb, counted-at, held_by, still_by, drops_by, holders-as, users-as, held-at, lets_go, drops-split, count-none}
+use Rattle.iobufs_owner.proofs.Base.{◌≡◌, ◌≢◌, inl, inr, ℕ, ◌<◌, ◌==◌, ◌&&◌, Bool, true, false, cond, length, sym, ◌∙◌, ap, refl, arith, Option, Some, None, nat_tests, eqb_tells, State, owner_of, record_at, handle_at, call_at, holders, users, tally, reading, has_let_go, IsSound, Fits, FitsCall, hidden, readies, tables_without, is_lent, Handle, Pending, Ready, Subtract, Release, Counted, count-some, count-two, count-sum, names, at-some, owner-counted, eq-eqb, counted-at, held_by, still_by, drops_by, holders-as, users-as, held-at, lets_go, drops-split, count-none, fit-on, ◌⊎◌, list_any_at, borrows_it}
 use Rattle.iobufs_owner.proofs.Soundness.RecordFreed.{dead-other, dead-keeps}
 
 none-left : (b c : ℕ) (n : ℕ → ℕ) (v : Bool) → ((b == c) && v) ≡ true → n c ≡ cond v 0 1 → n b ≡ 0
@@ -57,7 +57,7 @@ ready-borrows s q i (Some (Ready part w z)) l at t f =
       view = f.view;
       at = f.shares.at;
       owner = f.promised.owner ∙ ap Some (sym f.same ∙ ap (λ (n : ℕ). (record_at s.tables n).block) (sym e));
-      lent = lent-by part.handle s.calls i None l (rw at (eq-eqb part.handle part.handle refl));
+      lent = list_any_at (borrows_it part.handle) s.calls i None l (rw at (eq-eqb part.handle part.handle refl));
     }
 ready-borrows s q i c l at t f = absurd (cc)
 
@@ -69,78 +69,48 @@ unready s h b q k one free e = count-none (readies q) None s.calls (λ j l t.
     let v = y.lent in cc)
 
 -- no call drops the block
-pub undropped : (s : State) (h b i r : ℕ) (let_go : Bool) (left : ℕ) → Only s h b → i < length s.calls
-    → read_call s.tables (call_at s i) ≡ Some (Dropping (record_at s.tables r).block let_go left) → (record_at s.tables r).block ≢ b
-undropped s h b i r let_go left one l at e =
-    let t = count-some (drops_by s.tables b) s.calls i None l (ap (drops b) at ∙ eq-eqb b (record_at s.tables r).block (sym e)) in
-    let n = one.dropped in
-    omega (arith, t, n)
+pub undropped : (s : State) (h b i : ℕ) → Only s h b → i < length s.calls → drops_by s.tables b (call_at s i) ≡ true → ⊥
+undropped s h b i one l t = let n = one.dropped in omega (arith, count-some (drops_by s.tables b) s.calls i None l t, n)
+
+-- a call that counts on a record has made it, or drops its block, and then the record is shown
+pub named : (s : State) (r : ℕ) (c : Option Pending) → FitsCall s c → names r c ≡ true
+    → (readies r c ≡ true) ⊎ ((hidden s.calls r ≡ 0) × (drops_by s.tables (record_at s.tables r).block c ≡ true))
+named s r (Some (Ready part w q)) f t = let e : r ≡ q = grind (arith, nat_tests, t) in inl (eq-eqb r q e)
+named s r (Some (Subtract q)) f t = let e : r ≡ q = grind (arith, nat_tests, t) in
+    inr (rw e f.1, eq-eqb (record_at s.tables r).block (record_at s.tables q).block (ap (λ (n : ℕ). (record_at s.tables n).block) e))
+named s r (Some (Release q)) f t = let e : r ≡ q = grind (arith, nat_tests, t) in
+    inr (rw e f.shown, eq-eqb (record_at s.tables r).block (record_at s.tables q).block (ap (λ (n : ℕ). (record_at s.tables n).block) e))
+named s r c f t = absurd (cc)
 
 -- ---- a record that counts one is named once
 
--- whether a call speaks of the record
-abbrev pub speaks_of : ℕ → Option Pending → Bool
-speaks_of r None = false
-speaks_of r (Some (Loaded part w)) = false
-speaks_of r (Some (Ready part w q)) = q == r
-speaks_of r (Some (Add part q)) = q == r
-speaks_of r (Some (Subtract q)) = q == r
-speaks_of r (Some (Release q)) = q == r
-
--- no call speaks of the record, and no handle but this one goes by it
+-- no call counts on the record, and no handle but this one goes by it
 pub record NamedOnce (s : State) (h r : ℕ) : Type 0 where
-  pub calls : (i : ℕ) → i < length s.calls → speaks_of r (call_at s i) ≡ true → ⊥
+  pub calls : (i : ℕ) → i < length s.calls → names r (call_at s i) ≡ true → ⊥
   pub handles : (i : ℕ) (y : Handle) → handle_at s i ≡ Some y → y.word ≡ Counted r → i ≡ h
-
-silent : (s : State) (h r i : ℕ) (c : Option Pending) → Only s h (record_at s.tables r).block → is_lent h s.calls ≡ false → hidden s.calls r ≡ 0
-    → i < length s.calls → call_at s i ≡ c → FitsCall s c → speaks_of r c ≡ true → ⊥
-silent s h r i (Some (Ready part w q)) one free z l at f t =
-    let same : q ≡ r = grind (arith, nat_tests, t) in
-    let some = count-some (readies r) s.calls i None l (rw at (eq-eqb r q (sym same))) in
-    omega (arith, some, z)
-silent s h r i (Some (Add part q)) one free z l at f t =
-    let same : q ≡ r = grind (arith, nat_tests, t) in
-    let j : part.handle ≡ h = one.handle part.handle f.view f.shares.at
-    (owner-counted s.tables f.view q f.word ∙ ap (λ (n : ℕ). Some (record_at s.tables n).block) same) in
-    let lent = lent-by part.handle s.calls i None l (rw at (eq-eqb part.handle part.handle refl)) in
-    let u = ap (λ (n : ℕ). is_lent n s.calls) j in
-    cc
-silent s h r i (Some (Subtract q)) one free z l at f t =
-    let same : q ≡ r = grind (arith, nat_tests, t) in
-    undropped s h (record_at s.tables r).block i q false 2 one l (ap (read_call s.tables) at) (ap (λ (n : ℕ). (record_at s.tables n).block) same)
-silent s h r i (Some (Release q)) one free z l at f t =
-    let same : q ≡ r = grind (arith, nat_tests, t) in
-    undropped s h (record_at s.tables r).block i q (has_let_go s.tables q) 1 one l (ap (read_call s.tables) at)
-    (ap (λ (n : ℕ). (record_at s.tables n).block) same)
-silent s h r i c one free z l at f t = cc
 
 -- Another handle, and a drop that hasn't let go, would be a holder more than the one that is counted; a clone or slice that
 -- is to be counted there borrows the handle. So the record can be freed while the block lives on.
-pub named-once : (s : State) (h r : ℕ) (x : Handle) → IsSound s → handle_at s h ≡ Some x → is_lent h s.calls ≡ false → x.word ≡ Counted r
+pub named-once : (s : State) (h r : ℕ) (x : Handle) → IsSound s → handle_at s h ≡ Some x → x.word ≡ Counted r
     → holders (reading s) (record_at s.tables r).block ≡ 1 → NamedOnce s h r
-named-once s h r x k at free xw one =
+named-once s h r x k at xw one =
     let f = counted-at s h x r k at xw in
     let me = only s h (record_at s.tables r).block x k at (owner-counted s.tables x r xw) one in
     record {
-      calls = λ i l t. silent s h r i (call_at s i) me free f.shown l refl (k.calls_fit i None l) t;
+      calls = λ i l t. elim (named s r (call_at s i) (k.calls_fit i None l) t) [
+        | inl e ↦ omega (arith, f.shown, count-some (readies r) s.calls i None l e)
+        | inr e ↦ undropped s h (record_at s.tables r).block i me l e.1
+      ];
       handles = λ i y a yw. me.handle i y a (owner-counted s.tables y r yw);
     }
-
--- a call speaks of each record that it counts on
-names-speak : (r : ℕ) (c : Option Pending) → names r c ≡ true → speaks_of r c ≡ true
-names-speak r (Some (Add part q)) t = absurd (cc)
-names-speak r c t = t
 
 -- every other live record that a call counts on stays live
 pub calls-live : (s : State) (h r q i : ℕ) → NamedOnce s h r → i < length s.calls → names q (call_at s i) ≡ true → (record_at s.tables q).live ≡ true
     → (record_at (tables_without s.tables r) q).live ≡ true
-calls-live s h r q i once l t live = dead-other s.tables r q (λ e. once.calls i l (names-speak r (call_at s i) (rw e at t))) ∙ live
+calls-live s h r q i once l t live = dead-other s.tables r q (λ e. once.calls i l (rw e at t)) ∙ live
 
 -- every other handle fits as before
-pub fit-dead : (s : State) (h r i : ℕ) (o : Option Handle) → NamedOnce s h r → i ≢ h → handle_at s i ≡ o → Fits s.tables s.calls o
-    → Fits (tables_without s.tables r) s.calls o
-fit-dead s h r i None once ne at f = tt
-fit-dead s h r i (Some x) once ne at f =
-    let e = dead-keeps s.tables r in
-    fits-kept s.tables (tables_without s.tables r) s.calls x x.word (owner-kept s.tables (tables_without s.tables r) s.calls x e f) e
-    (λ q w. dead-other s.tables r q (λ y. ne (once.handles i x at (w ∙ ap Counted y))) ∙ live-of s.tables s.calls x x.word q w f) f
+pub fit-dead : (s : State) (h r i : ℕ) → IsSound s → NamedOnce s h r → i ≢ h → i < length s.handles
+    → Fits (tables_without s.tables r) s.calls (handle_at s i)
+fit-dead s h r i k once ne l = fit-on s.calls (handle_at s i) (dead-keeps s.tables r)
+    (λ x q a w c. (dead-other s.tables r q (λ y. ne (once.handles i x a (w ∙ ap Counted y))) ∙ c.live, c.shown)) (k.fit i None l)

@@ -1,5 +1,5 @@
 -- A party's call becomes another one; neither is a drop, and neither has made a record.
-use Rattle.iobufs_owner.proofs.Base.{◌≡◌, ℕ, ◌<◌, ◌≤◌, Bool, false, List, length, get_or, set, sym, ◌∙◌, refl, arith, Option, Some, None, length-set, All-from_get_or, State, Tables, record_at, call_at, holders, users, still_holds, drops, tally, reading, read_call, IsSound, Fits, FitsCall, hidden, readies, releases, called, Handle, Share, Pending, Loaded, Add, keeps-self, call-kept, fits-calls, calls-fit-set, Leaves, block-log-kept, count-change, drops_by, holders-as, still_by, users-as}
+use Rattle.iobufs_owner.proofs.Base.{◌≡◌, ℕ, ◌<◌, Bool, false, List, length, get_or, set, sym, ◌∙◌, refl, arith, Option, Some, None, length-set, State, Tables, record_at, call_at, holders, users, still_holds, drops, tally, reading, read_call, IsSound, FitsCall, hidden, readies, releases, called, Share, Pending, Loaded, Add, keeps-self, call-kept, calls-fit-set, Leaves, count-change, drops_by, holders-as, still_by, users-as, all-fit-on, sound-same, leaves}
 
 -- calls that count for nothing
 pub record IsQuiet (s : State) (c : Option Pending) : Type 0 where
@@ -26,10 +26,6 @@ pub count-calls : {X : Type 0} (p : X → Bool) (xs : List X) (i : ℕ) (y d : X
 count-calls p xs i y d l e f =
     omega (arith, count-change p xs i y d false false l e f)
 
-fit-called : (g : Tables) (cs ds : List (Option Pending)) → ((q : ℕ) → hidden ds q ≤ hidden cs q) → (o : Option Handle) → Fits g cs o → Fits g ds o
-fit-called g cs ds less None f = tt
-fit-called g cs ds less (Some x) f = fits-calls g cs ds x x.word less f
-
 -- another call of a party keeps the machine sound, where it fits and both it and the one before it count for nothing
 pub sound-called : (s : State) (p : ℕ) (c : Option Pending) → IsSound s → p < length s.calls → IsQuiet s (call_at s p) → IsQuiet s c → FitsCall s c
     → IsSound (called s p c)
@@ -43,28 +39,13 @@ sound-called s p c k l q r f =
     let hid : (n : ℕ) → hidden (set s.calls p c) n ≡ hidden s.calls n = λ n. count-calls (readies n) s.calls p c None l (q.readies n) (r.readies n) in
     let rel : (b : ℕ) → tally (releases g b) (set s.calls p c) ≡ tally (releases g b) s.calls =
     λ b. count-calls (releases g b) s.calls p c None l (q.releases b) (r.releases b) in
-    record {
-      size = rw length-set k.size;
-      blocks = k.blocks;
-      fit = All-from_get_or (Fits g (set s.calls p c)) s.handles None
-          (λ i li. fit-called g s.calls (set s.calls p c) (λ n. omega (arith, hid n)) (get_or s.handles i None) (k.fit i None li));
-      calls_fit = (
-          let leaves : (o : Option Pending) → Leaves s next o = λ o. record {
-            tables = keeps-self g;
-            let_go = λ q j t. refl;
-            live = λ n _ t. t;
-            hidden = λ n _ _. hid n;
-            handle = λ i x _ a. a;
-            owner = λ i x a. refl;
-            holders = λ n _. hm (record_at g n).block;
-          } in
-          calls-fit-set s next p c l (call-kept s next c (leaves c) f) (λ i _ _. leaves (call_at s i)) k.calls_fit);
-      one_release = λ b. rw rel (k.one_release b);
-      counted = λ n t. rw (hid n, hm, um) (k.counted n t);
-      one_record = λ n m a b u v e. k.one_record n m a b (sym (hid n) ∙ u) (sym (hid m) ∙ v) e;
-      sole = λ b t. rw hm (k.sole b t);
-      capped = λ b. rw hm (k.capped b);
-      known_users = λ b t. k.known_users b (rw um at t);
-      block_log = block-log-kept g.blocks s.freed_blocks (users (reading s)) (users (reading next)) um k.block_log;
-      record_log = k.record_log;
-    }
+    sound-same s _ _ _ _ k (rw length-set k.size)
+    (all-fit-on (set s.calls p c) s.handles (keeps-self g) (λ _ n x _ _ f. (f.live, hid n ∙ f.shown)) k.fit)
+    ((
+    let leave : (o : Option Pending) → Leaves s next o =
+    λ o. leaves next o k refl (keeps-self g) (λ q j t. refl) (λ n _ t. t) (λ n _ _. hid n) (λ n _. hm (record_at g n).block) in
+    calls-fit-set s next p c l (call-kept s next c (leave c) f) (λ i _ _. leave (call_at s i)) k.calls_fit))
+    (λ b. rw (rel b) (k.one_release b)) hm um
+    (λ n t. rw (hid n, hm, um) (k.counted n t))
+    (λ n m a b u v e. k.one_record n m a b (sym (hid n) ∙ u) (sym (hid m) ∙ v) e)
+    (λ b t. k.sole b t) k.record_log

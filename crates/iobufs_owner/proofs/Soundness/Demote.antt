@@ -1,8 +1,9 @@
 -- A descriptor in the place of a record that counts one view keeps the machine sound.
-use Rattle.iobufs_owner.proofs.Base.{◌≡◌, ◌≢◌, inl, inr, ℕ, zero, suc, ◌+◌, ◌^◌, ◌<◌, ◌≤◌, ◌==◌, ◌&&◌, true, false, not, cond, List, [], ◌∷◌, length, get_or, set, sym, ◌∙◌, ap, refl, arith, Some, None, nat_eq, length-set, eqb_tells, IsPowerOfTwo, HasRoom, word_of, State, Tables, owner_of, record_at, block_at, base_by, block_with, is_block, holders, users, tally, reading, IsSound, ArePlaced, IsDescribed, alone, describes, edited, tables_without, record_freed, Lends, fits_in, tail_of, may_demote, described, demote_counted, Block, Handle, View, Counted, Declined, Done, word-size, word-tail, fits-room, fits-true, owner-kept, handles-fit-set, at-some, block-log-kept, owner-counted, ne_eqb, eq-eqb, fits-at, counted-at, lies-as, live-inside, no_block, owner-described, alone-described, describes-described, describes-counted, alone-shared, bases, record-log-dead, fits-fewer, and_parts, eqb-true, false_from_ne_true, not-true, log-is, log_of, count-change, alike, count-set, held_by, holders-as, users-as, calls-fit-kept, set-at}
+use Rattle.iobufs_owner.proofs.Base.{◌≡◌, ◌≢◌, inl, inr, ℕ, ◌+◌, ◌^◌, ◌<◌, ◌≤◌, ◌==◌, ◌&&◌, true, false, not, cond, length, set, sym, ◌∙◌, ap, refl, arith, Some, None, nat_eq, length-set, eqb_tells, IsPowerOfTwo, HasRoom, word_of, State, Tables, owner_of, record_at, block_at, base_by, block_with, is_block, holders, users, tally, reading, IsSound, IsDescribed, alone, describes, edited, tables_without, record_freed, Lends, fits_in, tail_of, may_demote, described, demote_counted, Block, Handle, View, Counted, Declined, Done, word-size, word-tail, fits-room, fits-true, owner-kept, handles-fit-set, at-some, owner-counted, ne_eqb, fits-at, counted-at, lies-as, live-inside, no_block, owner-described, alone-described, describes-described, describes-counted, alone-shared, bases, record-log-dead, fits-fewer, and_parts, eqb-true, false_from_ne_true, not-true, log-is, log_of, count-change, alike, count-set, held_by, holders-as, users-as, calls-fit-kept, sound-same, lent-stays}
 use Rattle.iobufs_owner.proofs.Soundness.RecordFreed.{dead-at, dead-block, dead-keeps, dead-let_go, dead-live}
 use Rattle.iobufs_owner.proofs.Soundness.Alone.{only, unready, named-once, calls-live, fit-dead}
 use Rattle.iobufs_owner.proofs.Soundness.BlockFreed.{counted-ends}
+use Rattle.iobufs_owner.proofs.Soundness.Recovered.{with-first}
 
 -- ---- when a record may go
 
@@ -31,19 +32,6 @@ may-true g x r m =
 
 -- ---- the block that the descriptor says
 
-found-first : (bs : List Block) (b : ℕ) → b < length bs → ((c : ℕ) → c < b → (get_or bs c no_block).base ≢ (get_or bs b no_block).base)
-    → block_with (get_or bs b no_block).base bs ≡ Some b
-found-first [] b l ne = absurd (omega arith)
-found-first (x ∷ bs) zero l ne = rw (eq-eqb x.base x.base refl) refl
-found-first (x ∷ bs) (suc b) l ne = rw (
-  ne_eqb x.base (get_or bs b no_block).base (ne 0 (omega arith)),
-  found-first bs b (omega arith) (λ c m. ne (suc c) (omega arith)),
-) (ap Some (omega arith))
-
--- a block is the one with its base
-found-by-base : (g : Tables) (b : ℕ) → ArePlaced g.blocks → b < length g.blocks → block_with (block_at g b).base g.blocks ≡ Some b
-found-by-base g b k l = found-first g.blocks b l (λ c m. bases g c b k (omega arith) l (omega arith))
-
 -- the handle goes by the descriptor, and holds what it held
 pub owner-demoted : (s : State) (h r : ℕ) (x : Handle) → IsSound s → Lends s h View x → x.word ≡ Counted r → MayDemote s.tables x r
     → owner_of (tables_without s.tables r) (described s.tables x r) ≡ Some (record_at s.tables r).block
@@ -58,7 +46,8 @@ owner-demoted s h r x k t xw m =
     let size = word-size g.align_bits g.tail_bits g.size_bits w bl.size (log_of bl.align) (tail_of bl x) m.room refl in
     let tail = word-tail g.align_bits g.tail_bits g.size_bits w bl.size (log_of bl.align) (tail_of bl x) m.room refl in
     let base : base_by (tables_without s.tables r) y w ≡ bl.base = rw (t.kind_is, size, tail) (omega (arith, lies.begins, lies.ends)) in
-    owner-described (tables_without s.tables r) y w refl ∙ ap (λ (n : ℕ). block_with n g.blocks) base ∙ found-by-base g b k.blocks f.known
+    owner-described (tables_without s.tables r) y w refl ∙ ap (λ (n : ℕ). block_with n g.blocks) base
+    ∙ with-first bl.base g.blocks b f.known refl (λ c m. bases g c b k.blocks (omega (arith, f.known)) f.known (omega arith))
 
 pub described-demoted : (s : State) (h r : ℕ) (x : Handle) → IsSound s → Lends s h View x → x.word ≡ Counted r
     → MayDemote s.tables x r
@@ -105,7 +94,7 @@ sound-demoted s h r x k t xw may =
     let one : holders (reading s) b ≡ 1 = sym ((k.counted r f.live).counts f.shown) ∙ may.one in
     let ox : owner_of g x ≡ Some b = owner-counted g x r xw in
     let me = only s h b x k at ox one in
-    let once = named-once s h r x k at free xw one in
+    let once = named-once s h r x k at xw one in
     let e = dead-keeps g r in
     let ox' : owner_of g' x ≡ Some b = owner-kept g g' s.calls x e (fits-at s h x k at) ∙ ox in
     let oy : owner_of g' y ≡ Some b = owner-demoted s h r x k t xw may in
@@ -122,55 +111,44 @@ sound-demoted s h r x k t xw may =
     (alone-described g' c y w refl ∙ ap (is_block c) oy) in omega (arith, n, v.alone c) in
     let apart : (q : ℕ) → (record_at g q).live ≡ true → q ≢ r → (record_at g q).block ≢ b =
     λ q t ne i. ne (k.one_record q r t f.live (unready s h b q k me free i) f.shown i) in
-    record {
-      size = rw (length-set, length-set) k.size;
-      blocks = k.blocks;
-      fit = handles-fit-set g' s.calls s.handles h (Some y) l
-          (record { block = b; log = log_of (block_at s.tables (record_at s.tables r).block).align; tail = tail; says = described-demoted s h r x k t xw may })
-          (λ i ne li. fit-dead s h r i (get_or s.handles i None) once ne refl (k.fit i None li));
-      calls_fit = calls-fit-kept s next refl e (λ i q li m t. calls-live s h r q i once li m t)
-          (λ i z b a. set-at s.handles h i (Some y) z (λ e. let q = rw e at b in absurd (cc)) a) k.fit (λ i z a. at-some s.handles i z a)
-          (λ i d l q j t. dead-let_go g r q) (λ i q li e. hm (record_at g q).block) k.calls_fit;
-      one_release = λ c. rw (v.releases c) (k.one_release c);
-      counted = λ q t.
-          let d = dead-live g r q inside t in
-          let n = rw (ne_eqb (record_at g q).block b (apart q d.0 d.1)) at (dm (record_at g q).block) in
-          rw (dead-at g r q d.1, hm, um) (fits-fewer (k.counted q d.0) (omega (arith, n)));
-      one_record = λ p q tp tq hp hq i. k.one_record p q (dead-live g r p inside tp).0 (dead-live g r q inside tq).0 hp hq
-          (sym (dead-block g r p) ∙ i ∙ dead-block g r q);
-      sole = λ c t. elim (eqb_tells c b) [
-        | inl i ↦ rw i.1 (hm b ∙ one)
-        | inr i ↦ hm c ∙ k.sole c (let n = rw i.0 at (am c) in omega (arith, n, t))
-      ];
-      capped = λ c. rw hm (k.capped c);
-      known_users = λ c t. k.known_users c (rw um at t);
-      block_log = block-log-kept g.blocks s.freed_blocks (users (reading s)) (users (reading next)) um k.block_log;
-      record_log = record-log-dead g.records s.freed_records r
-          (record { count = (record_at g r).count; block = (record_at g r).block; live = false }) inside refl f.live k.record_log;
-    }
+    sound-same s _ _ _ _ k (rw (length-set, length-set) k.size)
+    (handles-fit-set g' s.calls s.handles h (Some y) l
+    (record { block = b; log = log_of (block_at s.tables (record_at s.tables r).block).align; tail = tail; says = described-demoted s h r x k t xw may })
+    (λ i ne li. fit-dead s h r i k once ne li))
+    (calls-fit-kept next k refl e (λ i q li m t. calls-live s h r q i once li m t)
+    (lent-stays s h (Some y) free)
+    (λ i d l q j t. dead-let_go g r q) (λ i q li e. hm (record_at g q).block))
+    (λ c. rw (v.releases c) (k.one_release c)) hm um
+    (λ q t.
+    let d = dead-live g r q inside t in
+    let n = rw (ne_eqb (record_at g q).block b (apart q d.0 d.1)) at (dm (record_at g q).block) in
+    rw (dead-at g r q d.1, hm, um) (fits-fewer (k.counted q d.0) (omega (arith, n))))
+    (λ p q tp tq hp hq i. k.one_record p q (dead-live g r p inside tp).0 (dead-live g r q inside tq).0 hp hq
+    (sym (dead-block g r p) ∙ i ∙ dead-block g r q))
+    (λ c t. elim (eqb_tells c b) [
+      | inl i ↦ rw i.1 one
+      | inr i ↦ k.sole c (let n = rw i.0 at (am c) in omega (arith, n, t))
+    ]) (record-log-dead r _ inside refl f.live k.record_log)
 
 -- ---- what the call finds
 
 pub record Demoting (s : State) (x : Handle) (r : ℕ) : Type 0 where
-  pub inside : r < length s.tables.records
   pub reaches : x.ptr + x.len ≤ (block_at s.tables (record_at s.tables r).block).base + (block_at s.tables (record_at s.tables r).block).size
   pub power : IsPowerOfTwo (block_at s.tables (record_at s.tables r).block).align
   pub log : (block_at s.tables (record_at s.tables r).block).align ≡ 2 ^ log_of (block_at s.tables (record_at s.tables r).block).align
   pub log_room : length s.freed_records < length s.tables.records
 
--- of a view by a record that no call borrows: the record is one of the table, the view ends in its block, the alignment there
--- is a power of two, and the log of freed records is shorter than the table
-pub demoting : (s : State) (h r : ℕ) (x : Handle) → IsSound s → Lends s h View x → x.word ≡ Counted r → Demoting s x r
-demoting s h r x k t xw =
+-- of a view by a record that no call borrows: the view ends in its block, the alignment there is a power of two, and the log of
+-- freed records is shorter than the table
+pub demoting : {s : State} {h r : ℕ} {x : Handle} → IsSound s → Lends s h View x → x.word ≡ Counted r → Demoting s x r
+demoting {s} {h} {r} {x} k t xw =
     let f = counted-at s h x r k t.at xw in
-    let ends = counted-ends s r k f.live in
     let lies = lies-as (block_at s.tables (record_at s.tables r).block) x View t.kind_is f.lies in
     record {
-      inside = ends.inside;
       reaches = lies.ends;
       power = (k.blocks.places (record_at s.tables r).block no_block f.known).power;
       log = log-is _ _ _ (k.blocks.places (record_at s.tables r).block no_block f.known);
-      log_room = ends.record_log;
+      log_room = (counted-ends s r k f.live).1;
     }
 
 -- where the record may not go, a demotion declines and changes nothing

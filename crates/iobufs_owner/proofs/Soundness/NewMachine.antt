@@ -1,17 +1,12 @@
 -- A new machine is sound.
-use Rattle.iobufs_owner.proofs.Base.{◌≡◌, ℕ, zero, suc, ◌+◌, ◌≤◌, ◌<◌, ◌^◌, Bool, false, List, ◌∷◌, replicate, map, ap, refl, arith, Option, None, length-replicate, All-replicate, All-nil, Block, Freed, State, Tables, fresh, holders-le-users, Unfinished, users, drops, tally, reading, read_call, IsPlace, IsSound, Fits, FitsCall, releases}
+use Rattle.iobufs_owner.proofs.Base.{◌≡◌, ℕ, zero, suc, ◌+◌, ◌≤◌, ◌<◌, ◌^◌, Bool, false, replicate, refl, arith, Option, None, length-replicate, All-replicate, All-nil, Block, Freed, State, fresh, holders-le-users, users, tally, reading, IsPlace, IsSound, Fits, FitsCall, releases, users-as, drops_by}
 
 tally-none : {X : Type 0} (p : Option X → Bool) (n : ℕ) → p None ≡ false → tally p (replicate n None) ≡ 0
 tally-none p zero e = refl
 tally-none p (suc n) e = rw e (omega (arith, tally-none p n e))
 
-calls-none : (g : Tables) (n : ℕ) → map (read_call g) (replicate n None) ≡ replicate n None
-calls-none g zero = refl
-calls-none g (suc n) = ap (λ (cs : List (Option Unfinished)). None ∷ cs) (calls-none g n)
-
 no-users : (a t z c n b : ℕ) → users (reading (fresh a t z c n)) b ≡ 0
-unfolding users
-no-users a t z c n b = rw (calls-none (fresh a t z c n).tables n) (omega (arith, tally-none (drops b) n refl))
+no-users a t z c n b = omega (arith, users-as (fresh a t z c n) b, tally-none (drops_by (fresh a t z c n).tables b) n refl)
 
 -- a new machine is sound, where the fields of a descriptor and one bit fit 64, the ceiling is above 0 and there are at most 2^32 parties
 pub sound-fresh : (a t z ceiling parties : ℕ) → 1 + a + t + z ≤ 64 → 0 < ceiling → parties ≤ 2 ^ 32 → IsSound (fresh a t z ceiling parties)

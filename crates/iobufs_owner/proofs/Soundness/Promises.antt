@@ -1,11 +1,7 @@
 -- A sound machine keeps what is promised.
-use Rattle.iobufs_owner.proofs.Base.{◌≡◌, inl, inr, ℕ, ◌<◌, ◌≤◌, Bool, true, false, not, List, [], ◌∷◌, length, get_or, Option, Some, None, ap, sym, ◌∙◌, refl, arith, All, eqb_tells, All-head, All-tail, All-get_or, All-from_get_or, Handle, Pending, State, handle_at, record_at, owner_of, holders, users, tally, reading, IsSound, is_logged, hidden, readies, Promises, IsFreed, IsOver, IsExclusive, holders-le-users, count-find, alone-at, described-at, eq-eqb, held_by, drops_by, users-as, logged-at, eqb-true}
+use Rattle.iobufs_owner.proofs.Base.{◌≡◌, inl, inr, ℕ, ◌<◌, ◌≤◌, Bool, true, false, not, length, get_or, None, ap, sym, ◌∙◌, refl, arith, eqb_tells, All-get_or, All-from_get_or, State, record_at, users, reading, IsSound, is_logged, hidden, readies, Promises, IsFreed, IsOver, holders-le-users, count-find, alone-at, described-at, eq-eqb, held_by, drops_by, users-as, logged-at, eqb-true, count-none}
 use Rattle.iobufs_owner.proofs.Soundness.Recovered.{recovered-is}
 use Rattle.iobufs_owner.proofs.Soundness.NewRecord.{ready-live}
-
-exclusive-alone : (s : State) (h b : ℕ) (x : Handle) → IsSound s → handle_at s h ≡ Some x → owner_of s.tables x ≡ Some b → IsExclusive x
-    → holders (reading s) b ≡ 1
-exclusive-alone s h b x k at o e = alone-at s h x b k at (rw (o, eq-eqb b b refl) e)
 
 none-freed : (s : State) (b : ℕ) → IsSound s → b < length s.tables.blocks → users (reading s) b ≡ 0 → IsFreed s b
 none-freed s b k l e = record { known = l; logged = k.block_log.freed b l ∙ rw e refl }
@@ -25,19 +21,13 @@ logged-dead s r true k l e i = let z = sym i ∙ k.record_log.exact r l ∙ ap n
 logged-dead s r false k l e i = e
 
 -- ---- nothing is left
-
-none-held : (s : State) (b : ℕ) (hs : List (Option Handle)) → All (λ o. o ≡ None) hs → tally (held_by s.tables b) hs ≡ 0
-none-held s b [] a = refl
-none-held s b (o ∷ hs) a = rw (All-head (λ (o : Option Handle). o ≡ None) o hs a)
-    (omega (arith, none-held s b hs (All-tail (λ (o : Option Handle). o ≡ None) o hs a)))
-
-none-dropped : (s : State) (b : ℕ) (cs : List (Option Pending)) → All (λ c. c ≡ None) cs → tally (drops_by s.tables b) cs ≡ 0
-none-dropped s b [] a = refl
-none-dropped s b (c ∷ cs) a = rw (All-head (λ (c : Option Pending). c ≡ None) c cs a)
-    (omega (arith, none-dropped s b cs (All-tail (λ (c : Option Pending). c ≡ None) c cs a)))
-
 over-none : (s : State) (b : ℕ) → IsOver s → users (reading s) b ≡ 0
-over-none s b o = omega (arith, users-as s b, none-held s b s.handles o.handles, none-dropped s b s.calls o.calls)
+over-none s b o = omega (
+  arith,
+  users-as s b,
+  count-none (held_by s.tables b) None s.handles (λ i l t. absurd (let z = rw (o.handles i None l) at t in cc)),
+  count-none (drops_by s.tables b) None s.calls (λ i l t. absurd (let z = rw (o.calls i None l) at t in cc)),
+)
 
 one-maker : (s : State) (r : ℕ) → IsSound s → hidden s.calls r ≤ 1
 one-maker s r k = elim (eqb_tells (hidden s.calls r) 0) [
@@ -55,7 +45,7 @@ promises-of s k = record {
   counts = λ r p. (k.counted r p.live).counts p.shown;
   one_record = λ q r p t e. k.one_record q r p.live t.live p.shown t.shown e;
   one_maker = λ r. one-maker s r k;
-  exclusive = λ h b x at o e. exclusive-alone s h b x k at o e;
+  exclusive = λ h b x at o e. alone-at s h x b k at (rw (o, eq-eqb b b refl) e);
   recovered = λ h w x at i. (let d = described-at s h x w k at i in (d.block, d.says.known, d.says.owner, recovered-is s h x w d.block k at i d.says.owner));
   blocks_once = k.block_log.once;
   records_once = k.record_log.once;

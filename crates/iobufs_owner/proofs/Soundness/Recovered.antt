@@ -1,5 +1,6 @@
 -- A descriptor recovers its block, whether its handle has it still or not.
-use Rattle.iobufs_owner.proofs.Base.{◌≡◌, ◌≢◌, ℕ, zero, suc, ◌+◌, ◌^◌, ◌<◌, ◌≤◌, ◌==◌, Bool, true, false, cond, List, [], ◌∷◌, length, get_or, sym, ◌∙◌, ap, refl, arith, Option, Some, None, option_map, add-one, nat_tests, State, Tables, owner_of, block_at, handle_at, base_by, block_with, end_of, size_in, tail_in, recovered, triple, IsWord, users, reading, IsDescribed, IsSound, LiesIn, LeavesBehind, Block, Handle, Kind, View, Mut, Descriptor, eq-eqb, ne_eqb, word-log, word-fits, word-at, tail-says, behind-as, lies-as, described-at, no_block, owner-described, size-says, owner-used, block-log-room}
+use Rattle.iobufs_owner.proofs.Base.{DescribesBlock, IsReady, Seen, seen_of, state_of, before, now, Lends, ◌≡◌, ◌≢◌, ℕ, zero, suc, ◌+◌, ◌^◌, ◌<◌, ◌≤◌, List, [], ◌∷◌, length, get_or, sym, ◌∙◌, ap, refl, arith, Option, Some, None, option_map, add-one, State, Tables, owner_of, block_at, handle_at, base_by, block_with, end_of, size_in, tail_in, recovered, triple, IsWord, IsSound, LiesIn, LeavesBehind, Block, Handle, Kind, View, Mut, Descriptor, eq-eqb, ne_eqb, word-log, word-fits, tail-says, behind-as, lies-as, described-at, no_block, owner-described, size-says, owner-used, block-log-room, eqb_tells, inl, inr}
+use Rattle.iobufs_owner.specs.declared.owner.Machine.TheInside.{Inside}
 
 with-later : (x : Block) (base b : ℕ) (bs : List Block) (o : Option ℕ) → ((c : ℕ) → o ≡ Some c → (get_or bs c no_block).base ≡ base)
     → option_map (λ i. i + 1) o ≡ Some b → (get_or (x ∷ bs) b no_block).base ≡ base
@@ -9,16 +10,13 @@ with-later x base b bs (Some c) h e =
     let j : suc c ≡ b = sym (add-one c) ∙ i in
     rw (← j) (h c refl)
 
-with-here : (v : Bool) (x : Block) (base b : ℕ) (bs : List Block) → (v ≡ true → x.base ≡ base)
-    → ((c : ℕ) → block_with base bs ≡ Some c → (get_or bs c no_block).base ≡ base)
-    → cond v (Some 0) (option_map (λ i. i + 1) (block_with base bs)) ≡ Some b → (get_or (x ∷ bs) b no_block).base ≡ base
-with-here true x base b bs t h e = let i : 0 ≡ b = cc in rw (← i) (t refl)
-with-here false x base b bs t h e = with-later x base b bs (block_with base bs) h e
-
 -- the block that is found by a base has it
 pub with-base : (base b : ℕ) (bs : List Block) → block_with base bs ≡ Some b → (get_or bs b no_block).base ≡ base
 with-base base b [] e = absurd (cc)
-with-base base b (x ∷ bs) e = with-here (x.base == base) x base b bs (λ t. grind (arith, nat_tests, t)) (λ c i. with-base base c bs i) e
+with-base base b (x ∷ bs) e = elim (eqb_tells x.base base) [
+  | inl t ↦ (let z = rw t.0 at e in let i : 0 ≡ b = cc in rw (← i) t.1)
+  | inr t ↦ with-later x base b bs (block_with base bs) (λ c i. with-base base c bs i) (rw t.0 at e)
+]
 
 -- the first block with a base is found by it
 pub with-first : (base : ℕ) (bs : List Block) (i : ℕ) → i < length bs → (get_or bs i no_block).base ≡ base
@@ -61,41 +59,29 @@ pub record SaysEnds (g : Tables) (x : Handle) (w : ℕ) : Type 0 where
   pub room : x.kind ≡ Mut → x.ptr + x.cap < 2 ^ 64
   pub below : size_in g w ≤ end_of x (tail_in g w)
 
--- in a sound machine a descriptor that describes a block is a word of the format, and the block's end, told from the handle,
--- is an address and no less than its size
-pub says-ends : (s : State) (x : Handle) (w b log tail : ℕ) → IsSound s → IsDescribed s.tables x w b log tail → SaysEnds s.tables x w
-says-ends s x w b log tail k d =
-    let g : Tables = s.tables in
-    let says = tail-says g x w b log tail d in
-    let size = size-says g x w b log tail d in
-    let ends = (k.blocks.places b no_block d.known).ends in
-    record {
-      word = word-fits s x w b log tail k d;
-      view = λ e. let behind = behind-as (block_at g b) x tail View e d.behind in rw says (omega (arith, behind, ends));
-      room = λ e. let lies = lies-as (block_at g b) x Mut e d.lies in omega (arith, lies.ends, ends);
-      below = rw says (ends-below (block_at g b) x tail (size_in g w) x.kind refl size d.lies d.behind);
-    }
-
-pub record DescribedEnds (s : State) (x : Handle) (w : ℕ) : Type 0 where
-  pub word : IsWord s.tables.align_bits s.tables.tail_bits s.tables.size_bits w
-  pub view : x.kind ≡ View → x.ptr + x.len + tail_in s.tables w < 2 ^ 64
-  pub room : x.kind ≡ Mut → x.ptr + x.cap < 2 ^ 64
-  pub below : size_in s.tables w ≤ end_of x (tail_in s.tables w)
-  pub log : length s.freed_blocks < length s.tables.blocks
-
--- in a sound machine a handle's descriptor is a word of the format, the block's end, told from the handle, is an address and
--- no less than its size, and the log of freed blocks is shorter than the table
-pub described-ends : (s : State) (h : ℕ) (x : Handle) (w : ℕ) → IsSound s → handle_at s h ≡ Some x → x.word ≡ Descriptor w → DescribedEnds s x w
-described-ends s h x w k at i =
-    let d = described-at s h x w k at i in
-    let bl : Block = block_at s.tables d.block in
-    let tail = tail-says s.tables x w d.block d.log d.tail d.says in
-    let size = size-says s.tables x w d.block d.log d.tail d.says in
+-- in a machine a descriptor that describes a block is a word of the format, and the block's end, told from the handle, is an
+-- address and no less than its size
+pub says-ends : {m : Inside} {n : Seen} {x : Handle} {w : ℕ} → IsReady m → seen_of m ≡ n → DescribesBlock n.state.tables x w → SaysEnds (state_of m).tables x w
+says-ends {m} {n} {x} {w} r v b =
+    let k = r.sound in
+    let d = before (λ (s : State). DescribesBlock s.tables x w) m n v b in
+    let bl : Block = block_at (state_of m).tables d.block in
+    let tail = tail-says (state_of m).tables x w d.block d.log d.tail d.says in
+    let size = size-says (state_of m).tables x w d.block d.log d.tail d.says in
     let ends = (k.blocks.places d.block no_block d.says.known).ends in
     record {
-      word = word-at s h x w k at i;
-      view = λ e. let behind = behind-as (block_at s.tables d.block) x d.tail View e d.says.behind in rw tail (omega (arith, behind, ends));
-      room = λ e. let lies = lies-as (block_at s.tables d.block) x Mut e d.says.lies in omega (arith, lies.ends, ends);
-      below = rw tail (ends-below (block_at s.tables d.block) x d.tail (size_in s.tables w) x.kind refl size d.says.lies d.says.behind);
-      log = block-log-room s.tables.blocks s.freed_blocks (users (reading s)) d.block d.says.known (owner-used s h x d.block at d.says.owner) k.block_log;
+      word = word-fits (state_of m) x w d.block d.log d.tail k d.says;
+      view = λ e. let behind = behind-as bl x d.tail View e d.says.behind in rw tail (omega (arith, behind, ends));
+      room = λ e. let lies = lies-as bl x Mut e d.says.lies in omega (arith, lies.ends, ends);
+      below = rw tail (ends-below bl x d.tail (size_in (state_of m).tables w) x.kind refl size d.says.lies d.says.behind);
     }
+
+-- so does a handle's descriptor, and the log of freed blocks is shorter than the table
+pub described-ends : {m : Inside} {n : Seen} {h : ℕ} {x : Handle} {w : ℕ} {kind : Kind} → IsReady m → seen_of m ≡ n → Lends n.state h kind x
+    → x.word ≡ Descriptor w → SaysEnds (state_of m).tables x w × (length m.freed_blocks.items < length m.blocks.items)
+described-ends {m} {n} {h} {x} {w} {kind} r v t i =
+    let t' = before (λ (s : State). Lends s h kind x) m n v t in
+    let d = described-at (state_of m) h x w r.sound t'.at i in (
+      says-ends r v (described-at n.state h x w (now r v) t.at i),
+      block-log-room d.block d.says.known (owner-used (state_of m) h x d.block t'.at d.says.owner) r.sound.block_log,
+    )

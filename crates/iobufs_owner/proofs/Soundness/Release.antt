@@ -1,7 +1,7 @@
 -- The last step of a drop: record and block are freed.
-use Rattle.iobufs_owner.proofs.Base.{◌≡◌, ◌≢◌, inl, inr, ℕ, ◌+◌, ◌<◌, ◌==◌, Bool, true, false, cond, length, get_or, set, sym, ◌∙◌, ap, refl, arith, Option, Some, None, nat_eq, length-set, All-from_get_or, nat_tests, eqb_tells, State, Tables, owner_of, record_at, handle_at, call_at, holds, holders, users, Dropping, still_holds, drops, tally, reading, read_handle, read_call, has_let_go, tables_without, both_freed, called, IsSound, Fits, alone, hidden, readies, releases, Handle, Pending, Ready, Subtract, Release, count-set, count-some, count-less, count-most, count-two, count-find, count-sum, holders-le-users, names, owner-kept, fits-kept, fits-calls, live-of, calls-fit-set, at-some, owner-counted, ne_eqb, eq-eqb, fits-at, live-inside, held_by, still_by, drops_by, holders-as, users-as, alone-holds, lets_go, drops-split, go-releases, block-log-freed, record-log-dead, and_right, call-fits, alike}
+use Rattle.iobufs_owner.proofs.Base.{◌≡◌, ◌≢◌, inl, inr, ℕ, ◌+◌, ◌<◌, ◌==◌, Bool, true, false, cond, length, set, sym, ◌∙◌, ap, refl, arith, Option, Some, None, nat_eq, length-set, eqb_tells, State, Tables, owner_of, record_at, handle_at, call_at, holds, holders, users, Dropping, still_holds, drops, tally, reading, read_handle, read_call, has_let_go, tables_without, both_freed, called, IsSound, alone, hidden, readies, releases, Handle, Pending, Release, count-set, count-some, count-less, count-most, count-two, count-find, count-sum, holders-le-users, calls-fit-set, at-some, owner-counted, ne_eqb, eq-eqb, live-inside, held_by, still_by, drops_by, holders-as, users-as, alone-holds, lets_go, drops-split, go-releases, block-log-freed, record-log-dead, and_right, call-fits, alike, all-fit-on, leaves}
 use Rattle.iobufs_owner.proofs.Soundness.RecordFreed.{dead-at, dead-block, dead-other, dead-keeps, dead-let_go, dead-live}
-use Rattle.iobufs_owner.proofs.Soundness.Alone.{ready-borrows}
+use Rattle.iobufs_owner.proofs.Soundness.Alone.{named, ready-borrows}
 
 abbrev pub released : State → ℕ → ℕ → State
 released s p r = called (both_freed s r) p None
@@ -41,18 +41,6 @@ none-holds s b i x z at o =
     let t = count-some (held_by s.tables b) s.handles i None (at-some s.handles i x at) (rw (at, o) (eq-eqb b b refl)) in
     omega arith
 
-fit-released : (s : State) (p r : ℕ) (o : Option Handle) → ((q : ℕ) → hidden (set s.calls p None) q ≡ hidden s.calls q)
-    → tally (held_by s.tables (record_at s.tables r).block) s.handles ≡ 0 → (i : ℕ) → get_or s.handles i None ≡ o → Fits s.tables s.calls o
-    → Fits (tables_without s.tables r) (set s.calls p None) o
-fit-released s p r None hid none i at f = tt
-fit-released s p r (Some x) hid none i at f =
-    let e = dead-keeps s.tables r in
-    fits-calls (tables_without s.tables r) s.calls (set s.calls p None) x x.word (λ q. omega (arith, hid q))
-    (fits-kept s.tables (tables_without s.tables r) s.calls x x.word (owner-kept s.tables (tables_without s.tables r) s.calls x e f) e
-    (λ q w. dead-other s.tables r q
-    (λ y. none-holds s (record_at s.tables r).block i x none at
-    (owner-counted s.tables x q w ∙ ap (λ (n : ℕ). Some (record_at s.tables n).block) y)) ∙ live-of s.tables s.calls x x.word q w f) f)
-
 still-other : (b c : ℕ) (v : Bool) → c ≢ b → still_holds c (Some (Dropping b v 1)) ≡ false
 still-other b c true ne = refl
 still-other b c false ne = ne_eqb c b ne
@@ -64,20 +52,6 @@ other-drops s p r i b at eb one ne l t =
     let two = count-two (drops_by s.tables b) s.calls i p None ne l (at-some s.calls p (Release r) at) t
     (rw at (eq-eqb b (record_at s.tables r).block (sym eb))) in
     omega (arith, two, one)
-
-other-names : (s : State) (r i : ℕ) (c : Option Pending) → call_at s i ≡ c → i < length s.calls → hidden s.calls r ≡ 0
-    → (drops_by s.tables (record_at s.tables r).block c ≡ true → ⊥) → names r c ≡ true → ⊥
-other-names s r i (Some (Ready part w q)) at l hid never t =
-    let e : q ≡ r = grind (arith, nat_tests, t) in
-    let some = count-some (readies r) s.calls i None l (rw at (eq-eqb r q (sym e))) in
-    omega (arith, some, hid)
-other-names s r i (Some (Subtract q)) at l hid never t =
-    let e : q ≡ r = grind (arith, nat_tests, t) in
-    never (eq-eqb (record_at s.tables r).block (record_at s.tables q).block (ap (λ (n : ℕ). (record_at s.tables n).block) (sym e)))
-other-names s r i (Some (Release q)) at l hid never t =
-    let e : q ≡ r = grind (arith, nat_tests, t) in
-    never (eq-eqb (record_at s.tables r).block (record_at s.tables q).block (ap (λ (n : ℕ). (record_at s.tables n).block) (sym e)))
-other-names s r i c at l hid never t = cc
 
 other-block : (s : State) (r q : ℕ) → IsSound s → (record_at s.tables r).live ≡ true → hidden s.calls r ≡ 0
     → tally (held_by s.tables (record_at s.tables r).block) s.handles ≡ 0 → (record_at s.tables q).live ≡ true → q ≢ r
@@ -115,18 +89,17 @@ sound-released s p r k at =
     record {
       size = rw (length-set, length-set) k.size;
       blocks = k.blocks;
-      fit = All-from_get_or (Fits g' (set s.calls p None)) s.handles None
-          (λ i li. fit-released s p r (get_or s.handles i None) hid last.none i refl (k.fit i None li));
-      calls_fit = calls-fit-set s next p None l tt (λ i ne lo. record {
-        tables = e;
-        live = λ q n t. dead-other g r q
-            (λ y. other-names s r i (call_at s i) refl lo f.shown (other-drops s p r i b at refl last.one ne lo) (rw y at n)) ∙ t;
-        hidden = λ q _ _. hid q;
-        handle = λ j x y a. a;
-        owner = λ j x a. owner-kept g g' s.calls x e (fits-at s j x k a);
-        let_go = λ q j t. dead-let_go g r q;
-        holders = λ q y. hm (record_at g q).block (λ j. other-drops s p r i b at refl last.one ne lo (rw y (eq-eqb b (record_at g q).block (sym j))));
-      }) k.calls_fit;
+      fit = all-fit-on (set s.calls p None) s.handles e (λ i q x a w f. (
+        dead-other g r q (λ y. none-holds s b i x last.none a
+            (owner-counted g x q w ∙ ap (λ (n : ℕ). Some (record_at g n).block) y)) ∙ f.live,
+        hid q ∙ f.shown,
+      )) k.fit;
+      calls_fit = calls-fit-set s next p None l tt (λ i ne lo. leaves next (call_at s i) k refl e (λ q j t. dead-let_go g r q)
+          (λ q n t. dead-other g r q (λ y. elim (named s r (call_at s i) (k.calls_fit i None lo) (rw y at n)) [
+            | inl z ↦ omega (arith, f.shown, count-some (readies r) s.calls i None lo z)
+            | inr z ↦ other-drops s p r i b at refl last.one ne lo z.1
+          ]) ∙ t) (λ q _ _. hid q) (λ q y. hm (record_at g q).block
+          (λ j. other-drops s p r i b at refl last.one ne lo (rw y (eq-eqb b (record_at g q).block (sym j)))))) k.calls_fit;
       one_release = λ c. let n = count-set (releases g' c) s.calls p None None l in let m =
           v.releases c in omega (arith, n, m, k.one_release c);
       counted = λ q t.
@@ -145,14 +118,7 @@ sound-released s p r k at =
         | inr i ↦ rw (hm c i.1) (k.capped c)
       ];
       known_users = λ c t. k.known_users c (omega (arith, um c));
-      block_log = block-log-freed g s.freed_blocks b (users (reading s)) (users (reading next)) k.blocks me.known me.used none
+      block_log = block-log-freed g b k.blocks me.known me.used none
           (λ c ne. let z = rw (ne_eqb c b ne) at (um c) in ap (λ m. nat_eq m 0) (omega (arith, z))) k.block_log;
-      record_log = record-log-dead g.records s.freed_records r
-          (record { count = (record_at g r).count; block = (record_at g r).block; live = false }) inside refl f.live k.record_log;
+      record_log = record-log-dead r _ inside refl f.live k.record_log;
     }
-
--- a drop that releases has a live record
-pub releasing : (s : State) (p r : ℕ) → IsSound s → call_at s p ≡ Some (Release r) → (record_at s.tables r).live ≡ true
-releasing s p r k at =
-    let f = call-fits s p (Release r) k at in
-    f.live

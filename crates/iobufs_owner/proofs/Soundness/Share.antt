@@ -1,5 +1,5 @@
 -- A clone or slice that has loaded a descriptor fits; one that counts its view and ends keeps the machine sound.
-use Rattle.iobufs_owner.proofs.Base.{◌≡◌, inl, ℕ, ◌+◌, ◌^◌, ◌<◌, ◌≤◌, length, sym, ◌∙◌, ap, subst, refl, arith, Option, Some, None, State, record_at, block_at, handle_at, call_at, IsSound, FitsCall, Shares, IsDescribed, with_count, called, with_handle, part, Handle, Share, View, Pending, Loaded, Add, Word, Descriptor, Counted, at-some, described-at, counted-at, lies-as, call-fits}
+use Rattle.iobufs_owner.proofs.Base.{◌≡◌, inl, ℕ, ◌+◌, ◌^◌, ◌<◌, ◌≤◌, length, sym, ◌∙◌, ap, subst, Option, Some, None, State, record_at, handle_at, call_at, IsSound, FitsCall, Shares, IsDescribed, with_count, called, with_handle, part, Handle, Share, Pending, Loaded, Add, Word, Descriptor, Counted, at-some, described-at, call-fits}
 use Rattle.iobufs_owner.proofs.Soundness.AddHolder.{sound-added}
 use Rattle.iobufs_owner.proofs.Soundness.Called.{IsQuiet, quiet-none, quiet-add, sound-called}
 use Rattle.iobufs_owner.proofs.Soundness.Won.{some-same}
@@ -31,15 +31,6 @@ sound-added-call s p r k x i at h low few =
     let yx : a.view ≡ x = some-same a.view x (sym a.shares.at ∙ h) in
     let sh : Shares s k x = subst (λ (y : Handle). Shares s k y) yx a.shares in
     let xw : x.word ≡ Counted r = subst (λ (y : Handle). y.word ≡ Counted r) yx a.word in
-    let c = counted-at s k.handle x r i h xw in
-    let lies = lies-as (block_at s.tables (record_at s.tables r).block) x View sh.view c.lies in
-    let order = sh.order in
-    let within = sh.within in
-    let y : Handle = part x k.lo k.hi (Counted r) in
-    let one = sound-added s k.handle r x y i h sh.view xw refl refl (record {
-      begins = omega (arith, lies.begins);
-      ends = omega (arith, lies.ends, order, within);
-      no_room = refl;
-    }) low few in
+    let one = sound-added s k.handle r k.lo k.hi x i h sh.view xw sh.order sh.within low few in
     let s1 : State = with_handle (with_count s r ((record_at s.tables r).count + 1)) (part x k.lo k.hi (Counted r)) in
     sound-called s1 p None one (at-some s.calls p (Add k r) at) (subst (λ (c : Option Pending). IsQuiet s1 c) (sym at) (quiet-add s1 k r)) (quiet-none s1) tt

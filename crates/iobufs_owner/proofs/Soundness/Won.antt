@@ -1,5 +1,5 @@
 -- A clone or slice wins the race: its record takes the descriptor's place, and counts the handle and the new view.
-use Rattle.iobufs_owner.proofs.Base.{◌≡◌, ◌≢◌, inl, inr, ℕ, zero, suc, ◌+◌, ◌^◌, ◌<◌, ◌≤◌, ◌==◌, Bool, true, cond, List, [], ◌∷◌, ◌++◌, length, get_or, set, sym, ◌∙◌, ap, subst, refl, arith, All, Option, Some, None, nat_eq, length-set, All-from_get_or, get_or-set_same, get_or-set_other, set-set, eqb_tells, State, Tables, owner_of, record_at, block_at, handle_at, call_at, holders, users, is_block, tally, reading, has_let_go, IsSound, Fits, FitsCall, Shares, SpeaksOf, LiesIn, alone, describes, hidden, readies, releases, counted, called, edited, with_handle, part, Record, Handle, Share, View, Pending, Loaded, Ready, Add, Subtract, Release, Descriptor, Counted, count-set, count-some, owner-kept, fits-kept, fits-calls, live-of, shares-kept, promised-kept, described-kept, handles-fit-set, at-some, owner-counted, block-log-kept, ne_eqb, eq-eqb, fits-at, alone-at, live-inside, lies-as, lies-still, alone-described, describes-described, describes-counted, alone-shared, describes-few, no_record, record-log-counted, call-fits, count-change, false, alike, drops_by, held_by, holders-as, still_by, users-as}
+use Rattle.iobufs_owner.proofs.Base.{◌≡◌, ◌≢◌, inl, inr, ℕ, ◌+◌, ◌^◌, ◌<◌, ◌≤◌, ◌==◌, true, cond, List, length, get_or, set, sym, ◌∙◌, ap, subst, refl, arith, All, Option, Some, None, nat_eq, length-set, All-from_get_or, get_or-set_same, get_or-set_other, set-set, eqb_tells, State, Tables, owner_of, record_at, block_at, handle_at, call_at, holders, users, is_block, tally, reading, has_let_go, IsSound, Fits, FitsCall, Shares, SpeaksOf, alone, describes, hidden, readies, releases, counted, called, edited, with_handle, part, Handle, Share, View, Pending, Loaded, Ready, Add, Subtract, Release, Descriptor, Counted, count-set, count-some, owner-kept, shares-kept, promised-kept, described-kept, handles-fit-set, at-some, owner-counted, ne_eqb, eq-eqb, fits-at, alone-at, live-inside, lies-still, alone-described, describes-described, describes-counted, alone-shared, describes-few, no_record, record-log-counted, call-fits, count-change, false, alike, drops_by, held_by, holders-as, still_by, users-as, fit-on, sound-same, set-get_or}
 use Rattle.iobufs_owner.proofs.Soundness.AddHolder.{sound-added, counted-keeps, counted-let_go, counted-block, counted-live, counted-same, counted-other}
 
 -- ---- the record is published in the place of the descriptor, and counts the handle
@@ -99,16 +99,6 @@ call-shown s p h r i x b (Some (Release q)) at w word l fit o bl two hid n f =
       alone = rw (counted-block s.tables r 1 q, counted-let_go s.tables r 1 q (shown-let_go s.tables r two), n) f.alone;
     }
 
--- a handle that fits goes on to fit with another count for a record and calls that hide no more records
-pub fit-counted : (s : State) (r n : ℕ) (cs : List (Option Pending)) → ((q : ℕ) → hidden cs q ≤ hidden s.calls q) → (o : Option Handle)
-    → Fits s.tables s.calls o → Fits (counted s.tables r n) cs o
-fit-counted s r n cs less None f = tt
-fit-counted s r n cs less (Some x) f =
-    let e = counted-keeps s.tables r n in
-    fits-calls (counted s.tables r n) s.calls cs x x.word less
-    (fits-kept s.tables (counted s.tables r n) s.calls x x.word (owner-kept s.tables (counted s.tables r n) s.calls x e f) e
-    (λ q w. counted-live s.tables r n q ∙ live-of s.tables s.calls x x.word q w f) f)
-
 pub sound-shown : (s : State) (p r w : ℕ) (part : Share) (x : Handle) → IsSound s → call_at s p ≡ Some (Ready part w r)
     → handle_at s part.handle ≡ Some x → x.word ≡ Descriptor w → IsSound (shown s p part.handle r x)
 sound-shown s p r w part x k atp at word =
@@ -158,103 +148,73 @@ sound-shown s p r w part x k atp at word =
     λ q t z i. (let u = rw i at ((k.counted q t).undescribed z) in omega (arith, u, some)) in
     let old : (q : ℕ) → q ≢ r → hidden (set s.calls p None) q ≡ 0 → hidden s.calls q ≡ 0 =
     λ q ne z. (let u = rw (ne_eqb q r ne) at (hid q) in omega (arith, u)) in
-    record {
-      size = rw (length-set, length-set, length-set) k.size;
-      blocks = k.blocks;
-      fit = handles-fit-set g' (set s.calls p None) s.handles h (Some y) l (record {
-        live = counted-live g r 1 r ∙ f.live;
+    sound-same s _ _ _ _ k (rw (length-set, length-set, length-set) k.size)
+    (handles-fit-set g' (set s.calls p None) s.handles h (Some y) l (record {
+      live = counted-live g r 1 r ∙ f.live;
+      known = rw (counted-block g r 1 r) me.known;
+      shown = mine;
+      lies = rw (counted-block g r 1 r, f.same) (lies-still (block_at g f.block) (record x { word = Descriptor w }) (Counted r) x.kind pr.says.lies);
+      native = λ m. absurd (let q = sym view ∙ m in cc);
+    }) (λ i _ li. fit-on (set s.calls p None) (get_or s.handles i None) e
+    (λ z q _ _ f. (counted-live g r 1 q ∙ f.live, (let n = less q in let m = f.shown in omega arith))) (k.fit i None li)))
+    (All-from_get_or (FitsCall next) (set s.calls p None) None (λ i li.
+    let lo : i < length s.calls = (let z = rw length-set at li in z) in
+    elim (eqb_tells i p) [
+      | inl z ↦ rw (z.1, get_or-set_same s.calls p None None lp) tt
+      | inr z ↦ rw (get_or-set_other s.calls p i None None z.1)
+          (call-shown s p h r i x b (call_at s i) at w word l k.fit o f.same two less hm (k.calls_fit i None lo))
+    ]))
+    (λ c. let n = count-set (releases g' c) s.calls p None None lp in let m =
+    v.releases c in omega (arith, n, m, k.one_release c)) hm um
+    (λ q t.
+    let lq : (record_at g q).live ≡ true = sym (counted-live g r 1 q) ∙ t in
+    let cq = k.counted q lq in
+    elim (eqb_tells q r) [
+      | inl i ↦ rw i.1 (record {
         known = rw (counted-block g r 1 r) me.known;
-        shown = mine;
-        lies = rw (counted-block g r 1 r, f.same) (lies-still (block_at g f.block) (record x { word = Descriptor w }) (Counted r) x.kind pr.says.lies);
-        native = λ m. absurd (let q = sym view ∙ m in cc);
-      }) (λ i _ li. fit-counted s r 1 (set s.calls p None) less (get_or s.handles i None) (k.fit i None li));
-      calls_fit = All-from_get_or (FitsCall next) (set s.calls p None) None (λ i li.
-          let lo : i < length s.calls = (let z = rw length-set at li in z) in
-          elim (eqb_tells i p) [
-            | inl z ↦ rw (z.1, get_or-set_same s.calls p None None lp) tt
-            | inr z ↦ rw (get_or-set_other s.calls p i None None z.1)
-                (call-shown s p h r i x b (call_at s i) at w word l k.fit o f.same two less hm (k.calls_fit i None lo))
-          ]);
-      one_release = λ c. let n = count-set (releases g' c) s.calls p None None lp in let m =
-          v.releases c in omega (arith, n, m, k.one_release c);
-      counted = λ q t.
-          let lq : (record_at g q).live ≡ true = sym (counted-live g r 1 q) ∙ t in
-          let cq = k.counted q lq in
-          elim (eqb_tells q r) [
-            | inl i ↦ rw i.1 (record {
-              known = rw (counted-block g r 1 r) me.known;
-              one_maker = omega arith;
-              counts = λ z. counted-same g r 1 (live-inside g.records r f.live) ∙ sym one ∙ sym (hm b) ∙ ap (λ c. holders (reading next) c) (sym here);
-              fresh = λ z. absurd (omega arith);
-              used = rw (counted-block g r 1 r, um) me.used;
-              undescribed = λ z. subst (λ c. tally (describes g' c) (set s.handles h (Some y)) ≡ 0) (sym here) gone;
-            })
-            | inr i ↦ record {
-              known = rw (counted-block g r 1 q) cq.known;
-              one_maker = omega (arith, less q, cq.one_maker);
-              counts = λ z. rw (counted-other g r 1 q i.1, counted-block g r 1 q, hm) (cq.counts (old q i.1 z));
-              fresh = λ z. rw (counted-other g r 1 q i.1) (cq.fresh (let u = rw (ne_eqb q r i.1) at (hid q) in omega (arith, u, z)));
-              used = rw (counted-block g r 1 q, um) cq.used;
-              undescribed = λ z. rw (counted-block g r 1 q) (omega (arith, dm (record_at g q).block, cq.undescribed (old q i.1 z)));
-            }
-          ];
-      one_record = λ q q' tq tq' hq hq' i.
-          let lq : (record_at g q).live ≡ true = sym (counted-live g r 1 q) ∙ tq in
-          let lq' : (record_at g q').live ≡ true = sym (counted-live g r 1 q') ∙ tq' in
-          let bb : (record_at g q).block ≡ (record_at g q').block = sym (counted-block g r 1 q) ∙ i ∙ counted-block g r 1 q' in
-          elim (eqb_tells q r) [
-            | inl z ↦ elim (eqb_tells q' r) [
-              | inl z' ↦ z.1 ∙ sym z'.1
-              | inr z' ↦ absurd (apart q' lq' (old q' z'.1 hq') (sym bb ∙ ap (λ (n : ℕ). (record_at g n).block) z.1 ∙ f.same))
-            ]
-            | inr z ↦ elim (eqb_tells q' r) [
-              | inl z' ↦ absurd (apart q lq (old q z.1 hq) (bb ∙ ap (λ (n : ℕ). (record_at g n).block) z'.1 ∙ f.same))
-              | inr z' ↦ k.one_record q q' lq lq' (old q z.1 hq) (old q' z'.1 hq') bb
-            ]
-          ];
-      sole = λ c t. hm c ∙ k.sole c (omega (arith, am c));
-      capped = λ c. rw hm (k.capped c);
-      known_users = λ c t. k.known_users c (rw um at t);
-      block_log = block-log-kept g.blocks s.freed_blocks (users (reading s)) (users (reading next)) um k.block_log;
-      record_log = record-log-counted g.records s.freed_records r (record { count = 1; block = (record_at g r).block; live = (record_at g r).live })
-          (live-inside g.records r f.live) refl k.record_log;
-    }
+        one_maker = omega arith;
+        counts = λ z. counted-same g r 1 (live-inside g.records r f.live) ∙ sym one ∙ sym (hm b) ∙ ap (λ c. holders (reading next) c) (sym here);
+        fresh = λ z. absurd (omega arith);
+        used = rw (counted-block g r 1 r, um) me.used;
+        undescribed = λ z. subst (λ c. tally (describes g' c) (set s.handles h (Some y)) ≡ 0) (sym here) gone;
+      })
+      | inr i ↦ record {
+        known = rw (counted-block g r 1 q) cq.known;
+        one_maker = omega (arith, less q, cq.one_maker);
+        counts = λ z. rw (counted-other g r 1 q i.1, counted-block g r 1 q, hm) (cq.counts (old q i.1 z));
+        fresh = λ z. rw (counted-other g r 1 q i.1) (cq.fresh (let u = rw (ne_eqb q r i.1) at (hid q) in omega (arith, u, z)));
+        used = rw (counted-block g r 1 q, um) cq.used;
+        undescribed = λ z. rw (counted-block g r 1 q) (omega (arith, dm (record_at g q).block, cq.undescribed (old q i.1 z)));
+      }
+    ])
+    (λ q q' tq tq' hq hq' i.
+    let lq : (record_at g q).live ≡ true = sym (counted-live g r 1 q) ∙ tq in
+    let lq' : (record_at g q').live ≡ true = sym (counted-live g r 1 q') ∙ tq' in
+    let bb : (record_at g q).block ≡ (record_at g q').block = sym (counted-block g r 1 q) ∙ i ∙ counted-block g r 1 q' in
+    elim (eqb_tells q r) [
+      | inl z ↦ elim (eqb_tells q' r) [
+        | inl z' ↦ z.1 ∙ sym z'.1
+        | inr z' ↦ absurd (apart q' lq' (old q' z'.1 hq') (sym bb ∙ ap (λ (n : ℕ). (record_at g n).block) z.1 ∙ f.same))
+      ]
+      | inr z ↦ elim (eqb_tells q' r) [
+        | inl z' ↦ absurd (apart q lq (old q z.1 hq) (bb ∙ ap (λ (n : ℕ). (record_at g n).block) z'.1 ∙ f.same))
+        | inr z' ↦ k.one_record q q' lq lq' (old q z.1 hq) (old q' z'.1 hq') bb
+      ]
+    ])
+    (λ c t. k.sole c (omega (arith, am c))) (record-log-counted r _ (live-inside g.records r f.live) refl k.record_log)
 
 -- ---- the race is won: one more view, and the record counts both
 
 -- a list in which a place gets what stands there is the same
-pub set-get : {X : Type 0} (xs : List X) (i : ℕ) (v d : X) → i < length xs → v ≡ get_or xs i d → set xs i v ≡ xs
-set-get [] i v d l e = refl
-set-get (x ∷ xs) zero v d l e = ap (λ (y : List _). y) (rw e refl)
-set-get (x ∷ xs) (suc i) v d l e = ap (λ (l : List _). x ∷ l) (set-get xs i v d (omega arith) e)
+pub set-get : {X : Type 0} (xs : List X) (i : ℕ) (v d : X) → v ≡ get_or xs i d → set xs i v ≡ xs
+set-get xs i v d e = rw e (set-get_or xs i d)
 
 -- a count that is 2 stays so, written as 1 and as one more
 twice : (g : Tables) (r : ℕ) → r < length g.records → (record_at g r).count ≡ 2 → counted (counted g r 1) r ((record_at (counted g r 1) r).count + 1) ≡ g
 twice g r l two =
-    let c = counted-same g r 1 l in
-    let b = counted-block g r 1 r in
-    let v = counted-live g r 1 r in
-    let same : record {
-      count = (record_at (counted g r 1) r).count + 1;
-      block = (record_at (counted g r 1) r).block;
-      live = (record_at (counted g r 1) r).live;
-    } ≡ record_at g r = ap (λ (n : ℕ). record {
-      count = n + 1;
-      block = (record_at (counted g r 1) r).block;
-      live = (record_at (counted g r 1) r).live;
-    }) c ∙ ap (λ (n : ℕ). record { count = 2; block = n; live = (record_at (counted g r 1) r).live }) b
-    ∙ ap (λ (n : Bool). record { count = 2; block = (record_at g r).block; live = n }) v
-    ∙ ap (λ (n : ℕ). record { count = n; block = (record_at g r).block; live = (record_at g r).live }) (sym two) in
-    ap (λ (rs : List Record). record g { records = rs })
-    (set-set g.records r (record { count = 1; block = (record_at g r).block; live = (record_at g r).live }) (record {
-      count = (record_at (counted g r 1) r).count + 1;
-      block = (record_at (counted g r 1) r).block;
-      live = (record_at (counted g r 1) r).live;
-    }) ∙ set-get g.records r (record {
-      count = (record_at (counted g r 1) r).count + 1;
-      block = (record_at (counted g r 1) r).block;
-      live = (record_at (counted g r 1) r).live;
-    }) no_record l same)
+    let e = set-get g.records r (record { count = 2; block = (record_at g r).block; live = (record_at g r).live }) no_record
+    (ap (λ (n : ℕ). record { count = n; block = (record_at g r).block; live = (record_at g r).live }) (sym two)) in
+    rw (counted-same g r 1 l, counted-block g r 1 r, counted-live g r 1 r, set-set, e) refl
 
 -- a clone or slice whose view has the loaded descriptor still puts its record there and makes one more view by it, where
 -- there were fewer than 2^32 handles: the machine stays sound
@@ -266,36 +226,15 @@ sound-won s p r w part' x k at atx xw few =
     let f = call-fits s p (Ready part' w r) k at in
     let yx : f.view ≡ x = some-same f.view x (sym f.shares.at ∙ atx) in
     let sh : Shares s part' x = subst (λ (y : Handle). Shares s part' y) yx f.shares in
-    let pr : SpeaksOf g x w f.block = subst (λ (y : Handle). SpeaksOf g y w f.block) yx f.promised in
     let inside = live-inside g.records r f.live in
     let one = sound-shown s p r w part' x k at atx xw in
     let s1 : State = shown s p part'.handle r x in
-    let y : Handle = by_record x r in
-    let l = at-some s.handles part'.handle x atx in
-    let at1 : handle_at s1 part'.handle ≡ Some y = get_or-set_same s.handles part'.handle (Some (by_record x r)) None l in
+    let at1 : handle_at s1 part'.handle ≡ Some (by_record x r) =
+    get_or-set_same s.handles part'.handle (Some (by_record x r)) None (at-some s.handles part'.handle x atx) in
     let hid : hidden s.calls r
     ≡ 1 = (let a = count-some (readies r) s.calls p None (at-some s.calls p (Ready part' w r) at) (ap (readies r) at ∙ eq-eqb r r refl) in
     let m = (k.counted r f.live).one_maker in omega (arith, a, m)) in
-    let two : (record_at g r).count ≡ 2 = (k.counted r f.live).fresh hid in
     let count1 : (record_at s1.tables r).count ≡ 1 = counted-same g r 1 inside in
-    let block1 : (record_at s1.tables r).block ≡ (record_at g r).block = counted-block g r 1 r in
-    let lies : LiesIn (block_at g f.block) (record x { word = Descriptor w }) View =
-    lies-as (block_at g f.block) (record x { word = Descriptor w }) View sh.view pr.says.lies in
-    let order = sh.order in
-    let within = sh.within in
-    let front : Handle = part x part'.lo part'.hi (Counted r) in
-    let liesf : LiesIn (block_at g f.block) front View = (record {
-      begins = omega (arith, lies.begins);
-      ends = omega (arith, lies.ends, order, within);
-      no_room = refl;
-    }) in
     let ceiling = k.size.ceiling in
-    let added = sound-added s1 part'.handle r y front one at1 sh.view refl refl refl
-    (subst (λ (n : ℕ). LiesIn (block_at g n) front View) (sym f.same ∙ sym block1) liesf) (omega (arith, count1, ceiling)) (rw length-set few) in
-    subst
-    (λ (g : Tables). IsSound
-    (record s {
-      tables = g;
-      handles = set s.handles part'.handle (Some (by_record x r)) ++ Some (part x part'.lo part'.hi (Counted r)) ∷ [];
-      calls = set s.calls p None;
-    })) (twice s.tables r inside two) added
+    rw (twice s.tables r inside ((k.counted r f.live).fresh hid)) at (sound-added s1 part'.handle r part'.lo part'.hi (by_record x r) one at1 sh.view refl
+    sh.order sh.within (omega (arith, count1, ceiling)) (rw length-set few))

@@ -1,5 +1,5 @@
 -- A step by the step tables never replies `Room`, and adds at most one entry to each table.
-use Rattle.iobufs_owner.proofs.Base.{◌≡◌, ℕ, ◌+◌, ◌-◌, ◌^◌, ◌≤◌, arith, Bool, true, false, cond, nat_lt, nat_eq, [], ◌∷◌, length, length-append, Option, Some, None, refl, sym, length-set, append-nil, Freed, Handle, Kind, View, Mut, Word, Empty, Descriptor, Counted, Share, Call, New, External, Static, Act, Begin, Go, Step, Pending, Loaded, Ready, Add, Subtract, Release, Refusal, Busy, Idle, WrongKind, Borrowed, OutOfRange, BadPlace, Memory, Ceiling, Room, Reply, More, Done, Declined, Refused, State, KeepsLogs, handle_at, call_at, record_at, block_at, recovered, triple, Outcome, refused, gone_on, new_blocks, is_good_place, log_of, moved_at, begun, moved, asked, is_lent, not, same_kind, ◌&&◌, Advance, Clone, Demote, Drop, Freeze, IsUnique, Put, Slice, SplitTo, TryIntoMut}
+use Rattle.iobufs_owner.proofs.Base.{◌≡◌, ℕ, ◌+◌, ◌-◌, ◌^◌, ◌≤◌, arith, Bool, true, false, cond, nat_lt, nat_eq, [], ◌∷◌, length, length-append, Option, Some, None, refl, sym, length-set, append-nil, Freed, Handle, View, Mut, Word, Empty, Descriptor, Counted, Share, Call, New, External, Static, Act, Begin, Go, Step, Pending, Loaded, Ready, Add, Subtract, Release, Refusal, Busy, Idle, WrongKind, Borrowed, OutOfRange, BadPlace, Memory, Ceiling, Room, Reply, Refused, State, KeepsLogs, handle_at, call_at, record_at, block_at, recovered, triple, Outcome, refused, gone_on, new_blocks, log_of, moved_at, begun, moved, asked, List, ap, ◌∙◌, Ok, Err, is_lent, not, same_kind, ◌&&◌, Advance, Clone, Demote, Drop, Freeze, IsUnique, Put, Slice, SplitTo, TryIntoMut}
 use Rattle.iobufs_owner.specs.Changes as change
 use Rattle.iobufs_owner.specs.Lending as lending
 use Rattle.iobufs_owner.specs.ShortCalls as short
@@ -45,205 +45,150 @@ logs-record s r = (([], sym (append-nil s.freed_blocks)), (r ∷ [], refl))
 logs-both : (s : State) (r : ℕ) → KeepsLogs s (change.both_freed s r)
 logs-both s r = ((triple (block_at s.tables (record_at s.tables r).block) ∷ [], refl), (r ∷ [], refl))
 
-by : {X : Type 0} (P : X → Type 0) (v : Bool) (a b : X) → P a → P b → P (cond v a b)
-by P true a b p q = p
-by P false a b p q = q
+either : {s : State} {block : Bool} {a b : Outcome} (v : Bool) → IsModest s block a → IsModest s block b → IsModest s block (cond v a b)
+either true p q = p
+either false p q = q
 
-refuses : (s : State) (block : Bool) (why : Refusal) → (why ≡ Room → ⊥) → IsModest s block (refused s why)
-refuses s block why n = record { answers = λ e. n (cc); handles = omega arith; records = omega arith; blocks = omega arith; logs = logs-same s }
+-- whether a reply is the refusal for want of room
+abbrev is_room : Reply → Bool
+is_room (Refused Room) = true
+is_room reply = false
 
 -- ---- small changes
 
--- no entry more
-frees : (s u : State) (reply : Reply) → KeepsLogs s u → (reply ≡ Refused Room → ⊥) → length u.handles ≡ length s.handles
-    → length u.tables.records ≡ length s.tables.records → length u.tables.blocks ≡ length s.tables.blocks
-    → IsModest s false (record { reply = reply; state = u })
-frees s u reply g n h r b = record { answers = n; handles = omega (arith, h); records = omega (arith, r); blocks = omega (arith, b); logs = g }
+-- no entry more but a record, perhaps
+small : {s u : State} {reply : Reply} {block : Bool} → is_room reply ≡ false → length u.handles ≡ length s.handles
+    → length u.tables.records ≤ length s.tables.records + 1 → length u.tables.blocks ≡ length s.tables.blocks → KeepsLogs s u
+    → IsModest s block (record { reply = reply; state = u })
+small n h r b g =
+    record { answers = λ e. (let z = sym n ∙ ap is_room e in cc); handles = omega (arith, h); records = r; blocks = omega (arith, b); logs = g }
 
--- a record more, perhaps
-recorded : (s u : State) → u.freed_blocks ≡ s.freed_blocks → u.freed_records ≡ s.freed_records → (reply : Reply) (block : Bool)
-    → (reply ≡ Refused Room → ⊥) → length u.handles ≡ length s.handles → length u.tables.records ≡ length s.tables.records + 1
-    → length u.tables.blocks ≡ length s.tables.blocks → IsModest s block (record { reply = reply; state = u })
-recorded s u e f reply block n h r b = record {
-  answers = n;
-  handles = omega (arith, h);
-  records = omega (arith, r);
-  blocks = omega (arith, b);
-  logs = rw (e, f) (logs-same s);
-}
+-- nothing but calls changes, or nothing at all
+calls : {s : State} {block : Bool} {reply : Reply} (cs : List (Option Pending)) → is_room reply ≡ false
+    → IsModest s block (record { reply = reply; state = record s { calls = cs } })
+calls {s} cs n = small n refl (omega arith) refl (logs-same s)
+
+refuses : {s : State} {block : Bool} (why : Refusal) → is_room (Refused why) ≡ false → IsModest s block (refused s why)
+refuses {s} why n = calls s.calls n
 
 -- one handle more than u has
-made : (s u : State) → u.freed_blocks ≡ s.freed_blocks → u.freed_records ≡ s.freed_records → (x : Handle) (block : Bool)
+made : {s : State} {block : Bool} (u : State) (x : Handle) → u.freed_blocks ≡ s.freed_blocks → u.freed_records ≡ s.freed_records
     → length u.handles ≡ length s.handles → length u.tables.records ≤ length s.tables.records + 1
     → length u.tables.blocks ≤ length s.tables.blocks + cond block 1 0 → IsModest s block (change.made u x)
-made s u e f x block h r b = record {
-  answers = λ e. absurd (cc);
-  handles = rw length-append (omega (arith, h));
-  records = r;
-  blocks = b;
-  logs = rw (e, f) (logs-same s);
-}
+made {s} u x e f h r b =
+    record { answers = λ e. absurd (cc); handles = rw length-append (omega (arith, h)); records = r; blocks = b; logs = rw (e, f) (logs-same s) }
 
 -- ---- calls that end with their first step
 
-placed : (s : State) (base size align : ℕ) → IsModest s true (short.placed s base size align)
-placed s base size align =
-    by (IsModest s true) (short.fits_in s.tables size (log_of align) 0) _ _
-    (made s _ refl refl _ true refl (omega arith) (rw length-append (omega arith)))
-    (made s _ refl refl _ true refl (rw length-append (omega arith)) (rw length-append (omega arith)))
-
 -- a new block where one may be, if memory is granted
-granted : (s : State) (v memory : Bool) (o : Outcome) → IsModest s true o → IsModest s true (cond v (cond memory o (refused s Memory)) (refused s BadPlace))
-granted s v memory o m =
-    by (IsModest s true) v _ _ (by (IsModest s true) memory _ _ m (refuses s true Memory (λ e. absurd (cc)))) (refuses s true BadPlace (λ e. absurd (cc)))
+granted : {s : State} {o : Outcome} (v memory : Bool) → IsModest s true o → IsModest s true (cond v (cond memory o (refused s Memory)) (refused s BadPlace))
+granted v memory m = either v (either memory m (refuses Memory refl)) (refuses BadPlace refl)
 
-edited : (s : State) (h : ℕ) (x : Handle) → IsModest s false (change.done (change.edited s h x))
-edited s h x = frees s _ Done (logs-same s) (λ e. absurd (cc)) (length-set _ _ _) refl refl
+edited : {s : State} (h : ℕ) (x : Handle) → IsModest s false (change.done (change.edited s h x))
+edited {s} h x = small refl (length-set _ _ _) (omega arith) refl (logs-same s)
 
 -- a call on a handle, for what it does with the handle
-lent : (s : State) (test : Handle → Bool) (b : Bool) (o : Option Handle) (f : Handle → Outcome) → ((x : Handle) → IsModest s false (f x))
+lent : {s : State} (test : Handle → Bool) (b : Bool) (o : Option Handle) (f : Handle → Outcome) → ((x : Handle) → IsModest s false (f x))
     → IsModest s false (change.on_lent s (asked test b o) f)
-lent s test b None f m = refuses s false _ (λ e. absurd (cc))
-lent s test b (Some x) f m =
-    by (λ r. IsModest s false (change.on_lent s r f)) (test x) _ _ (by (λ r. IsModest s false (change.on_lent s r f)) b _ _
-    (refuses s false Borrowed (λ e. absurd (cc))) (m x)) (refuses s false WrongKind (λ e. absurd (cc)))
+lent test b None f m = refuses _ refl
+lent {s} test b (Some x) f m = elim (test x) as (λ v. IsModest s false (change.on_lent s (cond v (cond b (Err Borrowed) (Ok x)) (Err WrongKind)) f)) [
+  | true ↦ elim b as (λ v. IsModest s false (change.on_lent s (cond v (Err Borrowed) (Ok x)) f)) [ true ↦ refuses Borrowed refl | false ↦ m x ]
+  | false ↦ refuses WrongKind refl
+]
+
+lent-alone : {s : State} (test : Handle → Bool) (h : ℕ) (f : Handle → Outcome) → ((x : Handle) → IsModest s false (f x))
+    → IsModest s false (change.on_lent s (asked test (is_lent h s.calls) (handle_at s h)) f)
+lent-alone {s} test h f m = lent test (is_lent h s.calls) (handle_at s h) f m
 
 -- freeing the block of a handle takes no entry out of a table, and adds none
-freed : (s : State) (h : ℕ) (x : Handle) (w : Word) → IsModest s false (change.done (change.edited (short.freed_with s x w) h (change.detached_handle 0)))
-freed s h x Empty = edited s h _
-freed s h x (Descriptor w) = frees s _ Done (logs-block s (recovered s.tables x w)) (λ e. absurd (cc)) (length-set _ _ _) refl refl
-freed s h x (Counted r) = frees s _ Done (logs-both s r) (λ e. absurd (cc)) (length-set _ _ _) (length-set _ _ _) refl
+freed : {s : State} (h : ℕ) (x : Handle) (o : Option Handle) (w : Word) → IsModest s false (change.done (change.replaced (short.freed_with s x w) h o))
+freed {s} h x o Empty = small refl (length-set _ _ _) (omega arith) refl (logs-same s)
+freed {s} h x o (Descriptor w) = small refl (length-set _ _ _) (omega arith) refl (logs-block s (recovered s.tables x w))
+freed {s} h x o (Counted r) = small refl (length-set _ _ _) (rw length-set (omega arith)) refl (logs-both s r)
 
-freeze-by : (s : State) (h : ℕ) (memory : Bool) (x : Handle) (w : Word) → IsModest s false (short.freeze_by s h memory x w)
-freeze-by s h memory x Empty = edited s h _
-freeze-by s h memory x (Descriptor w) =
-    by (IsModest s false) (nat_lt (x.cap - x.len) (2 ^ s.tables.tail_bits)) _ _ (edited s h _)
-    (by (IsModest s false) memory _ _ (recorded s _ refl refl Done false (λ e. absurd (cc)) (length-set _ _ _) (length-append _ _) refl)
-    (refuses s false Memory (λ e. absurd (cc))))
-freeze-by s h memory x (Counted r) = edited s h _
+freeze-by : {s : State} (h : ℕ) (memory : Bool) (x : Handle) (w : Word) → IsModest s false (short.freeze_by s h memory x w)
+freeze-by {s} h memory x (Descriptor w) = either (nat_lt (x.cap - x.len) (2 ^ s.tables.tail_bits)) (edited h _)
+    (either memory (small refl (length-set _ _ _) (rw length-append (omega arith)) refl (logs-same s)) (refuses Memory refl))
+freeze-by h memory x Empty = edited h _
+freeze-by h memory x (Counted r) = edited h _
 
-declined : (s : State) → IsModest s false (short.declined s)
-declined s = frees s s Declined (logs-same s) (λ e. absurd (cc)) refl refl refl
+recover-by : {s : State} (h : ℕ) (x : Handle) (w : Word) → IsModest s false (short.recover_by s h x w)
+recover-by {s} h x Empty = either (nat_eq x.len 0) (edited h _) (calls s.calls refl)
+recover-by h x (Descriptor w) = edited h _
+recover-by {s} h x (Counted r) = either (block_at s.tables (record_at s.tables r).block).external (calls s.calls refl)
+    (either (nat_eq (record_at s.tables r).count 1) (edited h _) (calls s.calls refl))
 
-recover-by : (s : State) (h : ℕ) (x : Handle) (w : Word) → IsModest s false (short.recover_by s h x w)
-recover-by s h x Empty = by (IsModest s false) (nat_eq x.len 0) _ _ (edited s h _) (declined s)
-recover-by s h x (Descriptor w) = edited s h _
-recover-by s h x (Counted r) = by (IsModest s false) _ _ _ (declined s) (by (IsModest s false) _ _ _ (edited s h _) (declined s))
+split-by : {s : State} (h at : ℕ) (memory : Bool) (x : Handle) (w : Word) → IsModest s false (short.split_by s h at memory x w)
+split-by h at memory x Empty = made _ _ refl refl (length-set _ _ _) (omega arith) (omega arith)
+split-by h at memory x (Descriptor w) =
+    either memory (made _ _ refl refl (length-set _ _ _) (rw length-append (omega arith)) (omega arith)) (refuses Memory refl)
+split-by h at memory x (Counted r) =
+    either _ (refuses Ceiling refl) (made _ _ refl refl (length-set _ _ _) (rw length-set (omega arith)) (omega arith))
 
-split-by : (s : State) (h at : ℕ) (memory : Bool) (x : Handle) (w : Word) → IsModest s false (short.split_by s h at memory x w)
-split-by s h at memory x Empty = made s _ refl refl _ false (length-set _ _ _) (omega arith) (omega arith)
-split-by s h at memory x (Descriptor w) =
-    by (IsModest s false) memory _ _ (made s _ refl refl _ false (length-set _ _ _) (rw length-append (omega arith)) (omega arith))
-    (refuses s false Memory (λ e. absurd (cc)))
-split-by s h at memory x (Counted r) =
-    by (IsModest s false) _ _ _ (refuses s false Ceiling (λ e. absurd (cc)))
-    (made s _ refl refl _ false (length-set _ _ _) (rw length-set (omega arith)) (omega arith))
-
-demote-by : (s : State) (h : ℕ) (x : Handle) (w : Word) → IsModest s false (short.demote_by s h x w)
-demote-by s h x Empty = declined s
-demote-by s h x (Descriptor w) = declined s
-demote-by s h x (Counted r) =
-    by (IsModest s false) (short.may_demote s.tables x r) _ _
-    (frees s (change.edited (change.record_freed s r) h (short.described s.tables x r)) Done (logs-record s r) (λ e. absurd (cc))
-    (length-set _ _ _) (length-set _ _ _) refl) (declined s)
+demote-by : {s : State} (h : ℕ) (x : Handle) (w : Word) → IsModest s false (short.demote_by s h x w)
+demote-by {s} h x (Counted r) = either (short.may_demote s.tables x r)
+    (small refl (length-set _ _ _) (rw length-set (omega arith)) refl (logs-record s r)) (calls s.calls refl)
+demote-by {s} h x Empty = calls s.calls refl
+demote-by {s} h x (Descriptor w) = calls s.calls refl
 
 -- ---- calls of several steps
 
-share-by : (s : State) (p : ℕ) (k : Share) (x : Handle) (w : Word) → IsModest s false (long.share_by s p k x w)
-share-by s p k x Empty = made s s refl refl _ false refl (omega arith) (omega arith)
-share-by s p k x (Descriptor w) = frees s _ More (logs-same s) (λ e. absurd (cc)) refl refl refl
-share-by s p k x (Counted r) = frees s _ More (logs-same s) (λ e. absurd (cc)) refl refl refl
+share-by : {s : State} (p : ℕ) (k : Share) (x : Handle) (w : Word) → IsModest s false (long.share_by s p k x w)
+share-by {s} p k x Empty = made s _ refl refl refl (omega arith) (omega arith)
+share-by p k x (Descriptor w) = calls _ refl
+share-by p k x (Counted r) = calls _ refl
 
-drop-counted : (s : State) (p h r : ℕ) (kind : Kind) → IsModest s false (long.drop_counted s p h r kind)
-drop-counted s p h r Mut = frees s (change.state_without (change.both_freed s r) h) Done (logs-both s r) (λ e. absurd (cc)) (length-set _ _ _)
-    (length-set _ _ _) refl
-drop-counted s p h r View = frees s _ More (logs-same s) (λ e. absurd (cc)) (length-set _ _ _) refl refl
+drop-by : {s : State} (p h : ℕ) (x : Handle) (w : Word) → IsModest s false (long.drop_by s p h x w)
+drop-by {s} p h x (Counted r) = elim x.kind as (λ kind. IsModest s false (long.drop_counted s p h r kind))
+    [ Mut ↦ freed h x None (Counted r) | View ↦ small refl (length-set _ _ _) (omega arith) refl (logs-same s) ]
+drop-by h p x Empty = freed p x None Empty
+drop-by h p x (Descriptor w) = freed p x None (Descriptor w)
 
-drop-by : (s : State) (p h : ℕ) (x : Handle) (w : Word) → IsModest s false (long.drop_by s p h x w)
-drop-by s p h x Empty = frees s _ Done (logs-same s) (λ e. absurd (cc)) (length-set _ _ _) refl refl
-drop-by s p h x (Descriptor w) = frees s (change.state_without (change.block_freed s (recovered s.tables x w)) h) Done
-    (logs-block s (recovered s.tables x w)) (λ e. absurd (cc)) (length-set _ _ _) refl refl
-drop-by s p h x (Counted r) = drop-counted s p h r x.kind
-
--- ---- their further steps
-
-ready-modest : (s : State) (p : ℕ) (k : Share) (w : ℕ) (memory : Bool) → IsModest s false (long.ready_of s p k w memory)
-ready-modest s p k w memory =
-    by (IsModest s false) memory _ _ (recorded s _ refl refl More false (λ e. absurd (cc)) refl (length-append _ _) refl)
-    (frees s _ (Refused Memory) (logs-same s) (λ e. absurd (cc)) refl refl refl)
-
-idle : (s : State) → IsModest s false (refused s Idle)
-idle s = refuses s false Idle (λ e. absurd (cc))
-
-race-modest : (s : State) (p : ℕ) (k : Share) (r : ℕ) (x : Handle) (w : Word) → IsModest s false (long.race_by s p k r x w)
-race-modest s p k r x (Counted winner) = frees s (change.called (change.record_freed s r) p (Some (Add k winner))) More (logs-record s r)
-    (λ e. absurd (cc)) refl (length-set _ _ _) refl
-race-modest s p k r x w = made s _ refl refl _ false (length-set _ _ _) (omega arith) (omega arith)
-
-add-modest : (s : State) (p : ℕ) (k : Share) (r : ℕ) → IsModest s false (long.add_of s p k r)
-add-modest s p k r =
-    by (IsModest s false) _ _ _ (frees s _ (Refused Ceiling) (logs-same s) (λ e. absurd (cc)) refl refl refl)
-    (made s _ refl refl _ false refl (rw length-set (omega arith)) (omega arith))
-
-subtract-modest : (s : State) (p r : ℕ) → IsModest s false (long.subtract_of s p r)
-subtract-modest s p r =
-    by (IsModest s false) _ _ _ (frees s _ More (logs-same s) (λ e. absurd (cc)) refl (length-set _ _ _) refl)
-    (frees s _ Done (logs-same s) (λ e. absurd (cc)) refl (length-set _ _ _) refl)
-
-release-modest : (s : State) (p r : ℕ) → IsModest s false (long.release_of s p r)
-release-modest s p r = frees s (change.called (change.both_freed s r) p None) Done (logs-both s r) (λ e. absurd (cc)) refl (length-set _ _ _) refl
+race-modest : {s : State} (p : ℕ) (k : Share) (r : ℕ) (x : Handle) (w : Word) → IsModest s false (long.race_by s p k r x w)
+race-modest {s} p k r x (Counted winner) = small refl refl (rw length-set (omega arith)) refl (logs-record s r)
+race-modest p k r x w = made _ _ refl refl (length-set _ _ _) (omega arith) (omega arith)
 
 -- ---- a step
 
-goes-modest : (s : State) (p : ℕ) (c : Pending) (memory : Bool) → IsModest s false (gone_on s p c memory)
-goes-modest s p (Loaded k w) memory = ready-modest s p k w memory
-goes-modest s p (Ready k w r) memory = race-modest s p k r (long.borrowed s k) (long.borrowed s k).word
-goes-modest s p (Add k r) memory = add-modest s p k r
-goes-modest s p (Subtract r) memory = subtract-modest s p r
-goes-modest s p (Release r) memory = release-modest s p r
+goes-modest : {s : State} (p : ℕ) (c : Pending) (memory : Bool) → IsModest s false (gone_on s p c memory)
+goes-modest {s} p (Loaded k w) memory = either memory (small refl refl (rw length-append (omega arith)) refl (logs-same s)) (calls _ refl)
+goes-modest {s} p (Ready k w r) memory = race-modest p k r (long.borrowed s k) (long.borrowed s k).word
+goes-modest {s} p (Add k r) memory = either (nat_lt s.ceiling (record_at s.tables r).count) (calls _ refl)
+    (made _ _ refl refl refl (rw length-set (omega arith)) (omega arith))
+goes-modest {s} p (Subtract r) memory = either (nat_eq (record_at s.tables r).count 1) (small refl refl (rw length-set (omega arith)) refl (logs-same s))
+    (small refl refl (rw length-set (omega arith)) refl (logs-same s))
+goes-modest {s} p (Release r) memory = small refl refl (rw length-set (omega arith)) refl (logs-both s r)
 
-begun-modest : (s : State) (p : ℕ) (call : Call) (memory : Bool) → IsModest s (makes_block call) (begun s p call memory)
-begun-modest s p (New base size align) memory =
-    granted s (is_good_place s.tables.blocks base size align) memory _ (placed s base size align)
-begun-modest s p (External base size) memory =
-    granted s (is_good_place s.tables.blocks base size 1) memory _
-    (made s _ refl refl _ true refl (rw length-append (omega arith)) (rw length-append (omega arith)))
-begun-modest s p (Static len) memory = made s s refl refl _ false refl (omega arith) (omega arith)
-begun-modest s p (Put h n) memory = lent s (λ x. same_kind x.kind Mut) (is_lent h s.calls) (handle_at s h) _
-    (λ x. by (IsModest s false) (nat_lt (x.cap - x.len) n) _ _ (refuses s false OutOfRange (λ e. absurd (cc))) (edited s h _))
-begun-modest s p (Advance h n) memory = lent s (λ x. true) (is_lent h s.calls) (handle_at s h) _
-    (λ x. by (IsModest s false) (nat_lt x.len n) _ _ (refuses s false OutOfRange (λ e. absurd (cc))) (edited s h _))
-begun-modest s p (Freeze h) memory = lent s (λ x. same_kind x.kind Mut) (is_lent h s.calls) (handle_at s h) _
-    (λ x. by (IsModest s false) (nat_eq x.len 0) _ _ (freed s h x x.word) (freeze-by s h memory x x.word))
-begun-modest s p (TryIntoMut h) memory = lent s (λ x. same_kind x.kind View) (is_lent h s.calls) (handle_at s h) _ (λ x. recover-by s h x x.word)
-begun-modest s p (SplitTo h at) memory = lent s (λ x. same_kind x.kind View) (is_lent h s.calls) (handle_at s h) _
-    (λ x. by (IsModest s false) (nat_lt x.len at) _ _ (refuses s false OutOfRange (λ e. absurd (cc)))
-    (by (IsModest s false) (nat_eq at 0) _ _ (made s s refl refl _ false refl (omega arith) (omega arith))
-    (by (IsModest s false) (nat_eq at x.len) _ _ (made s _ refl refl _ false (length-set _ _ _) (omega arith) (omega arith))
-    (split-by s h at memory x x.word))))
-begun-modest s p (IsUnique h) memory = lent s (λ x. not (lending.is_empty x.word)) (is_lent h s.calls) (handle_at s h) _
-    (λ x. frees s s _ (logs-same s) (λ e. absurd (cc)) refl refl refl)
-begun-modest s p (Demote h) memory = lent s (λ x. same_kind x.kind View && not (lending.is_empty x.word)) (is_lent h s.calls) (handle_at s h) _
-    (λ x. demote-by s h x x.word)
-begun-modest s p (Clone h) memory = lent s (λ x. same_kind x.kind View) false (handle_at s h) _ (λ x. share-by s p _ x x.word)
-begun-modest s p (Slice h lo hi) memory = lent s (λ x. same_kind x.kind View) false (handle_at s h) _
-    (λ x. by (IsModest s false) _ _ _ (refuses s false OutOfRange (λ e. absurd (cc)))
-    (by (IsModest s false) (nat_eq lo hi) _ _ (made s s refl refl _ false refl (omega arith) (omega arith)) (share-by s p _ x x.word)))
-begun-modest s p (Drop h) memory = lent s (λ x. true) (is_lent h s.calls) (handle_at s h) _ (λ x. drop-by s p h x x.word)
+begun-modest : {s : State} (p : ℕ) (call : Call) (memory : Bool) → IsModest s (makes_block call) (begun s p call memory)
+begun-modest {s} p (New base size align) memory = granted _ memory (either (short.fits_in s.tables size (log_of align) 0)
+    (made _ _ refl refl refl (omega arith) (rw length-append (omega arith)))
+    (made _ _ refl refl refl (rw length-append (omega arith)) (rw length-append (omega arith))))
+begun-modest p (External base size) memory =
+    granted _ memory (made _ _ refl refl refl (rw length-append (omega arith)) (rw length-append (omega arith)))
+begun-modest {s} p (Static len) memory = made s _ refl refl refl (omega arith) (omega arith)
+begun-modest p (Put h n) memory = lent-alone (λ x. same_kind x.kind Mut) h _ (λ x. either (nat_lt (x.cap - x.len) n) (refuses OutOfRange refl) (edited h _))
+begun-modest p (Advance h n) memory = lent-alone (λ x. true) h _ (λ x. either (nat_lt x.len n) (refuses OutOfRange refl) (edited h _))
+begun-modest p (Freeze h) memory = lent-alone (λ x. same_kind x.kind Mut) h _ (λ x. either (nat_eq x.len 0) (freed h x _ x.word) (freeze-by h memory x x.word))
+begun-modest p (TryIntoMut h) memory = lent-alone (λ x. same_kind x.kind View) h _ (λ x. recover-by h x x.word)
+begun-modest {s} p (SplitTo h at) memory = lent-alone (λ x. same_kind x.kind View) h _ (λ x. either (nat_lt x.len at) (refuses OutOfRange refl)
+    (either (nat_eq at 0) (made s _ refl refl refl (omega arith) (omega arith))
+    (either (nat_eq at x.len) (made (change.edited s h (change.detached_handle 0)) _ refl refl (length-set _ _ _) (omega arith) (omega arith))
+    (split-by h at memory x x.word))))
+begun-modest {s} p (IsUnique h) memory = lent-alone (λ x. not (lending.is_empty x.word)) h _ (λ x. calls s.calls refl)
+begun-modest p (Demote h) memory = lent-alone (λ x. same_kind x.kind View && not (lending.is_empty x.word)) h _ (λ x. demote-by h x x.word)
+begun-modest {s} p (Clone h) memory = lent (λ x. same_kind x.kind View) false (handle_at s h) _ (λ x. share-by p _ x x.word)
+begun-modest {s} p (Slice h lo hi) memory = lent (λ x. same_kind x.kind View) false (handle_at s h) _ (λ x. either _ (refuses OutOfRange refl)
+    (either (nat_eq lo hi) (made s _ refl refl refl (omega arith) (omega arith)) (share-by p _ x x.word)))
+begun-modest p (Drop h) memory = lent-alone (λ x. true) h _ (λ x. drop-by p h x x.word)
 
--- an outcome that adds no block keeps the limits of a step that may add one
-loosely : (s : State) (block : Bool) (o : Outcome) → IsModest s false o → IsModest s block o
-loosely s block o m = record { answers = m.answers; handles = m.handles; records = m.records; blocks = (let l = m.blocks in omega (arith, l)); logs = m.logs }
-
-at-modest : (s : State) (p : ℕ) (act : Act) (c : Option Pending) → IsModest s (adds_block act) (moved_at s p act c)
-at-modest s p (Begin call memory) None = begun-modest s p call memory
-at-modest s p (Begin call memory) (Some c) = loosely s (makes_block call) _ (refuses s false Busy (λ e. absurd (cc)))
-at-modest s p (Go memory) None = idle s
-at-modest s p (Go memory) (Some c) = goes-modest s p c memory
+at-modest : {s : State} (p : ℕ) (act : Act) (c : Option Pending) → IsModest s (adds_block act) (moved_at s p act c)
+at-modest p (Begin call memory) None = begun-modest p call memory
+at-modest p (Begin call memory) (Some c) = refuses Busy refl
+at-modest p (Go memory) None = refuses Idle refl
+at-modest p (Go memory) (Some c) = goes-modest p c memory
 
 -- A step by the step tables never replies `Room`, and appends to the logs if it changes them. The step adds at most a
 -- handle, a record and, if its call makes one, a block.
 pub modest : (s : State) (step : Step) → IsModest s (adds_block step.act) (moved s step)
 modest s step =
-    by (IsModest s (adds_block step.act)) (nat_lt step.party (length s.calls)) _ _ (at-modest s step.party step.act (call_at s step.party))
-    (loosely s (adds_block step.act) _ (idle s))
+    either (nat_lt step.party (length s.calls)) (at-modest step.party step.act (call_at s step.party)) (refuses Idle refl)

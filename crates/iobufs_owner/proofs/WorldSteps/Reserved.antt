@@ -1,7 +1,7 @@
 -- Steps of a machine with room find it.
-use Rattle.iobufs_owner.proofs.Base.{◌≡◌, ◌≢◌, ℕ, ◌+◌, ◌≤◌, arith, List, [], ◌∷◌, ◌++◌, length, subst, Bool, cond, All, inl, inr, sym, ◌∙◌, ap, append_assoc, AllByRecursion as ByRecursion, All-from_recursion, Step, Room, Reply, Refused, Seen, State, KeepsRoom, KeepsLogs, IsBeginning, Outcome, Moves, WantsRoom, IsCarriedOut, Runs, GrowingRuns, RoomFor, limit, blocks_of, new_blocks, moved}
+use Rattle.iobufs_owner.proofs.Base.{◌≡◌, ◌≢◌, ℕ, ◌+◌, ◌≤◌, arith, List, [], ◌∷◌, ◌++◌, length, subst, Bool, cond, All, inl, inr, sym, ◌∙◌, ap, append_assoc, AllByRecursion as ByRecursion, All-from_recursion, Step, Room, Reply, Refused, Seen, State, KeepsRoom, KeepsLogs, IsBeginning, Moves, WantsRoom, Runs, GrowingRuns, RoomFor, limit, blocks_of, new_blocks, moved}
 use Rattle.iobufs_owner.specs.State.{Room as Space}
-use Rattle.iobufs_owner.proofs.WorldSteps.Modest.{IsModest, adds_block, blocks-made, modest, logs-same}
+use Rattle.iobufs_owner.proofs.WorldSteps.Modest.{adds_block, blocks-made, modest, logs-same}
 
 -- memory for so many blocks more and for so many steps, within the limit
 record HasBoth (m : Seen) (made steps : ℕ) : Type 0 where
@@ -9,39 +9,35 @@ record HasBoth (m : Seen) (made steps : ℕ) : Type 0 where
   few : RoomFor limit m.state made steps steps
 
 -- no table is full where there is room
-wants-none : (m : Seen) (o : Outcome) (block : Bool) → HasBoth m (cond block 1 0) 1 → IsModest m.state block o → WantsRoom m o.state → ⊥
-wants-none m o block r n (inl (grows, inl full)) = let l = r.memory.handles in omega (arith, l, full)
-wants-none m o block r n (inl (grows, inr many)) = let l = r.few.handles in omega (arith, l, many)
-wants-none m o block r n (inr (inl (grows, inl full))) = let g = n.blocks in let l = r.memory.blocks (omega (arith, g, grows)) in omega
-    (arith, g, grows, l, full)
-wants-none m o block r n (inr (inl (grows, inr many))) = let g = n.blocks in let l = r.few.blocks (omega (arith, g, grows)) in omega (arith, g, grows, l, many)
-wants-none m o block r n (inr (inr (grows, inl full))) = let l = r.memory.records in omega (arith, l, full)
-wants-none m o block r n (inr (inr (grows, inr many))) = let l = r.few.records in omega (arith, l, many)
-
-taken-finds : (m : Seen) (o : Outcome) (block : Bool) (reply : Reply) (next : State) → HasBoth m (cond block 1 0) 1 → IsModest m.state block o
-    → IsCarriedOut m o reply next → reply ≢ Refused Room
-taken-finds m o block reply next r n (inl (found, e, f)) = λ q. n.answers (sym e ∙ q)
-taken-finds m o block reply next r n (inr (w, e, f)) = λ _. wants-none m o block r n w
+wants-none : (m : Seen) (t : State) (block : Bool) → length t.handles ≤ length m.state.handles + 1 → length t.tables.records ≤ length m.state.tables.records + 1
+    → length t.tables.blocks ≤ length m.state.tables.blocks + cond block 1 0 → HasBoth m (cond block 1 0) 1 → WantsRoom m t → ⊥
+wants-none m t block h v b r (inl (grows, full)) =
+    let l = r.memory.handles in let f = r.few.handles in elim full [ inl used ↦ omega (arith, l, used) | inr many ↦ omega (arith, f, many) ]
+wants-none m t block h v b r (inr (inl (grows, full))) =
+    let l = r.memory.blocks (omega (arith, b, grows)) in
+    let f = r.few.blocks (omega (arith, b, grows)) in
+    elim full [ inl used ↦ omega (arith, b, grows, l, used) | inr many ↦ omega (arith, b, grows, f, many) ]
+wants-none m t block h v b r (inr (inr (grows, full))) =
+    let l = r.memory.records in let f = r.few.records in elim full [ inl used ↦ omega (arith, l, used) | inr many ↦ omega (arith, f, many) ]
 
 -- a step of a machine with room for its block and for one step isn't refused for want of room
 pub finds : (m : Seen) (step : Step) (reply : Reply) (next : Seen) → Moves m step reply next → RoomFor m.room m.state (new_blocks step.act) 1 1
     → RoomFor limit m.state (new_blocks step.act) 1 1 → reply ≢ Refused Room
 finds m step reply next taken memory few =
-    taken-finds m (moved m.state step) (adds_block step.act) reply next.state (record {
-      memory = subst (λ n. RoomFor m.room m.state n 1 1) (blocks-made step.act) memory;
-      few = subst (λ n. RoomFor limit m.state n 1 1) (blocks-made step.act) few;
-    }) (modest m.state step) taken
+    let n = modest m.state step in
+    elim taken [
+      | inl a ↦ λ q. n.answers (sym a.1 ∙ q)
+      | inr a ↦ λ _. wants-none m (moved m.state step).state (adds_block step.act) n.handles n.records n.blocks (record {
+        memory = rw (blocks-made step.act) at memory;
+        few = rw (blocks-made step.act) at few;
+      }) a.0
+    ]
 
 -- ---- the logs
 
-taken-logs : (m : Seen) (o : Outcome) (block : Bool) (reply : Reply) (next : State) → IsModest m.state block o → IsCarriedOut m o reply next
-    → KeepsLogs m.state next
-taken-logs m o block reply next n (inl (found, e, f)) = rw f n.logs
-taken-logs m o block reply next n (inr (w, e, f)) = rw f (logs-same m.state)
-
 -- a step leaves in the logs what they have, and adds after it
 pub keeps-logs : (m : Seen) (step : Step) (reply : Reply) (next : Seen) → Moves m step reply next → KeepsLogs m.state next.state
-keeps-logs m step reply next taken = taken-logs m (moved m.state step) (adds_block step.act) reply next.state (modest m.state step) taken
+keeps-logs m step reply next taken = elim taken [ inl a ↦ rw a.2 (modest m.state step).logs | inr a ↦ rw a.2 (logs-same m.state) ]
 
 -- ---- a run
 
@@ -50,11 +46,6 @@ record IsLeft (m next : Seen) (blocks : ℕ) : Type 0 where
   handles : length next.state.handles ≤ length m.state.handles + 1
   records : length next.state.tables.records ≤ length m.state.tables.records + 1
   more : length next.state.tables.blocks ≤ length m.state.tables.blocks + blocks
-
-taken-left : (m : Seen) (o : Outcome) (block : Bool) (reply : Reply) (next : Seen) → IsModest m.state block o → IsCarriedOut m o reply next.state
-    → IsLeft m next (cond block 1 0)
-taken-left m o block reply next n (inl (found, e, f)) = record { handles = rw f n.handles; records = rw f n.records; more = rw f n.blocks }
-taken-left m o block reply next n (inr (w, e, f)) = record { handles = rw f (omega arith); records = rw f (omega arith); more = rw f (omega arith) }
 
 -- so a step leaves room for one step less
 left : (room : Space) (m next : Seen) (a b k n : ℕ) → k ≡ n + 1 → IsLeft m next a → RoomFor room m.state (a + b) k k → RoomFor room next.state b n n
@@ -67,10 +58,13 @@ left room m next a b k n e l i = record {
 moves-left : (m : Seen) (step : Step) (reply : Reply) (next : Seen) (b k n : ℕ) → k ≡ n + 1 → Moves m step reply next → next.room ≡ m.room
     → HasBoth m (new_blocks step.act + b) k → HasBoth next b n
 moves-left m step reply next b k n e taken room i =
-    let l = subst (λ n. IsLeft m next n) (sym (blocks-made step.act))
-    (taken-left m (moved m.state step) (adds_block step.act) reply next (modest m.state step) taken) in
+    let a = modest m.state step in
+    let l : IsLeft m next (new_blocks step.act) = rw (blocks-made step.act) (elim taken [
+      | inl c ↦ record { handles = rw c.2 a.handles; records = rw c.2 a.records; more = rw c.2 a.blocks }
+      | inr c ↦ record { handles = rw c.2 (omega arith); records = rw c.2 (omega arith); more = rw c.2 (omega arith) }
+    ]) in
     record {
-      memory = subst (λ (r : Space). RoomFor r next.state b n n) (sym room) (left m.room m next (new_blocks step.act) b k n e l i.memory);
+      memory = rw room (left m.room m next (new_blocks step.act) b k n e l i.memory);
       few = left limit m next (new_blocks step.act) b k n e l i.few;
     }
 
@@ -80,12 +74,6 @@ more-room r room s a k (b, h, v) i = record {
   blocks = λ p. (let q = i.blocks p in omega (arith, q, b));
   handles = let q = i.handles in omega (arith, q, h);
   records = let q = i.records in omega (arith, q, v);
-}
-
-grown-both : (m grown : Seen) (a k : ℕ) → grown.state ≡ m.state → KeepsRoom m.room grown.room → HasBoth m a k → HasBoth grown a k
-grown-both m grown a k same more i = record {
-  memory = subst (λ (s : State). RoomFor grown.room s a k k) (sym same) (more-room m.room grown.room m.state a k more i.memory);
-  few = subst (λ (s : State). RoomFor limit s a k k) (sym same) i.few;
 }
 
 fewer : (room : Space) (s : State) (a b k n : ℕ) → k ≡ n + 1 → RoomFor room s (a + b) k k → RoomFor room s a 1 1
@@ -102,7 +90,8 @@ find-each m (step ∷ steps) (reply ∷ replies) next (grown, mid, same, more, o
     let e : length (step ∷ steps) ≡ length steps + 1 = omega arith in
     let a = new_blocks step.act in
     let b = blocks_of steps in
-    let g = grown-both m grown (a + b) (length (step ∷ steps)) same more i in (
+    let g : HasBoth grown (a + b) (length (step ∷ steps)) =
+    record { memory = rw same (more-room m.room grown.room m.state (a + b) _ more i.memory); few = rw same i.few } in (
       finds grown step reply mid one.moves (fewer grown.room grown.state a b _ (length steps) e g.memory)
           (fewer limit grown.state a b _ (length steps) e g.few),
       find-each mid steps replies next others (moves-left grown step reply mid b _ (length steps) e one.moves one.room g),

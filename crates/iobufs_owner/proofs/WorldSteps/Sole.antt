@@ -1,5 +1,5 @@
 -- The answer of `IsUnique` is exact.
-use Rattle.iobufs_owner.proofs.Base.{◌≡◌, ◌≢◌, ◌⊎◌, inl, inr, ℕ, ◌<◌, ◌≤◌, zero, suc, Bool, true, false, nat_eq, List, [], ◌∷◌, length, get_or, set, Option, Some, None, sym, ◌∙◌, subst, refl, arith, eqb_tells, get_or-set_same, get_or-set_other, IsUnique, Act, Begin, Step, Reply, Unique, World, LiveHandle, Unfinished, held_at, going_at, holders, holds, still_holds, tally, Begins, ActsAt, Steps, IsSole, TellsUnique, count-set, count-some, count-two, eq-eqb, eqb-true, false_from_ne_true, Refusal, ap, count-none, MatchOption, Refused, cause_of, refused_at}
+use Rattle.iobufs_owner.proofs.Base.{◌≡◌, ◌≢◌, ◌⊎◌, inl, inr, ℕ, ◌<◌, ◌≤◌, zero, suc, Bool, true, false, nat_eq, List, [], ◌∷◌, length, get_or, set, Option, Some, None, sym, ◌∙◌, subst, refl, arith, eqb_tells, get_or-set_same, get_or-set_other, IsUnique, Act, Begin, Step, Reply, Unique, World, LiveHandle, Unfinished, held_at, going_at, holders, holds, still_holds, tally, Begins, ActsAt, Steps, TellsUnique, count-set, count-some, count-two, eq-eqb, eqb-true, false_from_ne_true, Refusal, ap, count-none, MatchOption, Refused, cause_of, refused_at}
 
 -- ---- counts
 
@@ -37,24 +37,6 @@ one-counted p xs h n t f =
     let c = rw (n, t, z) at (count-set p xs h None None l) in
     omega (arith, c)
 
--- ---- the sole holder
-
-sole-of : (w : World) (h b : ℕ) → holds b (held_at w h) ≡ true → holders w b ≡ 1 → IsSole w h b
-unfolding holders
-sole-of w h b t one =
-    let some = count-some (holds b) w.handles h None (inside (holds b) w.handles h refl t) t in
-    record {
-      handles = λ k d. others-fail (holds b) w.handles h k refl t (omega (arith, one, some)) d;
-      drops = λ p. none-pass (still_holds b) w.calls p refl (omega (arith, one, some));
-    }
-
-sole-one : (w : World) (h b : ℕ) → holds b (held_at w h) ≡ true → IsSole w h b → holders w b ≡ 1
-unfolding holders
-sole-one w h b t s =
-    let one = one-counted (holds b) w.handles h refl t s.handles in
-    let none = none-counted (still_holds b) w.calls s.drops in
-    omega (arith, one, none)
-
 -- ---- the answer
 
 unique-begun : (w next : World) (p h b : ℕ) (memory v : Bool) (x : LiveHandle) (reply : Reply) → Begins w p (IsUnique h) memory reply next
@@ -83,7 +65,16 @@ unique-by w next step h b memory v (Some why) x reply m act at block q = absurd 
 
 -- a step of the world answers that a handle is unique exactly where no other handle and no unfinished drop holds its block
 pub tells-unique : (w next : World) (step : Step) (reply : Reply) → Steps w step reply next → TellsUnique w step reply
+unfolding holders
 tells-unique w next step reply m = λ h b memory v x act q at block.
     let e = unique-by w next step h b memory v (cause_of w step) x reply m act at block q in
-    let t : holds b (held_at w h) ≡ true = rw (at, block) (eq-eqb b b refl) in
-    (λ y. sole-of w h b t (eqb-true (holders w b) 1 (sym e ∙ y)), λ s. e ∙ eq-eqb (holders w b) 1 (sole-one w h b t s))
+    let t : holds b (held_at w h) ≡ true = rw (at, block) (eq-eqb b b refl) in (
+      λ y.
+          let one = eqb-true (holders w b) 1 (sym e ∙ y) in
+          let some = count-some (holds b) w.handles h None (inside (holds b) w.handles h refl t) t in
+          record {
+            handles = λ k d. others-fail (holds b) w.handles h k refl t (omega (arith, one, some)) d;
+            drops = λ p. none-pass (still_holds b) w.calls p refl (omega (arith, one, some));
+          },
+      λ s. e ∙ eq-eqb (holders w b) 1 (omega (arith, one-counted (holds b) w.handles h refl t s.handles, none-counted (still_holds b) w.calls s.drops)),
+    )

@@ -1,79 +1,101 @@
--- The abstract state after an answered outcome (`IsAnswered`); and Static, Put and Advance, read as abstract steps.
-use Rattle.iobufs_owner.proofs.Base.{capacity, ◌≡◌, ◌⊎◌, inl, inr, ℕ, ◌+◌, ◌-◌, Bool, true, false, cond, nat_lt, length, Some, None, Result, Ok, Err, ap, sym, ◌∙◌, refl, MatchBool, length-set, length-map, Handle, Mut, Empty, Refusal, OutOfRange, Reply, Made, Done, State, Tables, owner_of, World, LiveHandle, reading, read_held, read_handle, IsSound, Outcome, refused, done, edited, made, lend_of, declined, Refuses, NoRoom, Makes, Declines, held_set, held_more, IsAnswered, entries, grows-never, reading-set, reading-append, owner-empty, lend-tells, alone-reads, any-reads, capacity-reads, read_lent, owner-put, owner-advanced, within, ltb-false, any-tells, MatchOption, OnHeld, Option, alone_of, any_of, cause_if, cause_or, handle_at, held-reads}
+-- The abstract state after an answered outcome (`IsAnswered`).
+use Rattle.iobufs_owner.proofs.Base.{◌≡◌, ◌⊎◌, inl, inr, ℕ, Bool, true, false, cond, set, [], ◌∷◌, Some, None, Result, Ok, Err, All, ap, sym, ◌∙◌, refl, MatchBool, length-set, length-map, map-set, map-append, Handle, Pending, Word, Refusal, Reply, Made, Done, State, Tables, owner_of, World, LiveHandle, reading, read_held, read_handle, read_call, IsSound, Outcome, done, edited, called, replaced, made, part, part_of, lend_of, Lends, Kind, Refuses, NoRoom, Makes, held_set, call_set, IsAnswered, entries, grows-never, owner-empty, lend-tells, alone-reads, alone_of, read_lent, MatchOption, OnHeld, Option, cause_if, cause_or, handle_at, held-reads, Keeps, KeepsLetGo, handles-kept, calls-read-kept, with_record, with_count, counted, tables_without, GoesOn, GoesOnWithin, Unfinished, ◌<◌, ◌≤◌}
 use Rattle.iobufs_owner.specs.Changes as change
-use Rattle.iobufs_owner.specs.Lending as lending
-use Rattle.iobufs_owner.specs.ShortCalls as short
 use Rattle.iobufs_owner.specs.Steps as world
+use Rattle.iobufs_owner.proofs.Soundness.{recorded-keeps, recorded-let_go, counted-keeps, dead-keeps, dead-let_go}
 
--- ---- outcomes
+-- ---- readings
 
--- users see a refusal that changes nothing as that refusal
-pub refused-taken : (s t : State) (why : Refusal) (reply : Reply) → IsAnswered s (refused s why) reply t → Refuses (reading s) why reply (reading t)
-refused-taken s t why reply (inl (e, f)) = (e, ap reading f)
-refused-taken s t why reply (inr l) = absurd (grows-never s s refl l.grows)
+-- another handle or none under a number is, read, that in the world
+pub replaced-in : {w : World} {z : Option LiveHandle} (s : State) (h : ℕ) (o : Option Handle) → reading s ≡ w → read_handle s.tables o ≡ z
+    → reading (replaced s h o) ≡ record w { handles = set w.handles h z }
+replaced-in s h o r e = rw (← r, ← e, map-set (read_handle s.tables) s.handles h o) refl
 
--- users see a call that declines as one that declines
-pub declined-taken : (s t : State) (reply : Reply) → IsAnswered s (declined s) reply t → Declines (reading s) reply (reading t)
-declined-taken s t reply (inl (e, f)) = (e, ap reading f)
-declined-taken s t reply (inr l) = absurd (grows-never s s refl l.grows)
+-- another call of a party is, read, that in the world
+pub called-in : {w : World} (s : State) (p : ℕ) (c : Option Pending) → reading s ≡ w → reading (called s p c) ≡ call_set w p (read_call s.tables c)
+called-in s p c r = rw (← r, map-set (read_call s.tables) s.calls p c) refl
 
--- a change that adds no entry
-pub done-taken : (s u t : State) (w : World) (reply : Reply) → entries u ≡ entries s → reading u ≡ w → IsAnswered s (done u) reply t → (reply ≡ Done)
-    × (reading t ≡ w)
-done-taken s u t w reply n r (inl (e, f)) = (e, ap reading f ∙ r)
-done-taken s u t w reply n r (inr l) = absurd (grows-never s u n l.grows)
+kept-in : {s : State} {g : Tables} → IsSound s → Keeps s.tables g → All (KeepsLetGo s.tables g) s.calls → g.blocks ≡ s.tables.blocks
+    → reading (record s { tables = g }) ≡ reading s
+kept-in {s} {g} k e a b = rw (handles-kept s.tables g s.calls s.handles e k.fit, calls-read-kept s g s.calls e a k.calls_fit, b) refl
 
--- a change that may add one
-pub grown-taken : (s u t : State) (w : World) (answer reply : Reply) → reading u ≡ w → IsAnswered s (record { reply = answer; state = u }) reply t
-    → NoRoom (reading s) reply (reading t) ⊎ ((reply ≡ answer) × (reading t ≡ w))
-grown-taken s u t w answer reply r (inl (e, f)) = inr (e, ap reading f ∙ r)
-grown-taken s u t w answer reply r (inr l) = inl (l.refused, ap reading l.same)
+-- users don't see a record more
+pub recorded-in : (s : State) (n b : ℕ) → IsSound s → reading (with_record s n b) ≡ reading s
+recorded-in s n b k = kept-in k (recorded-keeps s.tables n b) (λ i d l q j t. recorded-let_go s.tables n b q t) refl
 
--- one handle more than u has
-pub made-taken : (s u t : State) (w : World) (x : Handle) (y : LiveHandle) (reply : Reply) → reading u ≡ w → read_held u.tables x ≡ y
-    → IsAnswered s (made u x) reply t → NoRoom (reading s) reply (reading t) ⊎ Makes w y reply (reading t)
-made-taken s u t w x y reply r e (inl (i, f)) =
-    inr (
-      i ∙ ap Made (sym (ap (λ (w : World). length w.handles) (sym r) ∙ length-map u.handles (read_handle u.tables))),
-      ap reading f
-          ∙ reading-append u (Some x) ∙ ap (λ (w : World). held_more w (read_held u.tables x)) r ∙ ap (held_more w) e,
-    )
-made-taken s u t w x y reply r e (inr l) = inl (l.refused, ap reading l.same)
+-- users don't see another count of a record, where each drop has let go as before
+pub counted-in : (s : State) (r n : ℕ) → IsSound s → All (KeepsLetGo s.tables (counted s.tables r n)) s.calls → reading (with_count s r n) ≡ reading s
+counted-in s r n k a = kept-in k (counted-keeps s.tables r n) a refl
 
-entries-edited : (s : State) (h : ℕ) (y : Handle) → entries (edited s h y) ≡ entries s
-entries-edited s h y = rw length-set refl
-
--- another handle under a number is, read, that handle in the world
-pub reads-edited : (s : State) (h : ℕ) (y : Handle) (z : LiveHandle) → read_held s.tables y ≡ z → reading (edited s h y) ≡ held_set (reading s) h z
-reads-edited s h y z e = reading-set s h (Some y) ∙ ap (held_set (reading s) h) e
-
--- a handle is changed
-pub edit-taken : (s t : State) (h : ℕ) (y : Handle) (z : LiveHandle) (reply : Reply) → read_held s.tables y ≡ z
-    → IsAnswered s (done (edited s h y)) reply t → (reply ≡ Done) × (reading t ≡ held_set (reading s) h z)
-edit-taken s t h y z reply e i = done-taken s (edited s h y) t (held_set (reading s) h z) reply (entries-edited s h y) (reads-edited s h y z e) i
-
--- users see the kind, address and length of a handle without block, and no block
-pub reads-empty : (g : Tables) (x : Handle) → x.word ≡ Empty → read_held g x ≡ record { kind = x.kind; block = None; place = x.ptr; len = x.len }
-reads-empty g x e = rw (owner-empty g x e) refl
+-- users don't see that a record is dead
+pub dead-in : (s : State) (r : ℕ) → IsSound s → reading (record s { tables = tables_without s.tables r }) ≡ reading s
+dead-in s r k = kept-in k (dead-keeps s.tables r) (λ i d l q j t. dead-let_go s.tables r q) refl
 
 -- a view without block is read as one
 pub reads-detached : (g : Tables) (len : ℕ) → read_held g (change.detached_handle len) ≡ world.detached len
-reads-detached g len = reads-empty g (change.detached_handle len) refl
+reads-detached g len = rw (owner-empty g (change.detached_handle len) refl) refl
+
+-- a part of a view, where it holds what the view held, is read as that part
+pub reads-part : (g k : Tables) (x : Handle) (lo hi : ℕ) (w : Word) → owner_of k (part x lo hi w) ≡ owner_of g x
+    → read_held k (part x lo hi w) ≡ part_of (read_held g x) lo hi
+reads-part g k x lo hi w e = rw e refl
+
+-- ---- outcomes
+
+-- a call that changes something, goes on or ends, where no entry is added
+pub reply-taken : {s u t : State} {w : World} {answer reply : Reply} → entries u ≡ entries s → reading u ≡ w
+    → IsAnswered s (record { reply = answer; state = u }) reply t → (reply ≡ answer) × (reading t ≡ w)
+reply-taken n r (inl (e, f)) = (e, ap reading f ∙ r)
+reply-taken {s} {u} n r (inr l) = absurd (grows-never s u n l.grows)
+
+-- users see a reply that changes nothing as that reply
+pub same-taken : {s t : State} {answer reply : Reply} → IsAnswered s (record { reply = answer; state = s }) reply t
+    → (reply ≡ answer) × (reading t ≡ reading s)
+same-taken i = reply-taken refl refl i
+
+-- a call that has this many steps more to take at most, and at least one
+pub goes-within : {w next : World} {p most : ℕ} {call : ℕ → Unfinished} {reply : Reply} (left : ℕ) → 0 < left → left ≤ most
+    → GoesOn w p (call left) reply next → GoesOnWithin w p call most reply next
+goes-within left some few goes = record { left = left; some = some; few = few; goes = goes }
+
+-- a change that may add one
+pub grown-taken : {s u t : State} {w : World} {answer reply : Reply} → reading u ≡ w → IsAnswered s (record { reply = answer; state = u }) reply t
+    → NoRoom (reading s) reply (reading t) ⊎ ((reply ≡ answer) × (reading t ≡ w))
+grown-taken r (inl (e, f)) = inr (e, ap reading f ∙ r)
+grown-taken r (inr l) = inl (l.refused, ap reading l.same)
+
+-- one handle more than u has
+pub made-taken : {s t : State} {w : World} {y : LiveHandle} {reply : Reply} (u : State) (x : Handle) → reading u ≡ w → read_held u.tables x ≡ y
+    → IsAnswered s (made u x) reply t → NoRoom (reading s) reply (reading t) ⊎ Makes w y reply (reading t)
+made-taken u x r e (inl (i, f)) =
+    let n = map-append (read_handle u.tables) u.handles (Some x ∷ []) in
+    rw (← r, ← e) (inr (i ∙ ap Made (sym (length-map u.handles (read_handle u.tables))), ap reading f ∙ rw n refl))
+made-taken u x r e (inr l) = inl (l.refused, ap reading l.same)
+
+-- a handle is changed
+pub edit-taken : {s t : State} {z : LiveHandle} {reply : Reply} (h : ℕ) (y : Handle) → read_held s.tables y ≡ z
+    → IsAnswered s (done (edited s h y)) reply t → (reply ≡ Done) × (reading t ≡ held_set (reading s) h z)
+edit-taken {s} h y e i = reply-taken (simp length-set) (replaced-in s h (Some y) refl (ap Some e)) i
 
 -- ---- tests
 
 -- where a test chooses between two outcomes, what follows from each follows by the test
-pub by-test : (P Q : Type 0) (s t : State) (a b : Outcome) (reply : Reply) (v : Bool) → (v ≡ true → IsAnswered s a reply t → P)
+pub by-test : {P Q : Type 0} {s t : State} {a b : Outcome} {reply : Reply} (v : Bool) → (v ≡ true → IsAnswered s a reply t → P)
     → (v ≡ false → IsAnswered s b reply t → Q) → IsAnswered s (cond v a b) reply t → MatchBool v P Q
-by-test P Q s t a b reply true f g i = f refl i
-by-test P Q s t a b reply false f g i = g refl i
+by-test true f g i = f refl i
+by-test false f g i = g refl i
 
--- where a cause stands against a step by a test, what follows from each of two outcomes follows by the test
-pub by-cause : (P : Type 0) (Q : Refusal → Type 0) (why : Refusal) (s t : State) (a b : Outcome) (reply : Reply) (v : Bool)
-    → (v ≡ true → IsAnswered s a reply t → Q why) → (v ≡ false → IsAnswered s b reply t → P) → IsAnswered s (cond v a b) reply t
-    → MatchOption (cause_if v why) P Q
-by-cause P Q why s t a b reply true f g i = f refl i
-by-cause P Q why s t a b reply false f g i = g refl i
+-- where a test chooses between two outcomes, what follows from each by the test follows
+pub either-taken : {P : Type 0} {s t : State} {a b : Outcome} {reply : Reply} (v : Bool) → (v ≡ true → IsAnswered s a reply t → P)
+    → (v ≡ false → IsAnswered s b reply t → P) → IsAnswered s (cond v a b) reply t → P
+either-taken true f g i = f refl i
+either-taken false f g i = g refl i
+
+-- where a cause stands against a step by a test, the step is refused by it or has the outcome that it has else
+pub by-cause : {P : Type 0} {s t : State} {b : Outcome} {reply : Reply} (why : Refusal) (v : Bool) → (v ≡ false → IsAnswered s b reply t → P)
+    → IsAnswered s (cond v (change.refused s why) b) reply t → MatchOption (cause_if v why) P (λ why. Refuses (reading s) why reply (reading t))
+by-cause why true g i = same-taken i
+by-cause why false g i = g refl i
 
 -- ---- the handle of a call
 
@@ -94,47 +116,16 @@ pub had : (s t : State) (h : ℕ) (r : Result Handle Refusal) (f : Handle → Ou
     → ((x : Handle) → r ≡ Ok x → IsAnswered s (f x) reply t → (handle_at s h ≡ Some x)
     × MatchOption (against (read_held s.tables x)) (P (read_held s.tables x)) (λ why. Refuses (reading s) why reply (reading t)))
     → Had s t h q against P reply
-had s t h (Err why) f q against P reply e i g = rw e (refused-taken s t why reply i)
+had s t h (Err why) f q against P reply e i g = rw e (same-taken i)
 had s t h (Ok x) f q against P reply e i g =
     let m = g x refl i in
     rw e (seen s t h x P reply (against (read_held s.tables x)) m.0 m.1)
 
--- ---- Static
-
--- users see a static view as one without block more, or as want of room
-pub static-steps : (s t : State) (len : ℕ) (reply : Reply) → IsAnswered s (short.static_of s len) reply t → NoRoom (reading s) reply (reading t)
-    ⊎ Makes (reading s) (world.detached len) reply (reading t)
-static-steps s t len reply i = made-taken s s t (reading s) (change.detached_handle len) (world.detached len) reply refl (reads-detached s.tables len) i
-
--- ---- Put
-
--- users of a sound machine see a put as that of the writable handle that they see under the number
-pub put-steps : (s t : State) (h n : ℕ) (reply : Reply) → IsSound s → IsAnswered s (short.put_of s h n) reply t
-    → Had s t h (alone_of (reading s) h Mut) (λ x. cause_if (nat_lt (capacity (reading s) x - x.len) n) OutOfRange)
-    (λ x. (reply ≡ Done) × (reading t ≡ held_set (reading s) h (record x { len = x.len + n }))) reply
-put-steps s t h n reply k i = had s t h (lend_of s h Mut) _ _ _ _ reply (alone-reads s h Mut) i (λ x e i.
-    (let l = lend-tells s h Mut x e in
-    let o = owner-put s.tables x n l.kind_is in (
-      l.at,
-      rw (capacity-reads s h x k l.at l.kind_is)
-          (by-cause _ _ OutOfRange s t (refused s OutOfRange) (done (edited s h (record x { len = x.len + n }))) reply (nat_lt (x.cap - x.len) n)
-          (λ _ i. refused-taken s t OutOfRange reply i)
-          (λ _ i. edit-taken s t h (record x { len = x.len + n }) (record { kind = x.kind; block = owner_of s.tables x; place = x.ptr; len = x.len + n })
-          reply (rw o refl) i) i),
-    )))
-
--- ---- Advance
-
--- users of a sound machine see an advance as that of the handle that they see under the number
-pub advance-steps : (s t : State) (h n : ℕ) (reply : Reply) → IsSound s → IsAnswered s (short.advance_of s h n) reply t
-    → Had s t h (any_of (reading s) h) (λ x. cause_if (nat_lt x.len n) OutOfRange)
-    (λ x. (reply ≡ Done) × (reading t ≡ held_set (reading s) h (record x { place = x.place + n; len = x.len - n }))) reply
-advance-steps s t h n reply k i = had s t h (lending.lend_any_of s h) _ _ _ _ reply (any-reads s h) i (λ x e i.
-    (let l = any-tells s h x e in (
-      l.at,
-      by-cause _ _ OutOfRange s t (refused s OutOfRange) (done (edited s h (short.advanced x n))) reply (nat_lt x.len n)
-          (λ _ i. refused-taken s t OutOfRange reply i)
-          (λ v i. let o = owner-advanced s.tables x n (ltb-false x.len n v) (within s h x k l.at) in
-          edit-taken s t h (short.advanced x n) (record { kind = x.kind; block = owner_of s.tables x; place = x.ptr + n; len = x.len - n }) reply
-          (rw o refl) i) i,
-    )))
+-- users see such a call of a handle that it has to have alone, of one kind
+pub had-alone : {s t : State} {f : Handle → Outcome} {reply : Reply} (against : LiveHandle → Option Refusal) (P : LiveHandle → Type 0) (h : ℕ) (kind : Kind)
+    → IsAnswered s (change.on_lent s (lend_of s h kind) f) reply t
+    → ((x : Handle) → Lends s h kind x → IsAnswered s (f x) reply t
+    → MatchOption (against (read_held s.tables x)) (P (read_held s.tables x)) (λ why. Refuses (reading s) why reply (reading t)))
+    → Had s t h (alone_of (reading s) h kind) against P reply
+had-alone {s} {t} {reply} against P h kind i g = had s t h (lend_of s h kind) _ _ _ _ reply (alone-reads s h kind) i (λ x e i.
+    (let l = lend-tells s h kind x e in (l.at, g x l i)))

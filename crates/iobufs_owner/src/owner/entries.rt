@@ -21,7 +21,7 @@ fn block_with(blocks: &[Block], base: u64) -> Option<usize>
 }
 
 impl Machine {
-    /// What the machine keeps true. The prover knows it of a machine that is lent only once a field of it is read, so this
+    /// Makes the machine's invariant known. The prover knows it of a borrowed machine only once a field of it is read, so this
     /// reads one; the call is gone when the program is built.
     pub(super) fn known(&self)
         ensures sound { IsSound self.now.state }

@@ -15,7 +15,7 @@ ghost use Rattle.iobufs_owner.specs.State.{call_at, record_at, recovered};
 use crate::owner::handle::end;
 use crate::owner::{Freed, Handle, Kind, Machine, Pending, Record, Reply, Word};
 
-/// What a drop does next that loaded this count.
+/// Returns the next state of a drop that loaded this count.
 fn after_count(count: u64, r: usize) -> Pending
     ensures { result ≡ long.after_count count r }
 {

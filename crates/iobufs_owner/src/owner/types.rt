@@ -34,7 +34,7 @@ pub enum Kind {
     Mut,
 }
 
-/// What a handle owns. In the original `Owner`, which a view keeps in an `OwnerCell`.
+/// The storage that a handle owns. In the original `Owner`, which a view keeps in an `OwnerCell`.
 #[derive(Clone, Copy, Debug, PartialEq, Eq, Drop)]
 pub enum Word {
     /// Nothing.
@@ -56,7 +56,7 @@ pub struct Handle {
     pub len: u64,
     /// The bytes from `ptr` to the end of the block, for a writable handle; 0 for a view.
     pub cap: u64,
-    /// What it owns.
+    /// The storage that it owns.
     pub word: Word,
 }
 
@@ -97,7 +97,7 @@ pub struct Freed {
     pub align: u64,
 }
 
-/// What a thread may begin. Handles go by their numbers.
+/// A call that a thread may begin. Handles go by their numbers.
 #[derive(Clone, Copy, Debug, PartialEq, Eq, Drop)]
 pub enum Call {
     /// Makes a block of this base, size and alignment, and a writable handle on it.
@@ -144,7 +144,7 @@ pub enum Act {
 pub struct Step {
     /// The thread.
     pub party: usize,
-    /// What it does.
+    /// Its act.
     pub act: Act,
 }
 

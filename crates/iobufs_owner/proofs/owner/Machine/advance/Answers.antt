@@ -1,11 +1,5 @@
-use Rattle.iobufs_owner.proofs.Base.{arith, Lends, State, sound-advanced, end-small, before, refl, still}
+use Rattle.iobufs_owner.proofs.Base.{Lends, State, sound-advanced, before, refl, still}
 use Rattle.iobufs_owner.proofs.owner.Machine.advance.Goals as goal
-
-pub overflow_add-x : goal.overflow_add-x
-overflow_add-x c =
-    let t = before (λ (s : State). Lends s c.args.h c.in-Ok.x.kind c.in-Ok.x) c.self.inside _ c.self.view_is c.in-Ok.ensures.lends in
-    let e = end-small _ c.args.h c.in-Ok.x c.self.invariant.sound t.at in
-    omega arith
 
 pub invariant_of-self : goal.invariant_of-self
 invariant_of-self c =

@@ -6,13 +6,13 @@ pub push_reserved-requires : goal.push_reserved-requires
 push_reserved-requires c =
     let t = before (λ (s : State). Lends s c.args.h Mut c.args.x) c.self.inside _ c.self.view_is c.requires.lent in
     let e = counted-ends _ c.args.r c.self.invariant.sound (counted-at _ c.args.h c.args.x c.args.r c.self.invariant.sound t.at c.requires.word).live in
-    omega (arith, e.block_log, c.self.invariant.block_room)
+    omega (arith, e.0, c.self.invariant.block_room)
 
 pub push_reserved-requires-2 : goal.push_reserved-requires-2
 push_reserved-requires-2 c =
     let t = before (λ (s : State). Lends s c.args.h Mut c.args.x) c.self.inside _ c.self.view_is c.requires.lent in
     let e = counted-ends _ c.args.r c.self.invariant.sound (counted-at _ c.args.h c.args.x c.args.r c.self.invariant.sound t.at c.requires.word).live in
-    omega (arith, e.record_log, c.self.invariant.record_room)
+    omega (arith, e.1, c.self.invariant.record_room)
 
 pub invariant_of-self : goal.invariant_of-self
 invariant_of-self c =

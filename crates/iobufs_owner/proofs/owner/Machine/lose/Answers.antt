@@ -7,7 +7,7 @@ push_reserved-requires c =
     let at = before (λ (s : State). call_at s c.args.party ≡ Some (Ready c.args.range c.args.word c.args.r)) c.self.inside _ c.self.view_is c.requires.call in
     let e = counted-ends _ c.args.r c.self.invariant.sound (call-fits _ c.args.party (Ready c.args.range c.args.word c.args.r) c.self.invariant.sound at).live
     in
-    omega (arith, e.record_log, c.self.invariant.record_room)
+    omega (arith, e.1, c.self.invariant.record_room)
 
 pub invariant_of-self : goal.invariant_of-self
 invariant_of-self c =

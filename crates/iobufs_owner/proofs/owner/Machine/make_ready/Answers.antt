@@ -1,5 +1,5 @@
 use Rattle.iobufs_owner.proofs.Base.{◌≡◌, Option, Some, None, length, length-append, sym, subst, arith, Pending, Loaded, state_of, loaded_block, State, call_at, at-some, before, refl, still, call-fits}
-use Rattle.iobufs_owner.proofs.Soundness.{IsQuiet, quiet-none, quiet-loaded, sound-called, loading-block, sound-readied}
+use Rattle.iobufs_owner.proofs.Soundness.{IsQuiet, quiet-none, quiet-loaded, sound-called, sound-readied}
 use Rattle.iobufs_owner.proofs.owner.Machine.make_ready.Goals as goal
 
 pub invariant_of-self : goal.invariant_of-self
@@ -21,7 +21,7 @@ invariant_of-self-2 c =
     record {
       sound = rw (c.push_reserved.ensures.items, r, b)
           (sound-readied s c.args.party c.args.range c.args.word (loaded_block s c.args.range c.args.word) c.self.invariant.sound at l
-          (loading-block s c.args.range c.args.word l) (omega (arith, c.in_ok-room_for_record.ensures.few)));
+          (rw (l.shares.at, l.promised.says.owner) refl) (omega (arith, c.in_ok-room_for_record.ensures.few)));
       block_room = c.self.invariant.block_room;
       record_room = rw (c.push_reserved.ensures.items, length-append) (omega (arith, c.in_ok-room_for_record.ensures.freed_room));
     }

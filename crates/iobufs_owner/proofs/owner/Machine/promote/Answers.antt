@@ -1,5 +1,5 @@
 use Rattle.iobufs_owner.proofs.Base.{◌≡◌, Some, length, length-append, arith, Mut, Lends, State, owner_of, before}
-use Rattle.iobufs_owner.proofs.Soundness.{sound-promoted-frozen}
+use Rattle.iobufs_owner.proofs.Soundness.{sound-promoted}
 use Rattle.iobufs_owner.proofs.owner.Machine.promote.Goals as goal
 
 pub invariant_of-self : goal.invariant_of-self
@@ -9,7 +9,7 @@ invariant_of-self c =
     let r : c.len-r.result ≡ length c.self.inside.records.items = omega (arith, c.len-r.ensures) in
     record {
       sound = rw (c.frozen.ensures, c.push_reserved.ensures.items, r)
-          (sound-promoted-frozen _ c.args.h c.args.x c.args.word c.owned-block.result c.self.invariant.sound t c.requires.word o
+          (sound-promoted _ c.args.h c.args.x c.args.word c.owned-block.result Mut c.self.invariant.sound t c.requires.word o
           (omega (arith, c.in_ok-room_for_record.ensures.few)));
       block_room = c.self.invariant.block_room;
       record_room = rw (c.push_reserved.ensures.items, length-append) (omega (arith, c.in_ok-room_for_record.ensures.freed_room));

@@ -1,15 +1,13 @@
-use Rattle.iobufs_owner.proofs.Base.{◌≡◌, arith, length-set, View, state_of, Lends, State, record_at, counted-at, count-small, before, refl, still}
+use Rattle.iobufs_owner.proofs.Base.{◌≡◌, arith, length-set, View, Lends, State, record_at, counted-at, count-small, before, refl, still, now}
 use Rattle.iobufs_owner.proofs.Soundness.{sound-split_counted}
 use Rattle.iobufs_owner.proofs.owner.Machine.split_counted.Goals as goal
 
 pub overflow_add-record : goal.overflow_add-record
 overflow_add-record c =
-    let s : State = state_of c.self.inside in
-    let t = before (λ (s : State). Lends s c.args.h View c.args.x) c.self.inside _ c.self.view_is c.requires.lent in
-    let e = before (λ (s : State). c.record-record.result ≡ record_at s.tables c.args.r) c.self.inside _ c.self.view_is c.record-record.ensures in
-    let f = counted-at s c.args.h c.args.x c.args.r c.self.invariant.sound t.at c.requires.word in
-    let m = count-small s c.args.r c.self.invariant.sound f.live f.shown in
-    rw e (omega (arith, m))
+    let k = now c.self.invariant c.self.view_is in
+    let f = counted-at _ c.args.h c.args.x c.args.r k c.requires.lent.at c.requires.word in
+    let m = count-small _ c.args.r k f.live f.shown in
+    rw c.record-record.ensures (omega (arith, m))
 
 pub invariant_of-self : goal.invariant_of-self
 invariant_of-self c =

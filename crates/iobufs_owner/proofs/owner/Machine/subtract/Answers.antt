@@ -1,13 +1,11 @@
-use Rattle.iobufs_owner.proofs.Base.{ap, cond, Bool, None, Release, eq-eqb, ne_eqb, ◌≡◌, ◌-◌, Option, Some, subst, length-set, Pending, Subtract, state_of, State, call_at, record_at, called, with_count, IsSound, before, refl, still}
+use Rattle.iobufs_owner.proofs.Base.{ap, cond, Bool, None, Release, eq-eqb, ne_eqb, ◌≡◌, ◌-◌, Option, Some, subst, length-set, Pending, Subtract, state_of, State, call_at, record_at, called, with_count, IsSound, before, refl, still, now}
 use Rattle.iobufs_owner.proofs.Soundness.{sound-subtracted, letting-go}
 use Rattle.iobufs_owner.proofs.owner.Machine.subtract.Goals as goal
 
 pub overflow_sub-record : goal.overflow_sub-record
 overflow_sub-record c =
-    let at = before (λ (s : State). call_at s c.args.party ≡ Some (Subtract c.args.r)) c.self.inside _ c.self.view_is c.requires in
-    let e = before (λ (s : State). c.record-record.result ≡ record_at s.tables c.args.r) c.self.inside _ c.self.view_is c.record-record.ensures in
-    let l = letting-go _ c.args.party c.args.r c.self.invariant.sound at in
-    rw e l.some
+    let l = letting-go _ c.args.party c.args.r (now c.self.invariant c.self.view_is) c.requires in
+    rw c.record-record.ensures l.some
 
 pub invariant_of-self : goal.invariant_of-self
 invariant_of-self c =
