@@ -3,7 +3,7 @@ ghost use Rattle.std.specs.Prelude.{◌≡◌, length};
 ghost use Rattle.iobufs.specs.Parts.{parts_filled};
 
 use crate::run::{CHUNK, Run, RunError, Sum, begun, copies, lists, parts, pattern};
-use crate::turns::{advance_turns, put_turns, read_turns, take_turns};
+use crate::turns::put_turns;
 use iobufs::bufs_mut::IoBufsMut;
 use iobufs_core::buf::IoBufMut;
 use iobufs_core::codec::Buf;
@@ -23,31 +23,6 @@ pub fn put(rt: &HostRuntime, n: u32, size: u32) -> Result<Run, RunError> {
         run.sum.add(list.len());
     }
     Ok(run)
-}
-
-pub fn advance100(rt: &HostRuntime, n: u32) -> Result<Run, RunError> {
-    let k = copies(n);
-    let mut lists = lists(rt.alloc(), k, n, CHUNK)?;
-    let turns = n as usize * CHUNK / 100;
-    let mut sum = Sum::new();
-    let start = begun(rt);
-    for list in &mut lists {
-        advance_turns(list, turns, &mut sum)?;
-    }
-    Ok(Run::since(rt, start, k.saturating_mul(turns + 1), sum))
-}
-
-pub fn take(rt: &HostRuntime, n: u32, size: u32) -> Result<Run, RunError> {
-    let alloc = rt.alloc();
-    let k = copies(n);
-    let mut lists = lists(alloc, k, n, CHUNK)?;
-    let turns = (n as usize * CHUNK).checked_div(size as usize).unwrap_or(0);
-    let mut sum = Sum::new();
-    let start = begun(rt);
-    for list in &mut lists {
-        take_turns(alloc, list, turns, size as usize, &mut sum)?;
-    }
-    Ok(Run::since(rt, start, k.saturating_mul(turns), sum))
 }
 
 pub fn freeze(rt: &HostRuntime, n: u32) -> Result<Run, RunError> {
@@ -82,18 +57,6 @@ pub fn coalesce(rt: &HostRuntime, n: u32) -> Result<Run, RunError> {
         run.sum.mark(part.as_ref());
     }
     Ok(run)
-}
-
-/// Buffers of eight bytes that are read to their ends, and keep their spare capacity.
-pub fn drain(rt: &HostRuntime, n: u32) -> Result<Run, RunError> {
-    let k = copies(n);
-    let mut lists = lists(rt.alloc(), k, n, 8)?;
-    let mut sum = Sum::new();
-    let start = begun(rt);
-    for list in &mut lists {
-        read_turns(list, n as usize, &mut sum);
-    }
-    Ok(Run::since(rt, start, k.saturating_mul(n as usize), sum))
 }
 
 // Writes over all bytes so many times.

@@ -1,5 +1,5 @@
-// Calls on any reader or writer, so many times.
-use crate::run::{RunError, Sum};
+// Calls on any reader or writer, so many times, and the workloads on several readers of `n` chunks.
+use crate::run::{CHUNK, Run, RunError, Sum, begun};
 use iobufs_core::codec::{Buf, BufMut};
 use std::alloc::Global;
 
@@ -59,4 +59,47 @@ pub fn read_turns<B: Buf>(buf: &mut B, turns: usize, sum: &mut Sum) {
         let len = chunk.len();
         buf.advance(len);
     }
+}
+
+pub fn advance100<B: Buf + Drop>(
+    rt: &HostRuntime,
+    n: u32,
+    mut bufs: Vec<B>,
+) -> Result<Run, RunError> {
+    let turns = n as usize * CHUNK / 100;
+    let ops = bufs.len().saturating_mul(turns + 1);
+    let mut sum = Sum::new();
+    let start = begun(rt);
+    for buf in &mut bufs {
+        advance_turns(buf, turns, &mut sum)?;
+    }
+    Ok(Run::since(rt, start, ops, sum))
+}
+
+pub fn take<B: Buf + Drop>(
+    rt: &HostRuntime,
+    n: u32,
+    size: u32,
+    mut bufs: Vec<B>,
+) -> Result<Run, RunError> {
+    let alloc = rt.alloc();
+    let turns = (n as usize * CHUNK).checked_div(size as usize).unwrap_or(0);
+    let ops = bufs.len().saturating_mul(turns);
+    let mut sum = Sum::new();
+    let start = begun(rt);
+    for buf in &mut bufs {
+        take_turns(alloc, buf, turns, size as usize, &mut sum)?;
+    }
+    Ok(Run::since(rt, start, ops, sum))
+}
+
+/// Reads chunk by chunk, to the end.
+pub fn drain<B: Buf + Drop>(rt: &HostRuntime, n: u32, mut bufs: Vec<B>) -> Result<Run, RunError> {
+    let ops = bufs.len().saturating_mul(n as usize);
+    let mut sum = Sum::new();
+    let start = begun(rt);
+    for buf in &mut bufs {
+        read_turns(buf, n as usize, &mut sum);
+    }
+    Ok(Run::since(rt, start, ops, sum))
 }

@@ -1,6 +1,8 @@
 // The workloads by their names.
-use crate::run::{Run, RunError};
-use crate::{codec, lists, single, texts};
+use crate::run::{CHUNK, Run, RunError, copies, lists, native, pattern, texts};
+use crate::{codec, lists, single, texts, turns};
+use bytes::Bytes;
+use iobufs_core::buf::IoBuf;
 
 /// One run of a workload.
 pub fn run_named(rt: &HostRuntime, name: &str) -> Result<Run, RunError> {
@@ -9,9 +11,15 @@ pub fn run_named(rt: &HostRuntime, name: &str) -> Result<Run, RunError> {
         "put_u8_64k_freeze" => single::put_u8(rt),
         "split_1m_1k_drop" => single::split_drop(rt),
         "split_1m_1k_keep" => single::split_keep(rt),
-        "clone_drop_native" => single::clone_drop_native(rt),
-        "clone_drop_bytes" => single::clone_drop_bytes(rt),
-        "clone_drop_static" => single::clone_drop_static(rt),
+        "clone_drop_native" => single::clone_drop(rt, native(rt.alloc(), 1024)?),
+        "clone_drop_bytes" => single::clone_drop(
+            rt,
+            IoBuf::from(Bytes::from_vec(pattern(rt.alloc(), 1024)?)?),
+        ),
+        "clone_drop_static" => single::clone_drop(
+            rt,
+            IoBuf::from(b"abcdefghijklmnopqrstuvwxyz".as_slice()),
+        ),
         "new_share_drop_64" => single::new_share_drop(rt),
         "slice_drop_64" => single::slice_drop(rt),
         "read_view_bytewise_1m" => single::read_bytewise(rt),
@@ -69,9 +77,9 @@ fn run_text(rt: &HostRuntime, n: u32, name: &str) -> Result<Run, RunError> {
         "append" => texts::join(rt, n, false),
         "prepend" => texts::join(rt, n, true),
         "len" => texts::len(rt, n),
-        "advance100" => texts::advance100(rt, n),
-        "take100" => texts::take(rt, n, 100),
-        "take300" => texts::take(rt, n, 300),
+        "advance100" => turns::advance100(rt, n, texts(rt.alloc(), copies(n), n)?),
+        "take100" => turns::take(rt, n, 100, texts(rt.alloc(), copies(n), n)?),
+        "take300" => turns::take(rt, n, 300, texts(rt.alloc(), copies(n), n)?),
         "split1000" => texts::split1000(rt, n),
         "split_mid" => texts::split_mid(rt, n),
         "slice" => texts::slice(rt, n),
@@ -79,7 +87,7 @@ fn run_text(rt: &HostRuntime, n: u32, name: &str) -> Result<Run, RunError> {
         "coalesce" => texts::coalesce(rt, n),
         "clone_drop" => texts::clone_drop(rt, n),
         "walk" => texts::walk(rt, n),
-        "drain" => texts::drain(rt, n),
+        "drain" => turns::drain(rt, n, texts(rt.alloc(), copies(n), n)?),
         "bytewise" => texts::bytewise(rt, n),
         "hold" => texts::hold(rt, n),
         _ => Err(RunError::NoName),
@@ -90,13 +98,14 @@ fn run_parts(rt: &HostRuntime, n: u32, name: &str) -> Result<Run, RunError> {
     match name {
         "put64" => lists::put(rt, n, 64),
         "put96" => lists::put(rt, n, 96),
-        "advance100" => lists::advance100(rt, n),
-        "take100" => lists::take(rt, n, 100),
-        "take300" => lists::take(rt, n, 300),
+        "advance100" => turns::advance100(rt, n, lists(rt.alloc(), copies(n), n, CHUNK)?),
+        "take100" => turns::take(rt, n, 100, lists(rt.alloc(), copies(n), n, CHUNK)?),
+        "take300" => turns::take(rt, n, 300, lists(rt.alloc(), copies(n), n, CHUNK)?),
         "freeze" => lists::freeze(rt, n),
         "overwrite" => lists::overwrite(rt, n),
         "coalesce" => lists::coalesce(rt, n),
-        "drain" => lists::drain(rt, n),
+        // Buffers of eight bytes that are read to their ends, and keep their spare capacity.
+        "drain" => turns::drain(rt, n, lists(rt.alloc(), copies(n), n, 8)?),
         "hold" => lists::hold(rt, n),
         _ => Err(RunError::NoName),
     }
