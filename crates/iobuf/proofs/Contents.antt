@@ -1,19 +1,18 @@
 -- Known contents of a writer.
-use Rattle.std.proofs.Common.{◌≡◌, ℕ, List, ◌++◌, Option, Some, None, ap, subst}
-use Rattle.std.specs.Io.KnownBytes.{Appends, Keeps}
+use Rattle.iobuf.proofs.Known.{List, None, Option, Some, subst, sym, ℕ, ◌++◌, ◌∙◌, ◌≡◌, Appends, Keeps}
 
 -- contents that are known stay as they are
 pub kept : (bs : List ℕ) (old new : Option (List ℕ)) → old ≡ Some bs → Keeps old new → new ≡ Some bs
-kept bs old new e k = kept_at new (subst (λ (o : Option (List ℕ)). Keeps o new) e k)
-  where
-    kept_at : (new : Option (List ℕ)) → Keeps (Some bs) new → new ≡ Some bs
-    kept_at (Some ys) k = ap Some k
-    kept_at None k = elim k [ ]
+kept bs (Some xs) (Some ys) e k = cc
+kept bs (Some xs) None e k = absurd k
+kept bs None new e k = cc e
 
 -- a line after what is known
 pub line_more : (bs line : List ℕ) (old new : Option (List ℕ)) → old ≡ Some bs → Appends old new line → new ≡ Some (bs ++ line)
-line_more bs line old new e a = more_at new (subst (λ (o : Option (List ℕ)). Appends o new line) e a)
-  where
-    more_at : (new : Option (List ℕ)) → Appends (Some bs) new line → new ≡ Some (bs ++ line)
-    more_at (Some ys) a = ap Some a
-    more_at None a = elim a [ ]
+line_more bs line (Some xs) (Some ys) e a = cc
+line_more bs line (Some xs) None e a = absurd a
+line_more bs line None new e a = cc e
+
+-- a property of known contents stays true
+pub stays : (P : Option (List ℕ) → Type 0) (bs : List ℕ) (written new : Option (List ℕ)) → written ≡ Some bs → Keeps written new → P written → P new
+stays P bs written new e keeps p = subst P (e ∙ sym (kept bs written new e keeps)) p

@@ -1,119 +1,66 @@
 -- How a session of either half ends, once its replies are sent off.
-use Rattle.std.proofs.Common.{◌≡◌, inl, inr, ℕ, List, [], ◌∷◌, replicate, Option, Some, None, Result, Ok, Err, refl, sym, subst, ◌∙◌, append-nil, IfSome}
-use Rattle.std.specs.Io.KnownBytes.{Keeps}
-use Rattle.iobufs_run.specs.declared.table.Slot.TheVariants.{Free}
-use Rattle.iobuf.specs.Faults.{Halts}
-use Rattle.iobuf.specs.Halves.{ServesHalf}
-use Rattle.iobuf.specs.MachineSession.{ServesMachine, MachineAnsweredFirst}
-use Rattle.iobuf.specs.Session.{AnsweredFirst, Serves, commands_of}
-use Rattle.iobuf.specs.declared.fault.Obstacle.TheVariants.{Reading, Writing, Memory, NotText, TooManyLines}
-use Rattle.iobuf.specs.declared.fault.Stop.{Stop}
-use Rattle.iobuf.specs.declared.fault.Stop.TheVariants.{BadCommand, CannotContinue, OtherWords}
-use Rattle.iobuf.specs.declared.serve.Half.{Half}
-use Rattle.iobuf.specs.declared.serve.Half.TheVariants.{Buffers, Machine}
-use Rattle.iobuf.proofs.Contents.{kept}
+use Rattle.iobuf.proofs.Known.{refl, Err, IfSome, List, None, Ok, Option, Result, Some, [], inl, inr, replicate, ℕ, ◌∷◌, Keeps, Free, Halts, ServesHalf, MachineAnsweredFirst, AnsweredFirst, commands_of, Obstacle, Memory, TooManyLines, Writing, Stop, BadCommand, CannotContinue, OtherWords, Half, Buffers, Machine}
+use Rattle.iobuf.proofs.Contents.{stays}
+use Rattle.iobuf.proofs.Going.{halted, where_known}
 use Rattle.iobuf.proofs.Sessions.{none_answered}
 
--- all that was to be written is there
-whole : (answered : ℕ → Option (List ℕ) → Type 0) (input : List ℕ) (written : Option (List ℕ)) (bs : List ℕ) (count : ℕ)
-    → written ≡ Some bs → answered count written → Halts answered input written Writing
-whole answered input written bs count e a =
-    (count, bs, subst (λ (w : Option (List ℕ)). answered count w) e a, record { front = bs; rest = []; split = sym (append-nil bs); written_is = e })
+-- the first lines of an input were answered by a half
+abbrev FirstOf : Half → (input before : List ℕ) → ℕ → Option (List ℕ) → Type 0
+FirstOf Buffers = AnsweredFirst
+FirstOf Machine = MachineAnsweredFirst
 
-buffers_first : (input before : List ℕ) (written : Option (List ℕ)) (count : ℕ) → AnsweredFirst input before count written
-    → Halts (AnsweredFirst input before) input written Writing
-buffers_first input before written count first =
-    let (names, left, a) = first in
-    whole (AnsweredFirst input before) input written _ count a.prints (names, left, a)
+-- all of their answers are written
+first_told : (half : Half) (input before : List ℕ) (written : Option (List ℕ)) (count : ℕ) → FirstOf half input before count written
+    → Halts (FirstOf half input before) input written Writing
+first_told Buffers input before written count (names, left, a) = halted (AnsweredFirst input before) input count _ written Writing a.prints (names, left, a) tt
+first_told Machine input before written count (inl (start, e)) =
+    halted (MachineAnsweredFirst input before) input count before written Writing e (inl (start, e)) tt
+first_told Machine input before written count (inr (left, a)) =
+    halted (MachineAnsweredFirst input before) input count _ written Writing a.prints (inr (left, a)) tt
 
--- however a session with named buffers ends, what is written is a front of the replies
-buffers_so_far : (input before : List ℕ) (written : Option (List ℕ)) (served : Result (Unit {0}) Stop) → Serves input before written served
-    → Halts (AnsweredFirst input before) input written Writing
-buffers_so_far input before written (Ok done) s = let (count, names, a) = s in buffers_first input before written count (names, [], a)
-buffers_so_far input before written (Err (BadCommand number)) s = let (count, next, upto, text) = s in let (names, left, a) =
-    upto in buffers_first input before written count (names, None ∷ left, a)
-buffers_so_far input before written (Err (CannotContinue Reading)) s = let (count, first) = s in buffers_first input before written count first
-buffers_so_far input before written (Err (CannotContinue Writing)) s = s
-buffers_so_far input before written (Err (CannotContinue Memory)) s = let (count, first) = s in buffers_first input before written count first
-buffers_so_far input before written (Err (CannotContinue NotText)) s = let (count, first, line, at, bad) = s in buffers_first input before written count first
-buffers_so_far input before written (Err (CannotContinue TooManyLines)) s = buffers_first input before written _ s
-buffers_so_far input before written (Err OtherWords) s = elim s [ ]
+halts_told : (half : Half) (input before : List ℕ) (written : Option (List ℕ)) (fault : Obstacle) → Halts (FirstOf half input before) input written fault
+    → Halts (FirstOf half input before) input written Writing
+halts_told half input before written Writing s = s
+halts_told half input before written TooManyLines s = first_told half input before written _ s
+halts_told half input before written fault s = first_told half input before written s.0 s.1
 
-machine_first : (input before : List ℕ) (written : Option (List ℕ)) (count : ℕ) → MachineAnsweredFirst input before count written
-    → Halts (MachineAnsweredFirst input before) input written Writing
-machine_first input before written count first =
-    elim first [
-      | inl (zero, e) ↦ whole (MachineAnsweredFirst input before) input written before count e (inl (zero, e))
-      | inr (left, a) ↦ whole (MachineAnsweredFirst input before) input written _ count a.prints (inr (left, a))
-    ]
+-- however a session ends, what is written is a front of the answers
+so_far : (half : Half) (input before : List ℕ) (written : Option (List ℕ)) (served : Result (Unit {0}) Stop) → ServesHalf half input before written served
+    → Halts (FirstOf half input before) input written Writing
+so_far Buffers input before written (Ok done) (count, names, a) = first_told Buffers input before written count (names, [], a)
+so_far Machine input before written (Ok done) (inl none) = first_told Machine input before written 0 (inl (refl, none.prints))
+so_far Machine input before written (Ok done) (inr (count, a)) = first_told Machine input before written count (inr ([], a))
+so_far Buffers input before written (Err (BadCommand number)) (count, next, (names, left, a), text) =
+    first_told Buffers input before written count (names, None ∷ left, a)
+so_far Machine input before written (Err (BadCommand number)) (count, next, inl (start, none), text) =
+    first_told Machine input before written count (inl (start, none.prints))
+so_far Machine input before written (Err (BadCommand number)) (count, next, inr (left, a), text) =
+    first_told Machine input before written count (inr (None ∷ left, a))
+so_far Buffers input before written (Err (CannotContinue fault)) s = halts_told Buffers input before written fault s
+so_far Machine input before written (Err (CannotContinue fault)) s = halts_told Machine input before written fault s
+so_far Buffers input before written (Err OtherWords) s = absurd s
+so_far Machine input before written (Err OtherWords) s = absurd s
 
--- a session with the machine has answered its first lines so far
-machine_so_far : (input before : List ℕ) (written : Option (List ℕ)) (served : Result (Unit {0}) Stop) → ServesMachine input before written served
-    → Halts (MachineAnsweredFirst input before) input written Writing
-machine_so_far input before written (Ok done) s =
-    elim s [
-      | inl none ↦ machine_first input before written 0 (inl (refl, none.prints))
-      | inr (count, a) ↦ machine_first input before written count (inr ([], a))
-    ]
-machine_so_far input before written (Err (BadCommand number)) s =
-    let (count, next, upto, text) = s in
-    elim upto [
-      | inl (zero, none) ↦ machine_first input before written count (inl (zero, none.prints))
-      | inr (left, a) ↦ machine_first input before written count (inr (None ∷ left, a))
-    ]
-machine_so_far input before written (Err (CannotContinue Reading)) s = let (count, first) = s in machine_first input before written count first
-machine_so_far input before written (Err (CannotContinue Writing)) s = s
-machine_so_far input before written (Err (CannotContinue Memory)) s = let (count, first) = s in machine_first input before written count first
-machine_so_far input before written (Err (CannotContinue NotText)) s = let (count, first, line, at, bad) = s in machine_first input before written count first
-machine_so_far input before written (Err (CannotContinue TooManyLines)) s = machine_first input before written _ s
-machine_so_far input before written (Err OtherWords) s = elim s [ ]
-
--- a property of known contents stays true
-stays : (P : Option (List ℕ) → Type 0) (bs : List ℕ) (written new : Option (List ℕ)) → written ≡ Some bs → Keeps written new → P written → P new
-stays P bs written new e keeps p = subst P (e ∙ sym (kept bs written new e keeps)) p
-
-sent_at : (half : Half) (input before : List ℕ) (written new : Option (List ℕ)) (served : Result (Unit {0}) Stop)
-    → ServesHalf half input before written served → Keeps written new → ServesHalf half input before new served
-sent_at Buffers input before written new served s keeps =
-    let (count, bytes, first, front) = buffers_so_far input before written served s in
-    stays (λ w. Serves input before w served) front.front written new front.written_is keeps s
-sent_at Machine input before written new served s keeps =
-    let (count, bytes, first, front) = machine_so_far input before written served s in
-    stays (λ w. ServesMachine input before w served) front.front written new front.written_is keeps s
-
-unsent_at : (half : Half) (input before : List ℕ) (written new : Option (List ℕ)) (served : Result (Unit {0}) Stop)
-    → ServesHalf half input before written served → Keeps written new → ServesHalf half input before new (Err (CannotContinue Writing))
-unsent_at Buffers input before written new served s keeps =
-    let halts = buffers_so_far input before written served s in
-    let (count, bytes, first, front) = halts in
-    stays (λ w. Serves input before w (Err (CannotContinue Writing))) front.front written new front.written_is keeps halts
-unsent_at Machine input before written new served s keeps =
-    let halts = machine_so_far input before written served s in
-    let (count, bytes, first, front) = halts in
-    stays (λ w. ServesMachine input before w (Err (CannotContinue Writing))) front.front written new front.written_is keeps halts
-
--- ---- where the bytes are known
-
--- a half that served its input still has if a flush keeps what is written
-pub sent : (half : Half) (read told written new : Option (List ℕ)) (served : Result (Unit {0}) Stop)
-    → IfSome read (λ input. IfSome told (λ before. ServesHalf half input before written served)) → Keeps written new
-    → IfSome read (λ input. IfSome told (λ before. ServesHalf half input before new served))
-sent half (Some input) (Some before) written new served s keeps = sent_at half input before written new served s keeps
-sent half (Some input) None written new served s keeps = tt
-sent half None told written new served s keeps = tt
+-- a half that could not write on
+not_sent : (half : Half) (input before : List ℕ) (written : Option (List ℕ)) → Halts (FirstOf half input before) input written Writing
+    → ServesHalf half input before written (Err (CannotContinue Writing))
+not_sent Buffers input before written halts = halts
+not_sent half input before written halts = halts
 
 -- a half that served its input up to where it stopped, and whose replies couldn't be sent off then, ends with what is written as it was, by a fault of writing
 pub unsent : (half : Half) (read told written new : Option (List ℕ)) (served : Result (Unit {0}) Stop)
     → IfSome read (λ input. IfSome told (λ before. ServesHalf half input before written served)) → Keeps written new
     → IfSome read (λ input. IfSome told (λ before. ServesHalf half input before new (Err (CannotContinue Writing))))
-unsent half (Some input) (Some before) written new served s keeps = unsent_at half input before written new served s keeps
-unsent half (Some input) None written new served s keeps = tt
-unsent half None told written new served s keeps = tt
+unsent half read told written new served s keeps =
+    where_known read told s (λ input before s.
+    let halts = so_far half input before written served s in
+    let (count, bytes, first, front) = halts in
+    not_sent half input before new
+    (stays (λ w. Halts (FirstOf half input before) input w Writing) front.front written new front.written_is keeps halts))
 
 -- nothing was read, for a failed allocation
 pub not_begun : (half : Half) (read told : Option (List ℕ))
     → IfSome read (λ input. IfSome told (λ before. ServesHalf half input before told (Err (CannotContinue Memory))))
 not_begun Buffers (Some input) (Some before) = (0, (replicate 16 Free, commands_of input, none_answered input before))
 not_begun Machine (Some input) (Some before) = (0, inl (refl, refl))
-not_begun half (Some input) None = tt
-not_begun half None told = tt
+not_begun half read told = tt

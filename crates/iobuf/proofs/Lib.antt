@@ -1,5 +1,7 @@
 pub mod Contents
 pub mod Endings
+pub mod Going
+pub mod Known
 pub mod LineLaws
 pub mod MachineLaws
 pub mod Sessions

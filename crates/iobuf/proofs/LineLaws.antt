@@ -1,23 +1,12 @@
 -- The lines of an input, taken one by one: the first, and those after it.
-use Rattle.std.proofs.Common.{◌≡◌, ℕ, ◌-◌, ◌<◌, Bool, true, false, cond, List, [], ◌∷◌, ◌++◌, take, length, length-append, get_or, suc, nat_lt, eqb, refl, sym, ap, subst, ◌∙◌, arith}
-use Rattle.std.proofs.Math.Seq.{take-append_seam}
-use Rattle.std.proofs.lemmas.Bool.Decides.{nat_tests}
-use Rattle.std.proofs.lemmas.List.Splits.{length-slice_split}
-use Rattle.std.specs.List.{slice_split, onto_first}
-use Rattle.std.specs.Str.Lines.{lines, lines_of_parts, strip_carriage_return}
-use Rattle.std.specs.Io.BufRead.{take_through, drop_through, ends_with_byte, strip_last, first_line}
+use Rattle.iobuf.proofs.Known.{refl, Bool, List, [], ap, arith, cond, eqb, false, get_or, length, length-append, nat_lt, suc, sym, take, true, ℕ, ◌++◌, ◌-◌, ◌<◌, ◌∙◌, ◌∷◌, ◌≡◌, eqb-suc-zero, take-append_seam, nat_tests, length-slice_split, drop_through, ends_with_byte, first_line, strip_last, take_through, onto_first, slice_split, lines, lines_of_parts, strip_carriage_return, eqb-true}
 
-one_less : (n : ℕ) → suc n - 1 ≡ n
-one_less n = omega arith
-
-positive : (n : ℕ) → nat_lt 0 (suc n) ≡ true
+-- a number that follows another is above 0
+pub positive : (n : ℕ) → nat_lt 0 (suc n) ≡ true
 positive n = grind (arith, nat_tests)
 
-not_zero : (n : ℕ) → eqb (suc n) 0 ≡ false
-not_zero n = grind (arith, nat_tests)
-
 ends_is : (b : ℕ) (bs : List ℕ) → ends_with_byte 10 (b ∷ bs) ≡ eqb (get_or (b ∷ bs) (length bs) 0) 10
-ends_is b bs = rw (positive (length bs)) (rw (one_less (length bs)) refl)
+ends_is b bs = let less : suc (length bs) - 1 ≡ length bs = omega arith in rw (positive (length bs), less)
 
 -- the parts of a text: the one before the first line break and those after it, or the whole
 data Parted (bs : List ℕ) : Type 0 where
@@ -30,9 +19,7 @@ ends_cons b [] e w = e
 ends_cons b (x ∷ xs) e w = ends_is b (x ∷ xs) ∙ (sym (ends_is x xs) ∙ w)
 
 parted_cons : (b : ℕ) (bs : List ℕ) (t : Bool) → eqb b 10 ≡ t → Parted bs → Parted (b ∷ bs)
-parted_cons b bs true e p =
-    let h : b ≡ 10 = grind (arith, nat_tests, e) in
-    subst (λ (x : ℕ). Parted (x ∷ bs)) (sym h) (Broken [] bs refl refl refl)
+parted_cons b bs true e p = rw (eqb-true b 10 e) (Broken [] bs refl refl refl)
 parted_cons b bs false e (Broken xs ys t d s) =
     Broken (b ∷ xs) ys (rw e (ap (λ l. b ∷ l) t)) (rw e d) (rw e (ap (onto_first b) s))
 parted_cons b bs false e (Whole t d s w) =
@@ -63,28 +50,19 @@ line_in t = cond (ends_with_byte 10 t) (strip_last 13 (strip_last 10 t)) (strip_
 line_in-broken : (xs : List ℕ) → line_in (xs ++ 10 ∷ []) ≡ strip_carriage_return xs
 line_in-broken xs = rw (ends_seam xs) (rw (take_seam xs) (strips xs))
 
-line_in-whole : (bs : List ℕ) → ends_with_byte 10 bs ≡ false → line_in bs ≡ bs
-line_in-whole bs w = rw w refl
-
 more_parts : (xs : List ℕ) (ps : List (List ℕ)) → 0 < length ps → lines_of_parts (xs ∷ ps) ≡ strip_carriage_return xs ∷ lines_of_parts ps
 more_parts xs [] some = absurd (omega arith)
 more_parts xs (y ∷ more) some = refl
 
 one_part : (bs : List ℕ) → 0 < length bs → lines_of_parts (bs ∷ []) ≡ bs ∷ []
 one_part [] some = absurd (omega arith)
-one_part (b ∷ bs) some = rw (not_zero (length bs)) refl
+one_part (b ∷ bs) some = rw (eqb-suc-zero (length bs)) refl
 
 lines_parted : (bs : List ℕ) → 0 < length bs → Parted bs → lines bs ≡ first_line bs ∷ lines (drop_through 10 bs)
 lines_parted bs some (Broken xs ys t d s) =
-    ap lines_of_parts s
-    ∙ more_parts xs (slice_split (λ b. eqb b 10) ys) (omega (arith, length-slice_split (λ b. eqb b 10) ys))
-    ∙ ap (λ l. l ∷ lines ys) (sym (ap line_in t ∙ line_in-broken xs))
-    ∙ ap (λ l. first_line bs ∷ lines l) (sym d)
-lines_parted bs some (Whole t d s w) =
-    ap lines_of_parts s
-    ∙ one_part bs some
-    ∙ ap (λ l. l ∷ []) (sym (ap line_in t ∙ line_in-whole bs w))
-    ∙ ap (λ l. first_line bs ∷ lines l) (sym d)
+    rw (s, t, d) (more_parts xs (slice_split (λ b. eqb b 10) ys) (omega (arith, length-slice_split (λ b. eqb b 10) ys))
+    ∙ ap (λ l. l ∷ lines ys) (sym (line_in-broken xs)))
+lines_parted bs some (Whole t d s w) = rw (s, t, d, w) (one_part bs some)
 
 -- the lines of an input that isn't empty are its first one and those after the first LF
 pub lines_step : (bs : List ℕ) → 0 < length bs → lines bs ≡ first_line bs ∷ lines (drop_through 10 bs)

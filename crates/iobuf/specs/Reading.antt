@@ -1,4 +1,4 @@
--- What a reader of lines has read last, and what it still has to read.
+-- The bytes that a reader of lines has read last, and those that it still has to read.
 --     left_after, input_left    the bytes after a prefix, and those after the line that was read last
 --     last_line, input_line     that line, which is left in the reader's buffer or copied
 use Rattle.std.specs.Prelude.{ℕ, nat_lt, if◌then◌else◌, List, take, drop, Option, option_map}

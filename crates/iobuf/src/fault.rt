@@ -1,7 +1,9 @@
 // Why a session ends before the end of its input.
-ghost use Rattle.std.specs.Prelude.{◌≡◌, OnOk};
+ghost use Rattle.std.specs.Prelude.{◌≡◌, OnOk, Some};
 ghost use Rattle.std.specs.Io.KnownBytes.{Appends};
-ghost use Rattle.iobuf.specs.Stops.{IsStatus, stop_status, stop_line};
+ghost use Rattle.iobuf.specs.Stops.{IsStatus, stop_status, stop_line, stop_text};
+ghost use Rattle.iobuf.specs.declared.fault.Obstacle.TheVariants.{Memory};
+ghost use Rattle.iobuf.specs.declared.fault.Stop.TheVariants.{CannotContinue};
 
 use iobufs_core::codec::BufError;
 use std::alloc::AllocError;
@@ -35,9 +37,6 @@ pub enum Stop {
 }
 
 impl From<AllocError> for Obstacle {
-    ghost use Rattle.std.specs.Prelude.{◌≡◌};
-    ghost use Rattle.iobuf.specs.declared.fault.Obstacle.TheVariants.{Memory};
-
     ghost from_gives = { λ _ fault. fault ≡ Memory };
 
     fn from(_error: AllocError) -> Obstacle {
@@ -46,9 +45,6 @@ impl From<AllocError> for Obstacle {
 }
 
 impl From<Obstacle> for Stop {
-    ghost use Rattle.std.specs.Prelude.{◌≡◌};
-    ghost use Rattle.iobuf.specs.declared.fault.Stop.TheVariants.{CannotContinue};
-
     ghost from_gives = { λ fault stop. stop ≡ CannotContinue fault };
 
     fn from(fault: Obstacle) -> Stop {
@@ -57,10 +53,6 @@ impl From<Obstacle> for Stop {
 }
 
 impl From<BufError> for Stop {
-    ghost use Rattle.std.specs.Prelude.{◌≡◌};
-    ghost use Rattle.iobuf.specs.declared.fault.Obstacle.TheVariants.{Memory};
-    ghost use Rattle.iobuf.specs.declared.fault.Stop.TheVariants.{CannotContinue};
-
     ghost from_gives = { λ _ stop. stop ≡ CannotContinue Memory };
 
     fn from(_error: BufError) -> Stop {
@@ -69,9 +61,6 @@ impl From<BufError> for Stop {
 }
 
 impl fmt::Display for Stop {
-    ghost use Rattle.std.specs.Prelude.{Some};
-    ghost use Rattle.iobuf.specs.Stops.{stop_text};
-
     ghost output = { λ stop. Some (stop_text stop) };
 
     fn fmt<W: fmt::Write>(&self, f: &mut fmt::Formatter<W>) -> fmt::Result {

@@ -1,20 +1,6 @@
 -- The buffer of a name, printed in place, is the line of a reply.
-use Rattle.std.proofs.Common.{◌≡◌, ℕ, suc, ◌+◌, ◌^◌, ◌<◌, ◌≤◌, List, [], ◌∷◌, ◌++◌, length, length-append, map, flat_map, take, take_all, codes, Some, None, OnOk, Ok, Err, Result, refl, sym, ap, ◌∙◌, arith, append_assoc, append-nil, Vec, Global}
-use Rattle.std.specs.Fmt.{decimal}
-use Rattle.std.specs.Prelude.{slice_get}
-use Rattle.std.proofs.lemmas.Grind.{flat_map-append}
-use Rattle.std.proofs.lemmas.List.{take_more}
-use Rattle.std.proofs.lemmas.Option.{slice_get_within, get_or_from_slice_get}
-use Rattle.iobufs_run.specs.Causes.{refusal_for}
-use Rattle.iobufs_run.specs.Slots.{kind_of, pieces_of, shown_piece, slot_named}
-use Rattle.iobufs_run.specs.declared.command.Cmd.TheVariants.{Show}
-use Rattle.iobufs_run.specs.declared.command.Kind.{Kind}
+use Rattle.iobuf_lines.proofs.Known.{◌≡◌, ℕ, ◌+◌, ◌^◌, ◌<◌, ◌≤◌, List, [], ◌∷◌, ◌++◌, length, length-append, map, flat_map, take, take_all, codes, Some, None, OnOk, Ok, Err, Result, refl, sym, ap, ◌∙◌, arith, append_assoc, Vec, Global, decimal, slice_get, take_more, slice_get_within, get_or_from_slice_get, refusal_for, kind_of, pieces_of, shown_piece, slot_named, Show, Kind, Piece, Shown, Slot, hex_text, two_digits, held_text, kind_text, piece_text, IsReplied, flat_map_more, length-map, flat_map-map}
 use Rattle.iobufs_run.specs.declared.command.Kind.TheVariants as kind
-use Rattle.iobufs_run.specs.declared.command.Piece.{Piece}
-use Rattle.iobufs_run.specs.declared.command.Reply.TheVariants.{Shown}
-use Rattle.iobufs_run.specs.declared.table.Slot.{Slot}
-use Rattle.iobuf_lines.specs.Spelled.{hex_text, two_digits}
-use Rattle.iobuf_lines.specs.Buffers.Printed.{held_text, kind_text, piece_text, IsReplied}
 
 -- ---- one after the other
 
@@ -25,19 +11,13 @@ held_more f xs i x before text more at so_far is =
     let within = slice_get_within xs i x (sym at) in
     let here = get_or_from_slice_get xs i x x (sym at) in
     let next : take (i + 1) xs ≡ take i xs ++ x ∷ [] = take_more xs i x within ∙ ap (λ y. take i xs ++ y ∷ []) here in
-    is ∙ ap (λ l. l ++ f x) so_far ∙ append_assoc before (flat_map f (take i xs)) (f x)
-    ∙ ap (λ l. before ++ (flat_map f (take i xs) ++ l)) (sym (append-nil (f x)))
-    ∙ ap (λ l. before ++ l) (sym (flat_map-append f (take i xs) (x ∷ [])) ∙ ap (flat_map f) (sym next))
-
-of_map : {X : Type 0} (f : List ℕ × ℕ → List ℕ) (h : X → List ℕ × ℕ) (xs : List X) → flat_map (λ x. f (h x)) xs ≡ flat_map f (map h xs)
-of_map f h [] = refl
-of_map f h (x ∷ xs) = ap (λ l. f (h x) ++ l) (of_map f h xs)
+    is ∙ ap (λ l. l ++ f x) so_far ∙ flat_map_more f before (take i xs) x ∙ ap (λ l. before ++ flat_map f l) (sym next)
 
 -- all are printed where none is left
 pub held_all : {X : Type 0} (f : List ℕ × ℕ → List ℕ) (h : X → List ℕ × ℕ) (xs : List X) (i : ℕ) (before text : List ℕ) → length xs ≤ i
     → text ≡ before ++ flat_map (λ x. f (h x)) (take i xs) → text ≡ before ++ flat_map f (map h xs)
 held_all f h xs i before text past so_far =
-    so_far ∙ ap (λ l. before ++ flat_map (λ x. f (h x)) l) (take_all i xs past) ∙ ap (λ l. before ++ l) (of_map f h xs)
+    so_far ∙ ap (λ l. before ++ flat_map (λ x. f (h x)) l) (take_all i xs past) ∙ ap (λ l. before ++ l) (sym (flat_map-map f h xs))
 
 -- ---- the reply
 
@@ -63,20 +43,9 @@ shown_back : (v : Vec ℕ Global) (held : List (List ℕ × ℕ)) (s : Short hel
 shown_back v [] s = refl
 shown_back v (piece ∷ pieces) s = ap (λ l. piece ∷ l) (shown_back v pieces s.1)
 
-one_same : (k : Kind) (piece : Piece) → piece_text k piece ≡ held_text k (shown_piece piece)
-one_same kind.Part piece = refl
-one_same kind.Parts piece = refl
-one_same kind.View piece = refl
-one_same kind.Text piece = refl
-
 all_same : (k : Kind) (pieces : List Piece) → flat_map (held_text k) (map shown_piece pieces) ≡ flat_map (piece_text k) pieces
-all_same k [] = refl
-all_same k (piece ∷ pieces) =
-    ap (λ l. l ++ flat_map (held_text k) (map shown_piece pieces)) (sym (one_same k piece)) ∙ ap (λ l. piece_text k piece ++ l) (all_same k pieces)
-
-as_many : (v : Vec ℕ Global) (held : List (List ℕ × ℕ)) (s : Short held) → length (pieces_from v held s) ≡ length held
-as_many v [] s = refl
-as_many v (piece ∷ pieces) s = ap suc (as_many v pieces s.1)
+all_same kind.Part pieces = flat_map-map (held_text kind.Part) shown_piece pieces
+all_same k pieces = flat_map-map (held_text k) shown_piece pieces
 
 digits_longer : (bytes : List ℕ) → length bytes ≤ length (flat_map two_digits bytes)
 digits_longer [] = omega arith
@@ -86,36 +55,21 @@ hex_longer : (bytes : List ℕ) → length bytes ≤ length (hex_text bytes)
 hex_longer [] = omega arith
 hex_longer (b ∷ bs) = digits_longer (b ∷ bs)
 
-with_room : (piece : List ℕ × ℕ) → length piece.0 < length (codes " " ++ hex_text piece.0 ++ codes "+" ++ decimal piece.1)
-with_room piece =
-    let h = hex_longer piece.0 in
-    let number = length-append (codes " " ++ hex_text piece.0 ++ codes "+") (decimal piece.1) in
-    let plus = length-append (codes " " ++ hex_text piece.0) (codes "+") in
-    omega (arith, h, number, plus)
-
-without : (piece : List ℕ × ℕ) → length piece.0 < length (codes " " ++ hex_text piece.0)
-without piece = let h = hex_longer piece.0 in omega (arith, h)
-
 held_longer : (k : Kind) (piece : List ℕ × ℕ) → length piece.0 < length (held_text k piece)
-held_longer kind.Part piece = with_room piece
-held_longer kind.Parts piece = with_room piece
-held_longer kind.View piece = without piece
-held_longer kind.Text piece = without piece
+held_longer kind.View piece = omega (arith, hex_longer piece.0)
+held_longer kind.Text piece = omega (arith, hex_longer piece.0)
+held_longer k piece =
+    let h = hex_longer piece.0 in
+    omega (arith, h, length-append (hex_text piece.0 ++ codes "+") (decimal piece.1), length-append (hex_text piece.0) (codes "+"))
 
-all_longer : (k : Kind) (held : List (List ℕ × ℕ)) → length held ≤ length (flat_map (held_text k) held)
-all_longer k [] = omega arith
-all_longer k (piece ∷ pieces) =
-    let more = all_longer k pieces in
+measured : (k : Kind) (held : List (List ℕ × ℕ)) → length (flat_map (held_text k) held) < 2 ^ 63
+    → Short held × (length held ≤ length (flat_map (held_text k) held))
+measured k [] low = (tt, omega arith)
+measured k (piece ∷ pieces) low =
     let one = held_longer k piece in
     let both = length-append (held_text k piece) (flat_map (held_text k) pieces) in
-    omega (arith, more, one, both)
-
-short_from : (k : Kind) (held : List (List ℕ × ℕ)) → length (flat_map (held_text k) held) < 2 ^ 63 → Short held
-short_from k [] low = tt
-short_from k (piece ∷ pieces) low =
-    let one = held_longer k piece in
-    let both = length-append (held_text k piece) (flat_map (held_text k) pieces) in
-    (omega (arith, one, both, low), short_from k pieces (omega (arith, both, low)))
+    let (short, more) = measured k pieces (omega (arith, both, low)) in
+    ((omega (arith, one, both, low), short), omega (arith, more, one, both))
 
 -- where no cause holds against `Show`, and after a text stands the kind of what is held, its pieces and an end of a line, the line of a reply
 -- is printed
@@ -127,10 +81,11 @@ is_printed names target k v before named all after causes is first pieces last l
     let held = pieces_of (slot_named names target) in
     let text = flat_map (held_text k) held in
     let few_bytes : length text < 2 ^ 63 = omega (arith, low, ap (λ (l : List ℕ). length l) pieces, length-append named text) in
-    let short = short_from k held few_bytes in
+    let (short, longer) = measured k held few_bytes in
     let shown = pieces_from v held short in
-    let few : length shown < 2 ^ 63 = omega (arith, few_bytes, as_many v held short, all_longer k held) in
     let back = shown_back v held short in
+    let as_many = sym (length-map shown shown_piece) ∙ ap (λ (l : List (List ℕ × ℕ)). length l) back in
+    let few : length shown < 2 ^ 63 = omega (arith, few_bytes, as_many, longer) in
     let same : text ≡ flat_map (piece_text k) shown = ap (flat_map (held_text k)) (sym back) ∙ all_same k shown in (
       Shown k (vec_of v shown few),
       (causes, ((is, back), refl)),

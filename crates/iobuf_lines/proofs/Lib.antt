@@ -1,6 +1,6 @@
 pub mod Front
 pub mod Held
-pub mod Hexes
+pub mod Known
 pub mod Many
 pub mod NextWord
 pub mod Numerals
@@ -9,4 +9,3 @@ pub mod Spelling
 pub mod StepSpelling
 pub mod Stepped
 pub mod WordLaws
-pub mod Written

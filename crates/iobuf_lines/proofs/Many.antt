@@ -1,7 +1,5 @@
 -- Any number of numbers, one by one.
-use Rattle.std.proofs.Common.{◌≡◌, ℕ, ◌<◌, List, [], ◌∷◌, ◌++◌, length, Option, None, Result, Ok, Err, IfErr, refl, arith}
-use Rattle.std.specs.Option.{option_map}
-use Rattle.iobuf_lines.specs.Words.{first_number, numbers_of}
+use Rattle.iobuf_lines.proofs.Known.{◌≡◌, ℕ, ◌<◌, List, [], ◌∷◌, ◌++◌, length, Option, None, Result, Ok, Err, IfErr, refl, arith, option_map, first_number, numbers_of}
 
 -- the numbers, of which those in `all` are read and those in `left` are not
 abbrev pub behind : List ℕ → Option (List ℕ) → Option (List ℕ)

@@ -1,23 +1,6 @@
 -- The line that asks something asks that.
-use Rattle.std.proofs.Common.{◌≡◌, ℕ, ◌^◌, ◌<◌, Bool, true, false, List, [], ◌∷◌, ◌++◌, map, Some, None, codes, refl, ap, ◌∙◌, arith}
-use Rattle.std.specs.Option.{option_map}
-use Rattle.std.proofs.lemmas.Bool.Decides.{nat_tests}
-use Rattle.std.proofs.lemmas.Slice.Eq.{bytes_eq-Decides}
-use Rattle.std.specs.Fmt.{decimal}
-use Rattle.std.specs.Str.{bytes_eq}
-use Rattle.iobufs_owner.specs.declared.owner.types.Act.{Act}
-use Rattle.iobufs_owner.specs.declared.owner.types.Act.TheVariants.{Begin, Go}
-use Rattle.iobufs_owner.specs.declared.owner.types.Call.{Call}
-use Rattle.iobufs_owner.specs.declared.owner.types.Call.TheVariants.{New, External, Static, Put, Advance, Freeze, TryIntoMut, SplitTo, IsUnique, Demote, Clone, Slice, Drop}
-use Rattle.iobuf_lines.specs.declared.owner.line.Ask.{Ask}
-use Rattle.iobuf_lines.specs.declared.owner.line.Ask.TheVariants.{Take, Look}
-use Rattle.iobuf_lines.specs.declared.owner.line.Question.TheVariants.{Handle, Record, Freed}
-use Rattle.iobuf_lines.specs.declared.owner.line.Setup.{Setup}
-use Rattle.iobuf_lines.specs.Owner.Said.{act_by, ask_by, ask_in, ask_of, call_of, grant_of, setup_by, setup_in, setup_of}
-use Rattle.iobuf_lines.specs.Owner.Spelled.{AskFits, FitsAct, FitsSetup, denial, first_word_of, line_of_ask, line_of_setup, numbers_in, other_words_of, call_verb, verb_of_act, words_behind}
-use Rattle.iobuf_lines.specs.Words.{number_of}
-use Rattle.iobuf_lines.specs.Spelled.{AreNumbers}
-use Rattle.iobuf_lines.proofs.WordLaws.{AreSpaceless, number_spelled, spaceless, spaceless_decimal, spaceless_numbers, words_joined}
+use Rattle.iobuf_lines.proofs.Known.{◌≡◌, ℕ, ◌^◌, ◌<◌, Bool, true, false, List, [], ◌∷◌, ◌++◌, map, Some, None, codes, refl, ap, ◌∙◌, arith, option_map, nat_tests, bytes_eq-Decides, decimal, bytes_eq, Act, Begin, Go, Call, New, External, Put, Advance, SplitTo, Slice, Ask, Take, Look, Handle, Record, Freed, Setup, act_by, ask_by, ask_in, ask_of, call_of, grant_of, setup_by, setup_in, setup_of, AskFits, FitsAct, FitsSetup, denial, first_word_of, line_of_ask, line_of_setup, numbers_in, other_words_of, call_verb, verb_of_act, words_behind, number_of, AreNumbers, if◌then◌else◌, width_of, false_from_ne_true}
+use Rattle.iobuf_lines.proofs.WordLaws.{AreSpaceless, Lacks, number_spelled, spaceless_decimal, spaceless_numbers, words_joined}
 
 -- ---- words without spaces
 
@@ -25,94 +8,50 @@ spaceless_joined : (ws vs : List (List ℕ)) → AreSpaceless ws → AreSpaceles
 spaceless_joined [] vs h k = k
 spaceless_joined (w ∷ ws) vs h k = (h.0, spaceless_joined ws vs h.1 k)
 
-spaceless_verb : (c : Call) → spaceless (call_verb c) ≡ true
-spaceless_verb (New base size align) = refl
-spaceless_verb (External base size) = refl
-spaceless_verb (Static len) = refl
-spaceless_verb (Put h n) = refl
-spaceless_verb (Advance h n) = refl
-spaceless_verb (Freeze h) = refl
-spaceless_verb (TryIntoMut h) = refl
-spaceless_verb (SplitTo h at) = refl
-spaceless_verb (IsUnique h) = refl
-spaceless_verb (Demote h) = refl
-spaceless_verb (Clone h) = refl
-spaceless_verb (Slice h lo hi) = refl
-spaceless_verb (Drop h) = refl
+-- the word of a call has no space, and isn't `go`
+verb_says : (c : Call) → Lacks 32 (call_verb c) × (bytes_eq (call_verb c) (codes "go") ≡ false)
+verb_says (New base size align) = (assumption)
+verb_says c = (assumption)
 
-spaceless_denial : (memory : Bool) → AreSpaceless (denial memory)
-spaceless_denial true = tt
-spaceless_denial false = (refl, tt)
+denial_says : (memory : Bool) → AreSpaceless (denial memory) × (grant_of (denial memory) ≡ Some memory)
+denial_says true = (assumption)
+denial_says false = (assumption)
 
 spaceless_act : (a : Act) → FitsAct a → AreSpaceless (verb_of_act a ∷ words_behind a)
-spaceless_act (Go memory) h = (refl, spaceless_denial memory)
+spaceless_act (Go memory) h = ((assumption), (denial_says memory).0)
 spaceless_act (Begin call memory) h =
-    (spaceless_verb call, spaceless_joined (map decimal (numbers_in call)) (denial memory) (spaceless_numbers (numbers_in call) h) (spaceless_denial memory))
+    ((verb_says call).0, spaceless_joined (map decimal (numbers_in call)) (denial memory) (spaceless_numbers (numbers_in call) h) (denial_says memory).0)
 
 spaceless_ask : (ask : Ask) → AskFits ask → AreSpaceless (first_word_of ask ∷ other_words_of ask)
 spaceless_ask (Take step) h = (spaceless_decimal step.party h.0, spaceless_act step.act h.1)
-spaceless_ask (Look (Handle n)) h = (refl, (spaceless_decimal n h, tt))
-spaceless_ask (Look (Record n)) h = (refl, (spaceless_decimal n h, tt))
-spaceless_ask (Look Freed) h = (refl, tt)
+spaceless_ask (Look (Handle n)) h = ((assumption), (spaceless_decimal n h, tt))
+spaceless_ask (Look (Record n)) h = ((assumption), (spaceless_decimal n h, tt))
+spaceless_ask (Look Freed) h = (assumption)
 
 -- ---- what words say
 
 call_says : (c : Call) (rest : List (List ℕ)) → AreNumbers (numbers_in c) → call_of (call_verb c) (map decimal (numbers_in c) ++ rest) ≡ Some (c, rest)
-call_says (New base size align) rest (b, (s, (a, none))) = rw (number_spelled base b) (rw (number_spelled size s) (rw (number_spelled align a) refl))
-call_says (External base size) rest (b, (s, none)) = rw (number_spelled base b) (rw (number_spelled size s) refl)
-call_says (Static len) rest h = rw (number_spelled len h.0) refl
-call_says (Put x n) rest (h, (k, none)) = rw (number_spelled x h) (rw (number_spelled n k) refl)
-call_says (Advance x n) rest (h, (k, none)) = rw (number_spelled x h) (rw (number_spelled n k) refl)
-call_says (Freeze x) rest h = rw (number_spelled x h.0) refl
-call_says (TryIntoMut x) rest h = rw (number_spelled x h.0) refl
-call_says (SplitTo x at) rest (h, (a, none)) = rw (number_spelled x h) (rw (number_spelled at a) refl)
-call_says (IsUnique x) rest h = rw (number_spelled x h.0) refl
-call_says (Demote x) rest h = rw (number_spelled x h.0) refl
-call_says (Clone x) rest h = rw (number_spelled x h.0) refl
-call_says (Slice x lo hi) rest (h, (l, (k, none))) = rw (number_spelled x h) (rw (number_spelled lo l) (rw (number_spelled hi k) refl))
-call_says (Drop x) rest h = rw (number_spelled x h.0) refl
-
--- no call is called `go`
-begins : (c : Call) → bytes_eq (call_verb c) (codes "go") ≡ false
-begins (New base size align) = refl
-begins (External base size) = refl
-begins (Static len) = refl
-begins (Put h n) = refl
-begins (Advance h n) = refl
-begins (Freeze h) = refl
-begins (TryIntoMut h) = refl
-begins (SplitTo h at) = refl
-begins (IsUnique h) = refl
-begins (Demote h) = refl
-begins (Clone h) = refl
-begins (Slice h lo hi) = refl
-begins (Drop h) = refl
-
-grant_says : (memory : Bool) → grant_of (denial memory) ≡ Some memory
-grant_says true = refl
-grant_says false = refl
+call_says (New base size align) rest (b, (s, (a, none))) = rw (number_spelled base b, number_spelled size s, number_spelled align a)
+call_says (Slice x lo hi) rest (h, (l, (k, none))) = rw (number_spelled x h, number_spelled lo l, number_spelled hi k)
+call_says (External base size) rest (b, (s, none)) = rw (number_spelled base b, number_spelled size s)
+call_says (Put x n) rest (h, (k, none)) = rw (number_spelled x h, number_spelled n k)
+call_says (Advance x n) rest (h, (k, none)) = rw (number_spelled x h, number_spelled n k)
+call_says (SplitTo x at) rest (h, (a, none)) = rw (number_spelled x h, number_spelled at a)
+call_says c rest h = rw (number_spelled _ h.0)
 
 act_says : (a : Act) → FitsAct a → act_by (verb_of_act a) (words_behind a) ≡ Some a
-act_says (Go memory) h = ap (option_map Go) (grant_says memory)
-act_says (Begin call memory) h = rw (begins call) (rw (call_says call (denial memory) h) (ap (option_map (Begin call)) (grant_says memory)))
+act_says (Go memory) h = ap (option_map Go) (denial_says memory).1
+act_says (Begin call memory) h = rw ((verb_says call).1, call_says call (denial memory) h) (ap (option_map (Begin call)) (denial_says memory).1)
 
--- a number is none of these words
-not_word : (n : ℕ) (word : List ℕ) (t : Bool) → n < 2 ^ 64 → number_of word ≡ None → bytes_eq (decimal n) word ≡ t → t ≡ false
-not_word n word false low none e = refl
-not_word n word true low none e =
-    let same = (bytes_eq-Decides (decimal n) word).0 e in
-    let some = number_spelled n low in
-    let none_of = ap number_of same ∙ none in
-    cc
-
+-- a number is no word that says none
 number_is_not : (n : ℕ) (word : List ℕ) → n < 2 ^ 64 → number_of word ≡ None → bytes_eq (decimal n) word ≡ false
-number_is_not n word low none = not_word n word (bytes_eq (decimal n) word) low none refl
+number_is_not n word low none =
+    false_from_ne_true _ (λ is. let same = ap number_of ((bytes_eq-Decides (decimal n) word).0 is) in cc (number_spelled n low, none, same))
 
 ask_says : (ask : Ask) → AskFits ask → ask_by (first_word_of ask) (other_words_of ask) ≡ Some ask
 ask_says (Take step) h =
-    rw (number_is_not step.party (codes "handle") h.0 refl)
-    (rw (number_is_not step.party (codes "record") h.0 refl) (rw (number_is_not step.party (codes "freed") h.0 refl)
-    (rw (number_spelled step.party h.0) (rw (act_says step.act h.1) refl))))
+    let no = λ (word : List ℕ) (none : number_of word ≡ None). number_is_not step.party word h.0 none in
+    rw (no (codes "handle") refl, no (codes "record") refl, no (codes "freed") refl, number_spelled step.party h.0, act_says step.act h.1)
 ask_says (Look (Handle n)) h = ap (option_map (λ n. Look (Handle n))) (number_spelled n h)
 ask_says (Look (Record n)) h = ap (option_map (λ n. Look (Record n))) (number_spelled n h)
 ask_says (Look Freed) h = refl
@@ -124,25 +63,20 @@ line_asks ask h = ap ask_in (words_joined (first_word_of ask) (other_words_of as
 -- ---- the first line
 
 fits_by : (setup : Setup) → FitsSetup setup → setup_by setup.parties setup.ceiling setup.is_wide ≡ Some setup
-fits_by setup h =
-    let few = h.few in
-    let some = h.some in
-    grind (arith, nat_tests, few, some)
+fits_by setup h = grind (arith, nat_tests, h.few, h.some)
 
-setup_says : (parties ceiling : ℕ) (is_wide : Bool) → FitsSetup (record { parties = parties; ceiling = ceiling; is_wide = is_wide })
-    → setup_of (line_of_setup (record { parties = parties; ceiling = ceiling; is_wide = is_wide }))
-    ≡ Some (record { parties = parties; ceiling = ceiling; is_wide = is_wide })
-setup_says parties ceiling true h =
-    let low : parties < 2 ^ 64 = omega (arith, h.few) in
-    ap setup_in (words_joined (codes "machine") (decimal parties ∷ decimal ceiling ∷ codes "64" ∷ [])
-    (refl, (spaceless_decimal parties low, (spaceless_decimal ceiling h.low, (refl, tt)))))
-    ∙ rw (number_spelled parties low) (rw (number_spelled ceiling h.low) (fits_by _ h))
-setup_says parties ceiling false h =
-    let low : parties < 2 ^ 64 = omega (arith, h.few) in
-    ap setup_in (words_joined (codes "machine") (decimal parties ∷ decimal ceiling ∷ codes "32" ∷ [])
-    (refl, (spaceless_decimal parties low, (spaceless_decimal ceiling h.low, (refl, tt)))))
-    ∙ rw (number_spelled parties low) (rw (number_spelled ceiling h.low) (fits_by _ h))
+abbrev width_word : Bool → List ℕ
+width_word is_wide = if is_wide then codes "64" else codes "32"
+
+width_says : (is_wide : Bool) → Lacks 32 (width_word is_wide) × (width_of (width_word is_wide ∷ []) ≡ Some is_wide)
+width_says true = (assumption)
+width_says false = (assumption)
 
 -- the line of a machine that fits asks for it
 pub line_asks_for : (setup : Setup) → FitsSetup setup → setup_of (line_of_setup setup) ≡ Some setup
-line_asks_for setup h = setup_says setup.parties setup.ceiling setup.is_wide h
+line_asks_for setup h =
+    let low : setup.parties < 2 ^ 64 = omega (arith, h.few) in
+    let (plain, width) = width_says setup.is_wide in
+    let words = words_joined (codes "machine") (decimal setup.parties ∷ decimal setup.ceiling ∷ width_word setup.is_wide ∷ [])
+    ((assumption), (spaceless_decimal setup.parties low, (spaceless_decimal setup.ceiling h.low, (plain, tt)))) in
+    ap setup_in words ∙ rw (number_spelled setup.parties low, number_spelled setup.ceiling h.low, width) (fits_by setup h)

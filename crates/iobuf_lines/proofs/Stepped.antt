@@ -1,14 +1,6 @@
 -- The steps among what is asked are a run of the machine.
-use Rattle.std.proofs.Common.{◌≡◌, inl, inr, ℕ, ◌+◌, ◌≤◌, length, arith, List, [], ◌∷◌, ◌++◌, map, refl, sym, ap, subst, Result, Ok, Err, OnOk, OnErr}
-use Rattle.std.specs.declared.alloc.AllocError.{AllocError}
+use Rattle.iobuf_lines.proofs.Known.{◌≡◌, inl, inr, ℕ, ◌+◌, ◌≤◌, length, arith, List, [], ◌∷◌, ◌++◌, map, refl, sym, ap, subst, Result, Ok, Err, OnOk, OnErr, AllocError, Promises, GrowingRuns, Seen, KeepsRoom, Ask, Take, Look, step_reply_text, AreAnswered, Answers, MakesRoom, answers_to_steps, steps_of}
 use Rattle.iobufs_owner.specs.declared.owner.types.Reply.{Reply}
-use Rattle.iobufs_owner.specs.Promises.{Promises}
-use Rattle.iobufs_owner.specs.Growing.{GrowingRuns}
-use Rattle.iobufs_owner.specs.State.{Seen, KeepsRoom}
-use Rattle.iobuf_lines.specs.declared.owner.line.Ask.{Ask}
-use Rattle.iobuf_lines.specs.declared.owner.line.Ask.TheVariants.{Take, Look}
-use Rattle.iobuf_lines.specs.Owner.Printed.{step_reply_text}
-use Rattle.iobuf_lines.specs.Owner.Session.{AreAnswered, Answers, MakesRoom, answers_to_steps, steps_of}
 
 -- room was made, or nothing has changed
 pub room_made : (m grown : Seen) (result : Result (Unit {0}) AllocError) → grown.state ≡ m.state → KeepsRoom m.room grown.room
@@ -31,8 +23,6 @@ pub record AreSteps (m : Seen) (asks : List Ask) (texts : List (List ℕ)) (next
 -- the steps among what is asked, questions left out, are a run of the machine in which tables may get more room, and its replies are the answers to them
 pub stepped : (m next : Seen) (asks : List Ask) (texts : List (List ℕ)) → AreAnswered m asks texts next → AreSteps m asks texts next
 stepped m next [] [] h = record { replies = []; runs = h; says = refl }
-stepped m next [] (text ∷ texts) h = elim h [ ]
-stepped m next (ask ∷ asks) [] h = elim h [ ]
 stepped m next (Take step ∷ asks) (text ∷ texts) (mid, (grown, reply, has, one, says), others) =
     let rest = stepped mid next asks texts others in
     record {
@@ -43,15 +33,15 @@ stepped m next (Take step ∷ asks) (text ∷ texts) (mid, (grown, reply, has, o
 stepped m next (Look question ∷ asks) (text ∷ texts) (mid, (same, says), others) =
     let rest = stepped mid next asks texts others in
     record { replies = rest.replies; runs = subst (λ (s : Seen). GrowingRuns s (steps_of asks) rest.replies next) same rest.runs; says = rest.says }
+stepped m next asks texts h = absurd h
 
 -- one more is answered
 pub answered_more : (m mid next : Seen) (asks : List Ask) (texts : List (List ℕ)) (ask : Ask) (text : List ℕ)
     → AreAnswered m asks texts mid → Answers mid ask text next → AreAnswered m (asks ++ ask ∷ []) (texts ++ text ∷ []) next
 answered_more m mid next [] [] ask text h a = (next, subst (λ (s : Seen). Answers s ask text next) h a, refl)
-answered_more m mid next [] (t ∷ texts) ask text h a = elim h [ ]
-answered_more m mid next (first ∷ asks) [] ask text h a = elim h [ ]
 answered_more m mid next (first ∷ asks) (t ∷ texts) ask text (between, one, others) a =
     (between, one, answered_more between mid next asks texts ask text others a)
+answered_more m mid next asks texts ask text h a = absurd h
 
 -- an answer keeps the promises of the machine
 pub promised_after : (m next : Seen) (ask : Ask) (text : List ℕ) → Answers m ask text next → Promises m.state → Promises next.state
@@ -61,6 +51,5 @@ promised_after m next (Look question) text (same, says) p = subst (λ (s : Seen)
 -- where what is asked was answered, what was promised of the machine before is promised of it after
 pub promised : (m next : Seen) (asks : List Ask) (texts : List (List ℕ)) → AreAnswered m asks texts next → Promises m.state → Promises next.state
 promised m next [] [] h p = subst (λ (s : Seen). Promises s.state) (sym h) p
-promised m next [] (text ∷ texts) h p = elim h [ ]
-promised m next (ask ∷ asks) [] h p = elim h [ ]
 promised m next (ask ∷ asks) (text ∷ texts) (mid, one, others) p = promised mid next asks texts others (promised_after m mid ask text one p)
+promised m next asks texts h p = absurd h

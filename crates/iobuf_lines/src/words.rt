@@ -3,6 +3,7 @@ ghost use Rattle.std.specs.Char.{digit_value};
 ghost use Rattle.std.specs.Prelude.{◌≡◌, ◌⊎◌, ℕ, ◌+◌, ◌*◌, ◌^◌, ◌<◌, ◌≤◌, List, [], ◌∷◌, length, MatchOption, Some, None, IfOk, IfErr};
 ghost use Rattle.iobuf_lines.specs.Reading.{words_left};
 ghost use Rattle.iobuf_lines.specs.Words.{byte_of, bytes_of, first_byte, first_bytes, first_number, number_of, numbers_of, words_of};
+ghost use Rattle.iobuf_lines.specs.declared.words.LineError.TheVariants.{Memory};
 
 use hex::FromHexError;
 use memchr::memchr;
@@ -19,9 +20,6 @@ pub enum LineError {
 }
 
 impl From<AllocError> for LineError {
-    ghost use Rattle.std.specs.Prelude.{◌≡◌};
-    ghost use Rattle.iobuf_lines.specs.declared.words.LineError.TheVariants.{Memory};
-
     ghost from_gives = { λ _ error. error ≡ Memory };
 
     fn from(_error: AllocError) -> LineError {
@@ -30,9 +28,6 @@ impl From<AllocError> for LineError {
 }
 
 impl<T: Drop> From<AllocFailed<T>> for LineError {
-    ghost use Rattle.std.specs.Prelude.{◌≡◌};
-    ghost use Rattle.iobuf_lines.specs.declared.words.LineError.TheVariants.{Memory};
-
     ghost from_gives = { λ _ error. error ≡ Memory };
 
     fn from(_error: AllocFailed<T>) -> LineError {

@@ -1,6 +1,9 @@
 // The commands, and what is answered to them.
 ghost use Rattle.std.specs.Fmt.{WritesOnOk};
-ghost use Rattle.iobufs_run.specs.Printed.{fault_text};
+ghost use Rattle.iobufs_run.specs.Printed.{fault_text, refusal_text};
+ghost use Rattle.iobufs_run.specs.Refusals.{refusal_of, codec_refusal};
+ghost use Rattle.iobufs_run.specs.declared.command.Refusal.TheVariants.{Memory};
+ghost use Rattle.std.specs.Prelude.{Some, ◌≡◌};
 
 use bytes::Bytes;
 use iobufs_core::codec::{BufError, Error, RangeCfg, Refused};
@@ -230,9 +233,6 @@ pub enum Refusal {
 pub(crate) type Outcome = Result<Reply, Refusal>;
 
 impl fmt::Display for Refusal {
-    ghost use Rattle.std.specs.Prelude.{Some};
-    ghost use Rattle.iobufs_run.specs.Printed.{refusal_text};
-
     ghost output = { λ refusal. Some (refusal_text refusal) };
 
     fn fmt<W: fmt::Write>(&self, f: &mut fmt::Formatter<W>) -> fmt::Result {
@@ -265,9 +265,6 @@ fn write_codec<W: fmt::Write>(error: Error, f: &mut fmt::Formatter<W>) -> fmt::R
 }
 
 impl From<AllocError> for Refusal {
-    ghost use Rattle.std.specs.Prelude.{◌≡◌};
-    ghost use Rattle.iobufs_run.specs.declared.command.Refusal.TheVariants.{Memory};
-
     ghost from_gives = { λ _ refusal. refusal ≡ Memory };
 
     fn from(_error: AllocError) -> Refusal {
@@ -276,9 +273,6 @@ impl From<AllocError> for Refusal {
 }
 
 impl From<BufError> for Refusal {
-    ghost use Rattle.std.specs.Prelude.{◌≡◌};
-    ghost use Rattle.iobufs_run.specs.Refusals.{refusal_of};
-
     ghost from_gives = { λ error refusal. refusal ≡ refusal_of error };
 
     fn from(error: BufError) -> Refusal {
@@ -291,9 +285,6 @@ impl From<BufError> for Refusal {
 }
 
 impl From<Error> for Refusal {
-    ghost use Rattle.std.specs.Prelude.{◌≡◌};
-    ghost use Rattle.iobufs_run.specs.Refusals.{codec_refusal};
-
     ghost from_gives = { λ error refusal. refusal ≡ codec_refusal error };
 
     fn from(error: Error) -> Refusal {
@@ -305,9 +296,6 @@ impl From<Error> for Refusal {
 }
 
 impl<T: Drop> From<Refused<T>> for Refusal {
-    ghost use Rattle.std.specs.Prelude.{◌≡◌};
-    ghost use Rattle.iobufs_run.specs.Refusals.{refusal_of};
-
     ghost from_gives = { λ refused refusal. refusal ≡ refusal_of refused.cause };
 
     fn from(refused: Refused<T>) -> Refusal {

@@ -1,6 +1,6 @@
 //! Answers of the owner machine as lines of text.
-ghost use Rattle.std.specs.Prelude.{◌≡◌};
-ghost use Rattle.iobuf_lines.specs.Owner.Printed.{step_refusal_text};
+ghost use Rattle.std.specs.Prelude.{◌≡◌, Some, flat_map};
+ghost use Rattle.iobuf_lines.specs.Owner.Printed.{step_refusal_text, step_reply_text, word_text, shown, given_text, record_text, block_text, number_text, freed_text, answer_text};
 
 use crate::owner::line::Question;
 use iobufs_owner::owner::{Freed, Handle, Kind, Machine, Record, Refusal, Reply, Word};
@@ -45,9 +45,6 @@ fn name(refusal: Refusal) -> &'static str
 }
 
 impl fmt::Display for ReplyLine {
-    ghost use Rattle.std.specs.Prelude.{Some};
-    ghost use Rattle.iobuf_lines.specs.Owner.Printed.{step_reply_text};
-
     ghost output = { λ l. Some (step_reply_text l.0) };
 
     fn fmt<W: fmt::Write>(&self, f: &mut fmt::Formatter<W>) -> fmt::Result {
@@ -67,9 +64,6 @@ impl fmt::Display for ReplyLine {
 struct Owned(Word);
 
 impl fmt::Display for Owned {
-    ghost use Rattle.std.specs.Prelude.{Some};
-    ghost use Rattle.iobuf_lines.specs.Owner.Printed.{word_text};
-
     ghost output = { λ o. Some (word_text o.0) };
 
     fn fmt<W: fmt::Write>(&self, f: &mut fmt::Formatter<W>) -> fmt::Result {
@@ -82,9 +76,6 @@ impl fmt::Display for Owned {
 }
 
 impl fmt::Display for HandleLine {
-    ghost use Rattle.std.specs.Prelude.{Some};
-    ghost use Rattle.iobuf_lines.specs.Owner.Printed.{shown, given_text};
-
     ghost output = { λ l. Some (shown given_text l.0) };
 
     fn fmt<W: fmt::Write>(&self, f: &mut fmt::Formatter<W>) -> fmt::Result {
@@ -103,9 +94,6 @@ impl fmt::Display for HandleLine {
 }
 
 impl fmt::Display for RecordLine {
-    ghost use Rattle.std.specs.Prelude.{Some};
-    ghost use Rattle.iobuf_lines.specs.Owner.Printed.{shown, record_text};
-
     ghost output = { λ l. Some (shown record_text l.0) };
 
     fn fmt<W: fmt::Write>(&self, f: &mut fmt::Formatter<W>) -> fmt::Result {
@@ -123,9 +111,6 @@ impl fmt::Display for RecordLine {
 struct Blocks<'a>(&'a [Freed]);
 
 impl fmt::Display for Blocks<'_> {
-    ghost use Rattle.std.specs.Prelude.{Some, flat_map};
-    ghost use Rattle.iobuf_lines.specs.Owner.Printed.{block_text};
-
     ghost output = { λ b. Some (flat_map block_text b.0.now) };
 
     fn fmt<W: fmt::Write>(&self, f: &mut fmt::Formatter<W>) -> fmt::Result {
@@ -142,9 +127,6 @@ impl fmt::Display for Blocks<'_> {
 struct Records<'a>(&'a [usize]);
 
 impl fmt::Display for Records<'_> {
-    ghost use Rattle.std.specs.Prelude.{Some, flat_map};
-    ghost use Rattle.iobuf_lines.specs.Owner.Printed.{number_text};
-
     ghost output = { λ r. Some (flat_map number_text r.0.now) };
 
     fn fmt<W: fmt::Write>(&self, f: &mut fmt::Formatter<W>) -> fmt::Result {
@@ -156,9 +138,6 @@ impl fmt::Display for Records<'_> {
 }
 
 impl fmt::Display for FreedLine<'_> {
-    ghost use Rattle.std.specs.Prelude.{Some};
-    ghost use Rattle.iobuf_lines.specs.Owner.Printed.{freed_text};
-
     ghost output = { λ l. Some (freed_text l.0.now.state) };
 
     fn fmt<W: fmt::Write>(&self, f: &mut fmt::Formatter<W>) -> fmt::Result {
@@ -169,9 +148,6 @@ impl fmt::Display for FreedLine<'_> {
 }
 
 impl fmt::Display for AnswerLine<'_> {
-    ghost use Rattle.std.specs.Prelude.{Some};
-    ghost use Rattle.iobuf_lines.specs.Owner.Printed.{answer_text};
-
     ghost output = { λ l. Some (answer_text l.0.now.state l.1) };
 
     fn fmt<W: fmt::Write>(&self, f: &mut fmt::Formatter<W>) -> fmt::Result {

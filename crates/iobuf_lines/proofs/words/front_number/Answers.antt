@@ -1,6 +1,5 @@
-use Rattle.std.proofs.Common.{◌≡◌, ◌<◌, ◌≤◌, ◌≢◌, ◌⊎◌, inl, inr, ℕ, length, get_or, refl, subst, arith}
-use Rattle.std.proofs.lemmas.Bool.Decides.{nat_tests}
-use Rattle.iobuf_lines.proofs.Front.{Shown, at_end, before_space, none_there, one_more}
+use Rattle.iobuf_lines.proofs.Known.{◌≡◌, ◌≤◌, ◌≢◌, ◌⊎◌, inl, inr, ℕ, get_or, refl, arith, nat_tests}
+use Rattle.iobuf_lines.proofs.Front.{at_end, before_space, none_there, one_more}
 use Rattle.iobuf_lines.proofs.words.front_number.Goals as goal
 
 pub returns-then-place-gt0-clause-ok : goal.returns-then-place-gt0-clause-ok
@@ -27,10 +26,6 @@ loop-place-preserved c =
 
 pub returns-clause-ok : goal.returns-clause-ok
 returns-clause-ok c =
-    let low = c.loop-place-test.false in
-    let high = c.loop-place.auto.place-end in
-    let all : c.loop-place.place ≡ length c.args.line.now = omega (arith, low, high) in
-    let full = c.if-is_empty.ensures in
-    let some : 0 < length c.args.line.now = grind (arith, nat_tests, full) in
-    let a = at_end c.args.line.now c.loop-place.n some (subst (λ (k : ℕ). Shown c.args.line.now k c.loop-place.n) all c.loop-place.invariant) in
+    let a = at_end c.args.line.now c.loop-place.place c.loop-place.n c.loop-place-test.false (grind (arith, nat_tests, c.if-is_empty.ensures))
+    c.loop-place.invariant in
     (c.args.line.now, a.is, a.says)

@@ -1,6 +1,5 @@
-use Rattle.std.proofs.Common.{◌≡◌, ◌<◌, ℕ, length, refl, subst, arith}
-use Rattle.std.proofs.lemmas.Bool.Decides.{nat_tests}
-use Rattle.iobuf_lines.proofs.Front.{Shown, at_end, none_said, one_more}
+use Rattle.iobuf_lines.proofs.Known.{refl, arith, nat_tests}
+use Rattle.iobuf_lines.proofs.Front.{at_end, none_said, one_more}
 use Rattle.iobuf_lines.proofs.words.number.Goals as goal
 
 pub returns-in_default-clause-err : goal.returns-in_default-clause-err
@@ -14,9 +13,5 @@ loop-place-preserved c =
 
 pub returns-clause-ok : goal.returns-clause-ok
 returns-clause-ok c =
-    let low = c.loop-place-test.false in
-    let high = c.loop-place.auto.place-end in
-    let all : c.loop-place.place ≡ length c.args.word.now = omega (arith, low, high) in
-    let full = c.if-is_empty.ensures in
-    let some : 0 < length c.args.word.now = grind (arith, nat_tests, full) in
-    (at_end c.args.word.now c.loop-place.value some (subst (λ (k : ℕ). Shown c.args.word.now k c.loop-place.value) all c.loop-place.invariant)).says
+    (at_end c.args.word.now c.loop-place.place c.loop-place.value c.loop-place-test.false (grind (arith, nat_tests, c.if-is_empty.ensures))
+    c.loop-place.invariant).says

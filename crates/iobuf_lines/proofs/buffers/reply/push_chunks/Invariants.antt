@@ -1,7 +1,5 @@
-use Rattle.std.proofs.Common.{◌≡◌, take, flat_map, ◌++◌, List, ℕ, string_bytes}
-use Rattle.iobufs_core.specs.MarkedText.{text_chunks}
+use Rattle.iobuf_lines.proofs.Known.{◌≡◌, take, flat_map, ◌++◌, List, ℕ, string_bytes, text_chunks, held_text}
 use Rattle.iobufs_run.specs.declared.command.Kind.TheVariants as kind
-use Rattle.iobuf_lines.specs.Buffers.Printed.{held_text}
 use Rattle.iobuf_lines.proofs.buffers.reply.push_chunks.Given as goal
 
 -- the chunks so far follow the text

@@ -1,8 +1,4 @@
-use Rattle.std.proofs.Common.{◌++◌, [], List, ℕ, flat_map, take, sym, ap, ◌∙◌, refl, arith, append_assoc, append-nil, take-append-drop, string_bytes}
-use Rattle.std.proofs.lemmas.Bool.Decides.{nat_tests}
-use Rattle.std.proofs.lemmas.Grind.{common_steps, flat_map-append}
-use Rattle.std.proofs.lemmas.List.{nil_from_length}
-use Rattle.iobuf_lines.specs.Spelled.{two_digits}
+use Rattle.iobuf_lines.proofs.Known.{◌++◌, [], List, ℕ, flat_map, sym, ap, ◌∙◌, refl, arith, append_assoc, append-nil, take-append-drop, string_bytes, nat_tests, common_steps, flat_map-append, nil_from_length, two_digits, ◌≡◌}
 use Rattle.iobuf_lines.proofs.buffers.reply.push_digits.Goals as goal
 
 pub loop-rest-init : goal.loop-rest-init
@@ -19,15 +15,11 @@ loop-rest-preserved c =
     let behind = c.split_at.result.1.now in
     let rest = c.loop-rest.rest.now in
     let n = c.min.result in
-    let text = string_bytes c.args.text.now in
-    let whole = ap (λ (xs : List ℕ). xs ++ behind) c.split_at.ensures.front ∙ ap (λ (ys : List ℕ). take n rest ++ ys) c.split_at.ensures.back
-    ∙ take-append-drop n rest in
+    let whole : few ++ behind ≡ rest = rw (c.split_at.ensures.front, c.split_at.ensures.back) (take-append-drop n rest) in
     record {
       shown = shown ++ few;
       whole = append_assoc shown few behind ∙ ap (λ (xs : List ℕ). shown ++ xs) whole ∙ inv.whole;
-      put = c.in_ok-push_few.ensures ∙ ap (λ (xs : List ℕ). xs ++ flat_map two_digits few) inv.put
-          ∙ append_assoc text (flat_map two_digits shown) (flat_map two_digits few)
-          ∙ ap (λ (xs : List ℕ). text ++ xs) (sym (flat_map-append two_digits shown few));
+      put = c.in_ok-push_few.ensures ∙ ap (λ (xs : List ℕ). xs ++ flat_map two_digits few) inv.put ∙ simp (flat_map-append, append_assoc);
     }
 
 pub returns : goal.returns

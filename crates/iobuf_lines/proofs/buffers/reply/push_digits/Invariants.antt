@@ -1,5 +1,4 @@
-use Rattle.std.proofs.Common.{◌≡◌, ◌++◌, List, ℕ, flat_map, length, string_bytes}
-use Rattle.iobuf_lines.specs.Spelled.{two_digits}
+use Rattle.iobuf_lines.proofs.Known.{◌≡◌, ◌++◌, List, ℕ, flat_map, length, string_bytes, two_digits}
 use Rattle.iobuf_lines.proofs.buffers.reply.push_digits.Given as goal
 
 -- the digits of the bytes before those that are left follow the text

@@ -1,7 +1,5 @@
-use Rattle.std.proofs.Common.{◌≡◌, take, flat_map, ◌++◌, string_bytes}
-use Rattle.iobufs_core.specs.Part.{Part}
+use Rattle.iobuf_lines.proofs.Known.{◌≡◌, take, flat_map, ◌++◌, string_bytes, Part, held_text}
 use Rattle.iobufs_run.specs.declared.command.Kind.TheVariants as kind
-use Rattle.iobuf_lines.specs.Buffers.Printed.{held_text}
 use Rattle.iobuf_lines.proofs.buffers.reply.push_parts.Given as goal
 
 -- the parts so far follow the text

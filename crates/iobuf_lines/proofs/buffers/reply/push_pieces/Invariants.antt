@@ -1,5 +1,4 @@
-use Rattle.std.proofs.Common.{◌≡◌, take, flat_map, ◌++◌, string_bytes}
-use Rattle.iobuf_lines.specs.Buffers.Printed.{piece_text}
+use Rattle.iobuf_lines.proofs.Known.{◌≡◌, take, flat_map, ◌++◌, string_bytes, piece_text}
 use Rattle.iobuf_lines.proofs.buffers.reply.push_pieces.Given as goal
 
 abbrev pub invariant-loop-piece : goal.invariant-loop-piece

@@ -1,9 +1,4 @@
-use Rattle.std.proofs.Common.{◌≡◌, ◌<◌, ◌^◌, ◌++◌, List, ℕ, Option, IfSome, flat_map, length, string_bytes, sym, ap, subst, ◌∙◌, arith}
-use Rattle.iobufs_run.specs.Slots.{kind_of, pieces_of}
-use Rattle.iobufs_run.specs.declared.command.Kind.{Kind}
-use Rattle.iobufs_run.specs.declared.command.Reply.TheVariants.{Refused}
-use Rattle.iobufs_run.specs.declared.table.Slot.{Slot}
-use Rattle.iobuf_lines.specs.Buffers.Printed.{held_text}
+use Rattle.iobuf_lines.proofs.Known.{◌<◌, ◌^◌, ◌++◌, List, ℕ, flat_map, length, string_bytes, sym, ap, ◌∙◌, arith, kind_of, pieces_of, Refused, Slot, held_text}
 use Rattle.iobuf_lines.proofs.Held.{is_printed, on_ok}
 use Rattle.iobuf_lines.proofs.buffers.reply.push_shown.Goals as goal
 
@@ -16,10 +11,8 @@ returns c =
     let is = ap kind_of (sym held) ∙ sym c.in-Some.ensures in
     let named = c.in_ok-push_str.ensures.bytes ∙ ap (λ (l : List ℕ). string_bytes c.args.text.now ++ l) c.name.ensures in
     let text = c.push_held.new.text.bytes in
-    let pieces = subst (λ (k : Option Kind). IfSome k (λ k. string_bytes c.push_held.new.text
-    ≡ string_bytes c.push_str.new.self ++ flat_map (held_text k) (pieces_of c.in-Ok.slot.now))) (sym c.in-Some.ensures) c.in_ok-push_held.ensures in
+    let pieces = rw (← c.in-Some.ensures) at c.in_ok-push_held.ensures in
     let all = pieces ∙ ap (λ (slot : Slot). string_bytes c.push_str.new.self ++ flat_map (held_text c.in-Some.kind) (pieces_of slot)) held in
     let low : length (string_bytes c.push_held.new.text) < 2 ^ 63 = omega (arith, text.ok.0, text.ok.1, text.small) in
-    on_ok c.push_end.result (λ last. is_printed c.args.table.now c.args.target c.in-Some.kind text (string_bytes c.args.text.now)
-    (string_bytes c.push_str.new.self) (string_bytes c.push_held.new.text) (string_bytes c.push_end.new.text) c.in-Ok.ensures.ok.0 is named all last low)
+    on_ok c.push_end.result (λ last. is_printed c.args.table.now c.args.target c.in-Some.kind text _ _ _ _ c.in-Ok.ensures.ok.0 is named all last low)
     c.push_end.ensures

@@ -1,7 +1,4 @@
-use Rattle.std.proofs.Common.{◌≡◌, ◌++◌, length, map}
-use Rattle.std.specs.Option.{option_map}
-use Rattle.iobuf_lines.specs.Buffers.Commands.{plain_item}
-use Rattle.iobuf_lines.specs.Buffers.Shapes.{items_of}
+use Rattle.iobuf_lines.proofs.Known.{◌≡◌, ◌++◌, length, map, option_map, plain_item, items_of}
 use Rattle.iobuf_lines.proofs.buffers.shapes.items.Given as goal
 
 -- the items of all words are the items so far, and then those of the remaining words

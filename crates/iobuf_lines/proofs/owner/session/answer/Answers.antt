@@ -1,8 +1,15 @@
-use Rattle.std.proofs.Common.{refl}
-use Rattle.iobuf_lines.specs.Owner.Printed.{answer_text, step_reply_text}
+use Rattle.iobuf_lines.proofs.Known.{refl, answer_text, step_reply_text, Err, IfSome, List, None, Ok, OnOk, Option, Result, Some, ap, ℕ, ◌++◌, ◌≡◌, Appends, Seen, Answers, with_line_end, Ask}
 use Rattle.iobuf_lines.proofs.Stepped.{room_made}
-use Rattle.iobuf_lines.proofs.Written.{written}
 use Rattle.iobuf_lines.proofs.owner.session.answer.Goals as goal
+
+-- where an answer was written without error, what is written is what was there before and the answer's line
+written : {X E : Type 0} (r : Result X E) (o new : Option (List ℕ)) (m next : Seen) (ask : Ask) (text : List ℕ)
+    → Answers m ask text next → OnOk r (Appends o new (with_line_end text))
+    → OnOk r (IfSome o (λ before. (text : List ℕ) × Answers m ask text next × (new ≡ Some (before ++ with_line_end text))))
+written (Ok x) (Some before) (Some after) m next ask text a h = (text, a, ap Some h)
+written (Ok x) (Some before) None m next ask text a h = elim h [ ]
+written (Ok x) None new m next ask text a h = tt
+written (Err e) o new m next ask text a h = tt
 
 pub returns-in-Take : goal.returns-in-Take
 returns-in-Take g c =

@@ -1,4 +1,4 @@
-use Rattle.std.proofs.Common.{◌<◌, List, ℕ, length, refl, subst, sym, ◌∙◌}
+use Rattle.iobuf_lines.proofs.Known.{◌<◌, List, ℕ, length, refl, subst, sym, ◌∙◌}
 use Rattle.iobuf_lines.proofs.NextWord.{some_left}
 use Rattle.iobuf_lines.proofs.words.Words.end.Goals as goal
 

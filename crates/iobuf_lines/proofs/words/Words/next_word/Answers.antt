@@ -1,5 +1,4 @@
-use Rattle.std.proofs.Common.{Some, None, sym, ap, ◌∙◌}
-use Rattle.iobuf_lines.specs.Reading.{words_left}
+use Rattle.iobuf_lines.proofs.Known.{Some, None, sym, ap, ◌∙◌, words_left}
 use Rattle.iobuf_lines.proofs.NextWord.{first_word}
 use Rattle.iobuf_lines.proofs.words.Words.next_word.Goals as goal
 

@@ -1,4 +1,4 @@
-use Rattle.std.proofs.Common.{◌<◌, inr, ℕ, List, length, ap, subst, sym, ◌∙◌}
+use Rattle.iobuf_lines.proofs.Known.{◌<◌, inr, ℕ, List, length, ap, subst, sym, ◌∙◌}
 use Rattle.iobuf_lines.proofs.Many.{behind, none_read, on_err}
 use Rattle.iobuf_lines.proofs.NextWord.{some_left}
 use Rattle.iobuf_lines.proofs.words.Words.numbers.Goals as goal

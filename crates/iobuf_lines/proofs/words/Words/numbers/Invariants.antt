@@ -1,5 +1,4 @@
-use Rattle.std.proofs.Common.{◌≡◌, length}
-use Rattle.iobuf_lines.specs.Words.{numbers_of}
+use Rattle.iobuf_lines.proofs.Known.{◌≡◌, length, numbers_of}
 use Rattle.iobuf_lines.proofs.Many.{behind}
 use Rattle.iobuf_lines.proofs.words.Words.numbers.Given as goal
 

@@ -1,6 +1,4 @@
-use Rattle.std.proofs.Common.{take, flat_map}
-use Rattle.std.specs.Fmt.{HasWritten, IsPlainFormatter}
-use Rattle.iobuf_lines.specs.Owner.Printed.{block_text}
+use Rattle.iobuf_lines.proofs.Known.{take, flat_map, HasWritten, IsPlainFormatter, block_text}
 use Rattle.iobuf_lines.proofs.owner.reply.BlocksDisplay.fmt.Given as goal
 
 abbrev pub invariant-loop-freed : goal.invariant-loop-freed
