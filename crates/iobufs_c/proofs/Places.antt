@@ -1,4 +1,4 @@
--- What the handles' proofs share: `get` lends the buffer at the place, and the place follows it; a handle may go to another
+-- Lemmas that the handles' proofs share: `get` lends the buffer at the place, and the place follows it; a handle may go to another
 -- thread, as its buffer may. The handles differ in the buffer's type V and in the record D of their fields.
 use Rattle.std.proofs.Common.{◌≡◌, ℕ, List, [], ◌∷◌, ◌++◌, refl, sym, subst, ◌∙◌}
 use seplogic.Ra.Ura.{Ura}

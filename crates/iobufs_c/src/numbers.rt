@@ -11,13 +11,13 @@ ghost use Rattle.iobufs_core.specs.Wire.{IsNumberRead};
 ghost use Rattle.iobufs_c.specs.Codes.{IsDoneUnless, code_of};
 ghost use Rattle.iobufs_c.specs.Rows.{building_or_empty, part_or_empty, parts_of};
 
-use crate::builder::BuilderAt;
-use crate::part::{PartAt, fits};
-use crate::parts::PartsAt;
+use crate::builder::{BuilderAt, iobufs_builder_put_slice};
+use crate::part::{PartAt, iobufmut_put_slice};
+use crate::parts::{PartsAt, iobufsmut_put_slice};
 use crate::status::Status;
 use crate::text::TextAt;
 use crate::view::ViewAt;
-use iobufs_core::codec::{BufMut, Read};
+use iobufs_core::codec::Read;
 use std::alloc::Global;
 
 /// Puts a number of two bytes into a buffer. `Status::OutOfRange` where it doesn't fit, and then nothing changes.
@@ -27,14 +27,7 @@ pub extern "C" fn iobufmut_put_u16(part: &mut PartAt, n: u16) -> u8
     ensures value { part.new.value ≡ (if result == 0 then option_map (λ part. part_put part (to_be_bytes w16 n)) part.old.value else part.old.value) }
     ensures result { result ≡ (if nat_le 2 (part_or_empty part.old.value).spare then 0 else code_of Status.OutOfRange) }
 {
-    let Some(part) = part.get() else {
-        return fits(2, 0);
-    };
-    if 2 > part.remaining_mut() {
-        return Status::OutOfRange.code();
-    }
-    part.put_u16(n);
-    Status::Done.code()
+    iobufmut_put_slice(part, &u16::to_be_bytes(n))
 }
 
 /// Puts a big-endian number of four bytes into an `IoBufMut`.
@@ -44,14 +37,7 @@ pub extern "C" fn iobufmut_put_u32(part: &mut PartAt, n: u32) -> u8
     ensures value { part.new.value ≡ (if result == 0 then option_map (λ part. part_put part (to_be_bytes w32 n)) part.old.value else part.old.value) }
     ensures result { result ≡ (if nat_le 4 (part_or_empty part.old.value).spare then 0 else code_of Status.OutOfRange) }
 {
-    let Some(part) = part.get() else {
-        return fits(4, 0);
-    };
-    if 4 > part.remaining_mut() {
-        return Status::OutOfRange.code();
-    }
-    part.put_u32(n);
-    Status::Done.code()
+    iobufmut_put_slice(part, &u32::to_be_bytes(n))
 }
 
 /// Puts a big-endian number of eight bytes into an `IoBufMut`.
@@ -61,14 +47,7 @@ pub extern "C" fn iobufmut_put_u64(part: &mut PartAt, n: u64) -> u8
     ensures value { part.new.value ≡ (if result == 0 then option_map (λ part. part_put part (to_be_bytes w64 n)) part.old.value else part.old.value) }
     ensures result { result ≡ (if nat_le 8 (part_or_empty part.old.value).spare then 0 else code_of Status.OutOfRange) }
 {
-    let Some(part) = part.get() else {
-        return fits(8, 0);
-    };
-    if 8 > part.remaining_mut() {
-        return Status::OutOfRange.code();
-    }
-    part.put_u64(n);
-    Status::Done.code()
+    iobufmut_put_slice(part, &u64::to_be_bytes(n))
 }
 
 /// Puts a big-endian number of two bytes into an `IoBufsMut`.
@@ -78,14 +57,7 @@ pub extern "C" fn iobufsmut_put_u16(parts: &mut PartsAt, n: u16) -> u8
     ensures value { parts.new.value ≡ (if result == 0 then option_map (λ parts. parts_fill parts (to_be_bytes w16 n)) parts.old.value else parts.old.value) }
     ensures result { result ≡ (if nat_le 2 (parts_spare (parts_of parts.old.value)) then 0 else code_of Status.OutOfRange) }
 {
-    let Some(parts) = parts.get() else {
-        return fits(2, 0);
-    };
-    if 2 > parts.remaining_mut() {
-        return Status::OutOfRange.code();
-    }
-    parts.put_u16(n);
-    Status::Done.code()
+    iobufsmut_put_slice(parts, &u16::to_be_bytes(n))
 }
 
 /// Puts a big-endian number of four bytes into an `IoBufsMut`.
@@ -95,14 +67,7 @@ pub extern "C" fn iobufsmut_put_u32(parts: &mut PartsAt, n: u32) -> u8
     ensures value { parts.new.value ≡ (if result == 0 then option_map (λ parts. parts_fill parts (to_be_bytes w32 n)) parts.old.value else parts.old.value) }
     ensures result { result ≡ (if nat_le 4 (parts_spare (parts_of parts.old.value)) then 0 else code_of Status.OutOfRange) }
 {
-    let Some(parts) = parts.get() else {
-        return fits(4, 0);
-    };
-    if 4 > parts.remaining_mut() {
-        return Status::OutOfRange.code();
-    }
-    parts.put_u32(n);
-    Status::Done.code()
+    iobufsmut_put_slice(parts, &u32::to_be_bytes(n))
 }
 
 /// Puts a big-endian number of eight bytes into an `IoBufsMut`.
@@ -112,14 +77,7 @@ pub extern "C" fn iobufsmut_put_u64(parts: &mut PartsAt, n: u64) -> u8
     ensures value { parts.new.value ≡ (if result == 0 then option_map (λ parts. parts_fill parts (to_be_bytes w64 n)) parts.old.value else parts.old.value) }
     ensures result { result ≡ (if nat_le 8 (parts_spare (parts_of parts.old.value)) then 0 else code_of Status.OutOfRange) }
 {
-    let Some(parts) = parts.get() else {
-        return fits(8, 0);
-    };
-    if 8 > parts.remaining_mut() {
-        return Status::OutOfRange.code();
-    }
-    parts.put_u64(n);
-    Status::Done.code()
+    iobufsmut_put_slice(parts, &u64::to_be_bytes(n))
 }
 
 /// Puts a big-endian number of two bytes into a builder.
@@ -129,14 +87,7 @@ pub extern "C" fn iobufs_builder_put_u16(builder: &mut BuilderAt, n: u16) -> u8
     ensures value { builder.new.value ≡ (if result == 0 then option_map (λ b. building_put b (to_be_bytes w16 n)) builder.old.value else builder.old.value) }
     ensures result { result ≡ (if nat_le 2 (building_room (building_or_empty builder.old.value)) then 0 else code_of Status.OutOfRange) }
 {
-    let Some(builder) = builder.get() else {
-        return fits(2, 0);
-    };
-    if 2 > builder.remaining_mut() {
-        return Status::OutOfRange.code();
-    }
-    builder.put_u16(n);
-    Status::Done.code()
+    iobufs_builder_put_slice(builder, &u16::to_be_bytes(n))
 }
 
 /// Puts a big-endian number of four bytes into a builder.
@@ -146,14 +97,7 @@ pub extern "C" fn iobufs_builder_put_u32(builder: &mut BuilderAt, n: u32) -> u8
     ensures value { builder.new.value ≡ (if result == 0 then option_map (λ b. building_put b (to_be_bytes w32 n)) builder.old.value else builder.old.value) }
     ensures result { result ≡ (if nat_le 4 (building_room (building_or_empty builder.old.value)) then 0 else code_of Status.OutOfRange) }
 {
-    let Some(builder) = builder.get() else {
-        return fits(4, 0);
-    };
-    if 4 > builder.remaining_mut() {
-        return Status::OutOfRange.code();
-    }
-    builder.put_u32(n);
-    Status::Done.code()
+    iobufs_builder_put_slice(builder, &u32::to_be_bytes(n))
 }
 
 /// Puts a big-endian number of eight bytes into a builder.
@@ -163,14 +107,7 @@ pub extern "C" fn iobufs_builder_put_u64(builder: &mut BuilderAt, n: u64) -> u8
     ensures value { builder.new.value ≡ (if result == 0 then option_map (λ b. building_put b (to_be_bytes w64 n)) builder.old.value else builder.old.value) }
     ensures result { result ≡ (if nat_le 8 (building_room (building_or_empty builder.old.value)) then 0 else code_of Status.OutOfRange) }
 {
-    let Some(builder) = builder.get() else {
-        return fits(8, 0);
-    };
-    if 8 > builder.remaining_mut() {
-        return Status::OutOfRange.code();
-    }
-    builder.put_u64(n);
-    Status::Done.code()
+    iobufs_builder_put_slice(builder, &u64::to_be_bytes(n))
 }
 
 /// Reads the number of one byte before a view, and drops it. `Status::EndOfBuffer` where there are fewer bytes, and then nothing
@@ -185,13 +122,11 @@ pub extern "C" fn iobuf_get_u8(alloc: Global, src: &mut ViewAt, out: &mut u8) ->
     ensures short { (result == 0) ≡ false → length src.old.value.bytes < 1 }
     ensures causes { IsDoneUnless result Status.EndOfBuffer }
 {
-    match u8::read_cfg(alloc, src.get(), &()) {
-        Ok(n) => {
-            *out = n;
-            Status::Done.code()
-        }
-        Err(_) => Status::EndOfBuffer.code(),
-    }
+    let Ok(n) = u8::read_cfg(alloc, src.get(), &()) else {
+        return Status::EndOfBuffer.code();
+    };
+    *out = n;
+    Status::Done.code()
 }
 
 /// Takes a big-endian number of two bytes from the front of a view.
@@ -205,13 +140,11 @@ pub extern "C" fn iobuf_get_u16(alloc: Global, src: &mut ViewAt, out: &mut u16) 
     ensures short { (result == 0) ≡ false → length src.old.value.bytes < 2 }
     ensures causes { IsDoneUnless result Status.EndOfBuffer }
 {
-    match u16::read_cfg(alloc, src.get(), &()) {
-        Ok(n) => {
-            *out = n;
-            Status::Done.code()
-        }
-        Err(_) => Status::EndOfBuffer.code(),
-    }
+    let Ok(n) = u16::read_cfg(alloc, src.get(), &()) else {
+        return Status::EndOfBuffer.code();
+    };
+    *out = n;
+    Status::Done.code()
 }
 
 /// Takes a big-endian number of four bytes from the front of a view.
@@ -225,13 +158,11 @@ pub extern "C" fn iobuf_get_u32(alloc: Global, src: &mut ViewAt, out: &mut u32) 
     ensures short { (result == 0) ≡ false → length src.old.value.bytes < 4 }
     ensures causes { IsDoneUnless result Status.EndOfBuffer }
 {
-    match u32::read_cfg(alloc, src.get(), &()) {
-        Ok(n) => {
-            *out = n;
-            Status::Done.code()
-        }
-        Err(_) => Status::EndOfBuffer.code(),
-    }
+    let Ok(n) = u32::read_cfg(alloc, src.get(), &()) else {
+        return Status::EndOfBuffer.code();
+    };
+    *out = n;
+    Status::Done.code()
 }
 
 /// Takes a big-endian number of eight bytes from the front of a view.
@@ -245,13 +176,11 @@ pub extern "C" fn iobuf_get_u64(alloc: Global, src: &mut ViewAt, out: &mut u64) 
     ensures short { (result == 0) ≡ false → length src.old.value.bytes < 8 }
     ensures causes { IsDoneUnless result Status.EndOfBuffer }
 {
-    match u64::read_cfg(alloc, src.get(), &()) {
-        Ok(n) => {
-            *out = n;
-            Status::Done.code()
-        }
-        Err(_) => Status::EndOfBuffer.code(),
-    }
+    let Ok(n) = u64::read_cfg(alloc, src.get(), &()) else {
+        return Status::EndOfBuffer.code();
+    };
+    *out = n;
+    Status::Done.code()
 }
 
 /// Takes a big-endian number of one byte from the front of an `IoBufs`.
@@ -265,13 +194,11 @@ pub extern "C" fn iobufs_get_u8(alloc: Global, text: &mut TextAt, out: &mut u8) 
     ensures short { (result == 0) ≡ false → length text.old.value.bytes < 1 }
     ensures causes { IsDoneUnless result Status.EndOfBuffer }
 {
-    match u8::read_cfg(alloc, text.get(), &()) {
-        Ok(n) => {
-            *out = n;
-            Status::Done.code()
-        }
-        Err(_) => Status::EndOfBuffer.code(),
-    }
+    let Ok(n) = u8::read_cfg(alloc, text.get(), &()) else {
+        return Status::EndOfBuffer.code();
+    };
+    *out = n;
+    Status::Done.code()
 }
 
 /// Takes a big-endian number of two bytes from the front of an `IoBufs`.
@@ -285,13 +212,11 @@ pub extern "C" fn iobufs_get_u16(alloc: Global, text: &mut TextAt, out: &mut u16
     ensures short { (result == 0) ≡ false → length text.old.value.bytes < 2 }
     ensures causes { IsDoneUnless result Status.EndOfBuffer }
 {
-    match u16::read_cfg(alloc, text.get(), &()) {
-        Ok(n) => {
-            *out = n;
-            Status::Done.code()
-        }
-        Err(_) => Status::EndOfBuffer.code(),
-    }
+    let Ok(n) = u16::read_cfg(alloc, text.get(), &()) else {
+        return Status::EndOfBuffer.code();
+    };
+    *out = n;
+    Status::Done.code()
 }
 
 /// Takes a big-endian number of four bytes from the front of an `IoBufs`.
@@ -305,13 +230,11 @@ pub extern "C" fn iobufs_get_u32(alloc: Global, text: &mut TextAt, out: &mut u32
     ensures short { (result == 0) ≡ false → length text.old.value.bytes < 4 }
     ensures causes { IsDoneUnless result Status.EndOfBuffer }
 {
-    match u32::read_cfg(alloc, text.get(), &()) {
-        Ok(n) => {
-            *out = n;
-            Status::Done.code()
-        }
-        Err(_) => Status::EndOfBuffer.code(),
-    }
+    let Ok(n) = u32::read_cfg(alloc, text.get(), &()) else {
+        return Status::EndOfBuffer.code();
+    };
+    *out = n;
+    Status::Done.code()
 }
 
 /// Takes a big-endian number of eight bytes from the front of an `IoBufs`.
@@ -325,11 +248,9 @@ pub extern "C" fn iobufs_get_u64(alloc: Global, text: &mut TextAt, out: &mut u64
     ensures short { (result == 0) ≡ false → length text.old.value.bytes < 8 }
     ensures causes { IsDoneUnless result Status.EndOfBuffer }
 {
-    match u64::read_cfg(alloc, text.get(), &()) {
-        Ok(n) => {
-            *out = n;
-            Status::Done.code()
-        }
-        Err(_) => Status::EndOfBuffer.code(),
-    }
+    let Ok(n) = u64::read_cfg(alloc, text.get(), &()) else {
+        return Status::EndOfBuffer.code();
+    };
+    *out = n;
+    Status::Done.code()
 }
