@@ -51,7 +51,7 @@ impl<T: Copy> From<std::ops::RangeFull> for RangeCfg<T> {
     }
 }
 
-/// What values are read from: `IoBuf` and `IoBufs`. A refusal changes nothing.
+/// A source of values: `IoBuf` and `IoBufs`. An error changes nothing.
 pub trait Source {
     /// How many bytes are left.
     fn remaining(&self) -> usize;
@@ -105,7 +105,7 @@ macro_rules! reads {
 
 reads! { IoBuf IoBufs }
 
-/// What values are written to: `IoBufMut`, `IoBufsMut` and `Builder`. A put panics where there is no room.
+/// A destination of values: `IoBufMut`, `IoBufsMut` and `Builder`. A put panics if it doesn't fit.
 pub trait Sink {
     /// How many bytes may still be put.
     fn remaining_mut(&self) -> usize;
@@ -165,7 +165,7 @@ macro_rules! writes {
 
 writes! { IoBufMut IoBufsMut Builder }
 
-/// What also takes whole views, with no copy: `Builder`.
+/// A destination that also takes whole views, with no copy: `Builder`.
 pub trait BufsMut: Sink {
     /// Puts a view behind what was put and pushed.
     fn push(&mut self, chunk: impl Into<IoBuf>);
@@ -193,7 +193,7 @@ pub trait Write {
     /// Puts it. Panics where there is no room.
     fn write(&self, buf: &mut impl Sink);
 
-    /// The same, with views pushed and not copied.
+    /// Puts it, with views pushed and not copied.
     fn write_bufs(&self, buf: &mut impl BufsMut) {
         self.write(buf)
     }
@@ -201,16 +201,16 @@ pub trait Write {
 
 /// A value that is read.
 pub trait Read: Sized {
-    /// What is asked of it.
+    /// The requirements on the value.
     type Cfg;
 
     /// Reads a value from the front. Where that is refused, the buffer is as it was.
     fn read_cfg(buf: &mut impl Source, cfg: &Self::Cfg) -> Result<Self, Error>;
 }
 
-/// What a whole value is decoded from: a buffer to write is frozen first.
+/// A source of one whole value: a buffer to write is frozen first.
 pub trait Input: Into<Self::Buf> {
-    /// What is read.
+    /// The source that it becomes.
     type Buf: Source;
 }
 

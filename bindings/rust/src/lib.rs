@@ -153,7 +153,7 @@ fn allocated(status: u8, bytes: usize, message: &str) {
     }
 }
 
-/// What a call made, unless its status says that it failed to allocate `bytes` bytes.
+/// Returns what a call made, unless its status says that it failed to allocate `bytes` bytes.
 fn tried<T>(status: u8, bytes: usize, made: T) -> Result<T, AllocError> {
     match status {
         sys::OK => Ok(made),
@@ -199,7 +199,7 @@ fn bounds(range: impl RangeBounds<usize>, len: usize) -> (usize, usize) {
     (lo, hi)
 }
 
-/// What reading a length, a view or a frame answers; `length` tells one that is outside the range.
+/// The result of reading a length, a view or a frame; `length` is one that is outside the range.
 fn read(status: u8, length: impl FnOnce() -> usize) -> Result<(), Error> {
     match status {
         sys::OK => Ok(()),

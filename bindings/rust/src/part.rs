@@ -34,7 +34,7 @@ impl IoBufMut {
         Self::with_alignment(capacity, NonZeroUsize::MIN)
     }
 
-    /// The same, for a caller who asks for an alignment. Addresses are not promised.
+    /// As above, for a caller who asks for an alignment. Addresses are not promised.
     #[track_caller]
     pub fn with_alignment(capacity: usize, alignment: NonZeroUsize) -> Self {
         let out = Self::none();
@@ -53,7 +53,7 @@ impl IoBufMut {
         Self::zeroed_with_alignment(len, NonZeroUsize::MIN)
     }
 
-    /// The same, for a caller who asks for an alignment. Addresses are not promised.
+    /// As above, for a caller who asks for an alignment. Addresses are not promised.
     #[track_caller]
     pub fn zeroed_with_alignment(len: usize, alignment: NonZeroUsize) -> Self {
         let out = Self::none();

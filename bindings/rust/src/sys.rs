@@ -101,7 +101,7 @@ type Parts = At<PARTS>;
 type Builder = At<BUILDER>;
 type Frames = At<FRAMES>;
 type Room<const N: usize> = *mut [MaybeUninit<u64>; N];
-/// What makes an empty buffer of memory.
+/// A call that makes an empty buffer of memory.
 pub type Init<const N: usize> = unsafe extern "C" fn(Room<N>);
 
 unsafe extern "C" {

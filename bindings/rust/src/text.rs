@@ -274,7 +274,7 @@ impl IoBufs {
         out
     }
 
-    /// The same, by the name that the original has for an answer of `Bytes`.
+    /// `take_owned`, by the name that the original has for a result of `Bytes`.
     #[track_caller]
     pub fn copy_to_bytes(&mut self, n: usize) -> IoBuf {
         assert!(n <= self.len(), "copy_to_bytes out of bounds");
@@ -392,7 +392,7 @@ impl Ord for IoBufs {
     }
 }
 
-/// The same for every chunking, so it takes the bytes one by one.
+/// One hash for every chunking, so it takes the bytes one by one.
 impl Hash for IoBufs {
     fn hash<H: Hasher>(&self, state: &mut H) {
         state.write_usize(self.len());

@@ -95,7 +95,7 @@ impl IoBuf {
         IoBuf(self.0.part(|view, out| done(split(view, out), "split_to out of bounds")))
     }
 
-    /// The same bytes as a buffer to write, with the room behind them, if no other view shares their storage. A `Vec` that no
+    /// Recovers the bytes as a buffer to write, with the spare capacity after them, if no other view shares their storage. A `Vec` that no
     /// other buffer keeps is copied, with its room. Other owners' bytes are not recovered.
     #[inline]
     pub fn try_into_mut(mut self) -> Result<IoBufMut, Self> {
@@ -173,7 +173,7 @@ impl IoBuf {
         IoBuf(self.0.part(|view, out| done(take(view, out), "take_owned out of bounds")))
     }
 
-    /// The same, by the name that the original has for an answer of `Bytes`.
+    /// `take_owned`, by the name that the original has for a result of `Bytes`.
     #[track_caller]
     pub fn copy_to_bytes(&mut self, n: usize) -> IoBuf {
         assert!(n <= self.len(), "copy_to_bytes out of bounds");

@@ -258,6 +258,75 @@ fn frames() {
     assert_eq!(frames.len(), 1);
 }
 
+// A name, the prefix, the greatest length, the chunks that are fed, the bodies with `|` after each and then the rest, and
+// why there is no further frame, if more bytes can't make one.
+type Fed = (&'static str, Prefix, usize, &'static [&'static [u8]], &'static [u8], Option<Error>);
+
+const FED: [Fed; 14] = [
+    ("no chunk", Prefix::Varint, 1024, &[], b"", None),
+    ("two empty frames", Prefix::Varint, 1024, &[b"\0\0"], b"||", None),
+    ("frames across chunks, and then no length", Prefix::Varint, 1024, &[b"\x02", b"ab\x03", b"c", b"de\x84", b"\x00"], b"ab|cde|\x84\x00", Some(Error::InvalidVarint)),
+    ("the same in one chunk", Prefix::Varint, 1024, &[b"\x02ab\x03cde\x84\x00"], b"ab|cde|\x84\x00", Some(Error::InvalidVarint)),
+    ("a length outside the range", Prefix::Varint, 2, &[b"\x02ab\x03cde\x84\x00"], b"ab|\x03cde\x84\x00", Some(Error::InvalidLength(3))),
+    ("a length that goes on", Prefix::Varint, 1024, &[b"\x02a", b"b\x84"], b"ab|\x84", None),
+    ("an open frame", Prefix::Varint, 1024, &[b"\x01a\x02b"], b"a|\x02b", None),
+    ("an open frame that becomes whole", Prefix::Varint, 1024, &[b"\x01a\x02b", b"c"], b"a|bc|", None),
+    ("a u16 outside the range after a frame", Prefix::U16Be, 2, &[b"\0\x02a", b"b\0\x03", b"cde"], b"ab|\0\x03cde", Some(Error::InvalidLength(3))),
+    ("an open u32 after a frame", Prefix::U32Le, 1024, &[b"\x01\0\0\0a\x01\0", b"\0"], b"a|\x01\0\0", None),
+    ("a u16 outside the range after an empty frame", Prefix::U16Be, 2, &[b"\0\0\x02\x01", b"aaa"], b"|\x02\x01aaa", Some(Error::InvalidLength(513))),
+    ("a u16 outside the range, big", Prefix::U16Be, 2, &[b"\x01\x02ab"], b"\x01\x02ab", Some(Error::InvalidLength(258))),
+    ("a u16 outside the range, little", Prefix::U16Le, 2, &[b"\x01\x02ab"], b"\x01\x02ab", Some(Error::InvalidLength(513))),
+    ("an open u16", Prefix::U16Be, 1024, &[b"\x01\x02ab"], b"\x01\x02ab", None),
+];
+
+// Takes each frame as soon as it is whole, and compares the bodies, the number of bytes that are left, and the end.
+fn assert_fed(case: Fed, chunks: &[&[u8]]) {
+    let (name, prefix, most, _, wanted, end) = case;
+    let (mut frames, mut found, mut stop) = (Frames::new(prefix), Vec::new(), None);
+    for chunk in chunks {
+        frames.feed(IoBuf::copy_from_slice(chunk));
+        stop = loop {
+            match frames.next(..=most) {
+                Ok(Some(body)) => found.extend_from_slice(&[body.as_ref(), b"|"].concat()),
+                Ok(None) => break None,
+                Err(error) => break Some(error),
+            }
+        };
+    }
+    let (bodies, rest) = wanted.split_at(wanted.len() - frames.len());
+    assert_eq!((&found[..], stop), (bodies, end), "{name}: {chunks:?}");
+    assert!(!rest.contains(&b'|'), "{name}: {chunks:?}");
+}
+
+#[test]
+fn frames_of_chunks() {
+    for case in FED {
+        assert_fed(case, case.3);
+    }
+}
+
+#[test]
+fn frames_cut_in_every_way() {
+    let cases: [Fed; 8] = [
+        ("frames, and then no length", Prefix::Varint, 1024, &[b"\x02ab\x03cde\x84\x00"], b"ab|cde|\x84\x00", Some(Error::InvalidVarint)),
+        ("varints", Prefix::Varint, 1024, &[b"\x02ab\x03cde"], b"ab|cde|", None),
+        ("u16, big", Prefix::U16Be, 1024, &[b"\0\x02ab\0\x03cde"], b"ab|cde|", None),
+        ("u16, little", Prefix::U16Le, 1024, &[b"\x02\0ab\x03\0cde"], b"ab|cde|", None),
+        ("u32, big", Prefix::U32Be, 1024, &[b"\0\0\0\x02ab\0\0\0\x03cde"], b"ab|cde|", None),
+        ("u32, little", Prefix::U32Le, 1024, &[b"\x02\0\0\0ab\x03\0\0\0cde"], b"ab|cde|", None),
+        ("u64, big", Prefix::U64Be, 1024, &[b"\0\0\0\0\0\0\0\x02ab\0\0\0\0\0\0\0\x03cde"], b"ab|cde|", None),
+        ("u64, little", Prefix::U64Le, 1024, &[b"\x02\0\0\0\0\0\0\0ab\x03\0\0\0\0\0\0\0cde"], b"ab|cde|", None),
+    ];
+    for case in cases {
+        let bytes = case.3[0];
+        for first in 0..=bytes.len() {
+            for second in first..=bytes.len() {
+                assert_fed(case, &[&bytes[..first], &bytes[first..second], &bytes[second..]]);
+            }
+        }
+    }
+}
+
 #[test]
 fn readers_and_writers() -> io::Result<()> {
     let mut part = IoBufMut::with_capacity(8);
@@ -347,7 +416,7 @@ impl Write for Narrow {
     }
 }
 
-// What comes out of a reader: bodies with `|` after each, and how it ends.
+// Reads all frames: the bodies with `|` after each, and how the reader ends.
 fn read_frames(bytes: &[u8], most: usize) -> (Vec<u8>, String) {
     let (mut from, mut bodies) = (FrameReader::new(Narrow::new(bytes, most), 0..=8), Vec::new());
     loop {

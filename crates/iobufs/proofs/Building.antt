@@ -3,3 +3,7 @@ pub mod AddLaws
 pub mod BuildLaws
 pub mod FinishLaws
 pub mod GapLaws
+pub use AddLaws.*
+pub use BuildLaws.*
+pub use FinishLaws.*
+pub use GapLaws.*

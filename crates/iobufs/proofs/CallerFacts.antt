@@ -12,27 +12,8 @@
 --     stored_done,              emptied buffers are full again or their reader is at its end; they hold nothing if
 --     stored_none, room_less    they can't; n bytes take n of the spare capacity
 --     the rest                  what the rulesets cite
-use Rattle.std.specs.Prelude.{◌≡◌, ◌⊎◌, ℕ, ◌+◌, ◌-◌, ◌≤◌, min, Option, None, Some, Result, Ok, Err, List, [], ◌∷◌, ◌++◌, length, take, drop, map, refl}
-use Rattle.std.specs.List.{flat_map}
-use Rattle.std.specs.Io.{WritesAtMost}
-use Rattle.std.specs.Io.KnownBytes.{Appends, Consumes, Keeps, WriteAppends}
-use Rattle.std.proofs.KnownBytes.{Appends-trans, Consumes-trans, Keeps-refl}
-use Rattle.std.proofs.Common.{arith, inl, inr, ap, sym, subst, ◌∙◌, append-nil, append_assoc, length-append, length-take, length-drop, take-append-drop}
-use Rattle.std.proofs.lemmas.Bool.Decides.{nat_tests}
-use Rattle.std.proofs.lemmas.Grind.{common_steps, flat_map-append}
-use Rattle.std.proofs.lemmas.List.{nil_from_length, take-append-le}
-use Rattle.std.proofs.lemmas.List.Folds.{flat_map-map}
-use Rattle.std.proofs.lemmas.List.Sums.{sum_by-cons}
-use Rattle.iobufs_core.proofs.CallerFacts.{bytes-part_frozen}
-use Rattle.iobufs_core.specs.ReadBytes.{bytes-advanced, bytes-rest}
-use Rattle.iobufs_core.specs.MarkedText.{MarkedText, text_advanced, text_chunks}
-use Rattle.iobufs_core.specs.Part.{Part, part_capacity, part_frozen, part_with_len}
-use Rattle.iobufs_core.specs.View.{View}
-use Rattle.iobufs.specs.Laws.Filling.{AreFilled, filled_composes, filled_lessens, filled_nothing}
+use Rattle.iobufs.proofs.Text.{Appends, Appends-trans, AreFilled, Consumes, Consumes-trans, Err, IsSent, IsStored, Keeps, Keeps-refl, List, MarkedText, None, Ok, Option, Part, Result, Some, View, WriteAppends, WritesAtMost, [], ap, append-nil, append_assoc, arith, bytes-advanced, bytes-part_frozen, bytes-rest, common_steps, drop, filled_composes, filled_lessens, filled_nothing, flat_map, flat_map-append, flat_map-map, inl, inr, joined-chunks, length, length-append, length-drop, length-take, map, min, nat_tests, nil_from_length, part_capacity, part_frozen, part_with_len, parts_capacity, parts_fill, parts_filled, parts_frozen, parts_spare, parts_with_len, refl, subst, sum_by-cons, sym, take, take-append-drop, take-append-le, text_advanced, text_chunks, ℕ, ◌++◌, ◌+◌, ◌-◌, ◌∙◌, ◌∷◌, ◌≡◌, ◌≤◌, ◌⊎◌}
 use Rattle.iobufs.proofs.Joined.{bytes-append, bytes-joined}
-use Rattle.iobufs.specs.Sending.{IsSent, IsStored}
-use Rattle.iobufs.specs.Parts.{parts_capacity, parts_fill, parts_filled, parts_frozen, parts_spare, parts_with_len}
-use Rattle.iobufs.specs.Laws.Reading.{joined-chunks}
 
 -- ---- sending
 
@@ -65,8 +46,7 @@ sent_front held holds text rest n h is = record { front = take n text; whole = s
 -- where as many bytes are left, nothing did
 pub sent_none : (held holds : Option (List ℕ)) (text rest : List ℕ) → IsSent held holds text rest → length rest ≡ length text → rest ≡ text
 sent_none held holds text rest is same =
-    let none : is.front ≡ [] = nil_from_length is.front (omega (arith, same, ap (λ (w : List ℕ). length w) is.whole, length-append is.front rest)) in
-    sym (is.whole ∙ ap (λ w. w ++ rest) none)
+    sym (is.whole ∙ ap (λ w. w ++ rest) (nil_from_length is.front (omega (arith, same, ap (λ (w : List ℕ). length w) is.whole, length-append is.front rest))))
 
 -- all of a text that went off follows what the writer held
 pub sent_all : (held holds : Option (List ℕ)) (text rest : List ℕ) → IsSent held holds text rest → rest ≡ [] → Appends held holds text
@@ -155,8 +135,7 @@ filled-empty (part ∷ parts) bytes none fits =
     let (here, behind) = first_empty part parts none in
     let sum = sum_by-cons (λ (p : Part). p.spare) part parts in
     let more = filled-empty parts (drop part.spare bytes) behind (omega (arith, fits, sum, length-drop part.spare bytes)) in
-    ap (λ w. (w ++ take part.spare bytes) ++ parts_filled (parts_fill parts (drop part.spare bytes))) here
-    ∙ ap (λ w. take part.spare bytes ++ w) more ∙ take-append-drop part.spare bytes
+    cc (take-append-drop part.spare bytes)
 
 -- all bytes that a reader gave into empty parts
 pub stored_bytes : (had has : Option (List ℕ)) (old new : List Part) → parts_filled old ≡ [] → IsStored had has old new → Consumes had has (parts_filled new)
@@ -192,8 +171,7 @@ emptied-spare parts = (emptied_upto parts 0 refl).1
 -- the bytes of a text of parts
 frozen-parts : (parts : List Part) → flat_map (λ (v : View). v.bytes) (map part_frozen parts) ≡ parts_filled parts
 frozen-parts [] = refl
-frozen-parts (part ∷ parts) = ap (λ w. w ++ flat_map (λ (v : View). v.bytes) (map part_frozen parts)) (bytes-part_frozen part)
-    ∙ ap (λ w. part.filled ++ w) (frozen-parts parts)
+frozen-parts (part ∷ parts) = cc (bytes-part_frozen part, frozen-parts parts)
 
 pub bytes-parts_frozen : (parts : List Part) → (parts_frozen parts).bytes ≡ parts_filled parts
 bytes-parts_frozen parts = bytes-joined (map part_frozen parts) ∙ frozen-parts parts
@@ -212,8 +190,7 @@ pub stored_done : {P : Type 0} (had has : Option (List ℕ)) (parts old new : Li
     → (parts_spare new ≡ 0) ⊎ P → (length text.bytes ≡ parts_capacity parts) ⊎ P
 stored_done had has parts old new text cut is frozen done =
     let all = stored_all had has parts old new cut is in
-    let long : length text.bytes ≡ length is.read = ap (λ (t : MarkedText). length t.bytes) frozen
-    ∙ ap (λ (w : List ℕ). length w) (bytes-parts_frozen new ∙ all.0) in
+    let long : length text.bytes ≡ length is.read = cc (bytes-parts_frozen new, all.0) in
     elim done [ inl full ↦ inl (omega (arith, long, all.1, full)) | inr ended ↦ inr ended ]
 
 -- buffers without capacity hold nothing after a store

@@ -1,13 +1,6 @@
 -- The bytes of views joined in order.
 --     bytes-append, bytes-joined, length-joined    bytes are concatenated, and their number is the sum
-use Rattle.std.specs.Prelude.{◌≡◌, List, [], ◌∷◌, ◌++◌, length, fold}
-use Rattle.std.proofs.Common.{arith, sym, ap, ◌∙◌, append-nil, append_assoc}
-use Rattle.std.proofs.lemmas.Bool.Decides.{nat_tests}
-use Rattle.std.proofs.lemmas.Grind.{common_steps}
-use Rattle.std.proofs.lemmas.List.{nil_from_length}
-use Rattle.iobufs_core.specs.View.{View}
-use Rattle.iobufs_core.specs.MarkedText.{MarkedText, default_text, joined, text_append, text_glue, text_len}
-use Rattle.iobufs.specs.Inside.Pieces.{pieces_bytes}
+use Rattle.iobufs.proofs.Text.Known.{List, MarkedText, View, [], ap, append-nil, append_assoc, arith, common_steps, default_text, fold, joined, length, nat_tests, nil_from_length, pieces_bytes, sym, text_append, text_glue, text_len, ◌++◌, ◌∙◌, ◌∷◌, ◌≡◌}
 
 -- an appended view's bytes come last
 pub bytes-append : (t : MarkedText) (v : View) → (text_append t v).bytes ≡ t.bytes ++ v.bytes

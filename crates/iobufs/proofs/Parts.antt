@@ -12,3 +12,15 @@ pub mod PartLaws
 pub mod PartRuns
 pub mod PartTurns
 pub mod SumLaws
+pub use Coalesced.*
+pub use DrainShapes.*
+pub use DrainTurns.*
+pub use FewLaws.*
+pub use Frozen.*
+pub use FullLaws.*
+pub use OrderLaws.*
+pub use PartChunks.*
+pub use PartLaws.*
+pub use PartRuns.*
+pub use PartTurns.*
+pub use SumLaws.*

@@ -1,4 +1,4 @@
--- Texts in several pieces: their sides, ends, readers and cuts.
+-- Texts in several pieces: their sides, ends, readers and cuts; and with them what is cited of std and `specs/`.
 pub mod ChunkLaws
 pub mod CopyLaws
 pub mod EndLaws
@@ -7,6 +7,7 @@ pub mod Examples
 pub mod Halves
 pub mod JoinLaws
 pub mod KeptLaws
+pub mod Known
 pub mod LocateLaws
 pub mod PieceLaws
 pub mod PlaceLaws
@@ -15,9 +16,31 @@ pub mod RoomLaws
 pub mod RowLaws
 pub mod RunLaws
 pub mod SeveralLaws
-pub mod SliceLaws
 pub mod Sides
+pub mod SliceLaws
 pub mod StaticLaws
 pub mod TakenLaws
 pub mod TextLaws
 pub mod VisitLaws
+pub use ChunkLaws.*
+pub use CopyLaws.*
+pub use EndLaws.*
+pub use EqualLaws.*
+pub use Halves.*
+pub use JoinLaws.*
+pub use KeptLaws.*
+unfoldable pub use Known.*
+pub use LocateLaws.*
+pub use PieceLaws.*
+pub use PlaceLaws.*
+pub use ReadLaws.*
+pub use RoomLaws.*
+pub use RowLaws.*
+pub use RunLaws.*
+pub use SeveralLaws.*
+pub use Sides.*
+pub use SliceLaws.*
+pub use StaticLaws.*
+pub use TakenLaws.*
+pub use TextLaws.*
+pub use VisitLaws.*

@@ -3,17 +3,23 @@ ghost use Rattle.iobufs.specs.Inside.Pieces.{AreViews, of_pieces};
 ghost use Rattle.iobufs.specs.Located.{greatest_key, keys_upto};
 ghost use Rattle.iobufs.specs.Refusals.{IsRefusedAt};
 ghost use Rattle.iobufs_core.specs.Chunks.{first_chunk};
-ghost use Rattle.iobufs_core.specs.MarkedText.{IsMarked, chunk_count as count_of, default_text, is_single, joined, of_view, taken_view, text_append, text_chunks, text_len, text_prepend, text_rest, text_split_front, text_advanced, text_coalesced};
+ghost use Rattle.iobufs_core.specs.MarkedText.{IsMarked, chunk_count as count_of, default_text, is_single, joined, of_view, taken_view, text_append, text_chunks, text_len, text_prepend, text_rest, text_split_front, text_advanced, text_coalesced, chunk_count};
 ghost use Rattle.iobufs_core.specs.Part.{part_frozen};
 ghost use Rattle.iobufs_core.specs.Recovery.{IsAdopted};
-ghost use Rattle.iobufs_core.specs.View.{View, default_view, bytes_mark, static_mark};
+ghost use Rattle.iobufs_core.specs.View.{View, default_view, bytes_mark, static_mark, IsFreelyShared};
 ghost use Rattle.std.specs.Cmp.Lexicographic.{pointwise};
 ghost use Rattle.std.specs.Fn.{CalledAt};
-ghost use Rattle.std.specs.Iterator.{IsFinite};
+ghost use Rattle.std.specs.Iterator.{IsFinite, YieldsFirstBy, item_count};
 ghost use Rattle.std.specs.Iterator.Runs.{SomeRun, WholeRun};
 ghost use Rattle.std.specs.List.{FoldsTo};
 ghost use Rattle.std.specs.Option.{option_copied};
-ghost use Rattle.std.specs.Prelude.{◌≡◌, ℕ, List, ◌∷◌, ◌++◌, ◌+◌, ◌*◌, ◌<◌, ◌≤◌, ◌^◌, ◌==◌, [], length, if◌then◌else◌, false, true, slice_get, IsOk, IfOk, IfErr, OnOk, OnErr, IsOkUnless, IsErrAnd, MatchOption, MatchResult, map, take, drop, Err, ◌-◌, nat_eq};
+ghost use Rattle.std.specs.Prelude.{◌≡◌, ℕ, List, ◌∷◌, ◌++◌, ◌+◌, ◌*◌, ◌<◌, ◌≤◌, ◌^◌, ◌==◌, [], length, if◌then◌else◌, false, true, slice_get, IsOk, IfOk, IfErr, OnOk, OnErr, IsOkUnless, IsErrAnd, MatchOption, MatchResult, map, take, drop, Err, ◌-◌, nat_eq, Some, codes};
+ghost use Rattle.iobufs.specs.Laws.Reading.{joined-chunks, full-chunks};
+ghost use Rattle.iobufs_core.specs.ReadBytes.{bytes-advanced, bytes-rest};
+ghost use Rattle.std.proofs.Common.{rules};
+ghost use Rattle.std.specs.Cmp.Rules.{comparing};
+ghost use Rattle.std.specs.Fmt.{decimal};
+ghost use Rattle.std.specs.Ordering.{on};
 
 mod pieces;
 pub(crate) mod row;
@@ -228,7 +234,8 @@ impl IoBufs {
         self.append_any(alloc, piece)
     }
 
-    // Adds any buffer at the end of any `IoBufs`.
+    // Adds any buffer at the end of any `IoBufs`. In one function with `append`, `text64_append` takes 1.7 times the
+    // instructions.
     #[inline(never)]
     fn append_any(&mut self, alloc: Global, piece: IoBuf) -> Result<(), Refused<IoBuf>>
         ensures done { OnOk result (self.new ≡ text_append self.old piece) }
@@ -283,7 +290,8 @@ impl IoBufs {
         self.prepend_any(alloc, piece)
     }
 
-    // Adds any buffer at the start of any `IoBufs`.
+    // Adds any buffer at the start of any `IoBufs`. In one function with `prepend`, `text64_prepend` takes 1.6 times the
+    // instructions.
     #[inline(never)]
     fn prepend_any(&mut self, alloc: Global, piece: IoBuf) -> Result<(), Refused<IoBuf>>
         ensures done { OnOk result (self.new ≡ text_prepend self.old piece) }
@@ -485,9 +493,6 @@ impl From<&'static [u8]> for IoBufs {
 }
 
 impl Buf for IoBufs {
-    ghost use Rattle.iobufs_core.specs.ReadBytes.{bytes-advanced, bytes-rest};
-    ghost use Rattle.iobufs.specs.Laws.Reading.{joined-chunks, full-chunks};
-
     ghost text = { λ t. t.bytes };
 
     ghost advanced = { text_advanced };
@@ -571,8 +576,6 @@ impl Buf for IoBufs {
 }
 
 impl OwnedBuf for IoBufs {
-    ghost use Rattle.std.proofs.Common.{rules};
-
     ghost marked = { λ t. t };
 
     #[inline(always)]
@@ -628,8 +631,6 @@ impl Peek for IoBufs {
 impl Clone for IoBufs {
     ghost is_clone = { λ a b. b ≡ a };
 
-    ghost use Rattle.iobufs_core.specs.View.{IsFreelyShared};
-
     // One piece whose clone asks for no memory.
     ghost is_infallible = { λ text. (is_single text ≡ true) × IsFreelyShared (record { bytes = text.bytes; mark = text.mark }) };
 
@@ -640,10 +641,6 @@ impl Clone for IoBufs {
 }
 
 impl PartialEq for IoBufs {
-    ghost use Rattle.std.specs.Cmp.Rules.{comparing};
-    ghost use Rattle.std.specs.Ordering.{on};
-    ghost use Rattle.std.proofs.Common.{rules};
-
     ghost eq = { on (λ t. t.bytes) (pointwise nat_eq) };
 
     ghost laws = { Prim.search (comparing, rules) };
@@ -668,17 +665,10 @@ impl PartialEq for IoBufs {
 }
 
 impl Eq for IoBufs {
-    ghost use Rattle.std.specs.Cmp.Rules.{comparing};
-    ghost use Rattle.std.proofs.Common.{rules};
-
     ghost laws = { Prim.search (comparing, rules) };
 }
 
 impl fmt::Debug for IoBufs {
-    ghost use Rattle.std.specs.Prelude.{Some, codes, ◌++◌};
-    ghost use Rattle.std.specs.Fmt.{decimal};
-    ghost use Rattle.iobufs_core.specs.MarkedText.{chunk_count};
-
     ghost debug_output = { λ t. Some (codes "IoBufs { len: " ++ decimal (text_len t) ++ codes ", chunks: " ++ decimal (chunk_count t) ++ codes " }") };
 
     fn fmt<W: fmt::Write>(&self, f: &mut fmt::Formatter<W>) -> fmt::Result {
@@ -706,8 +696,6 @@ impl<'a> Model for Chunks<'a> {
 
 impl<'a> Iterator for Chunks<'a> {
     type Item = &'a [u8];
-
-    ghost use Rattle.std.specs.Iterator.{YieldsFirstBy, item_count};
 
     ghost next_gives = { YieldsFirstBy (λ chunk. chunk.now) (λ left. left) };
 

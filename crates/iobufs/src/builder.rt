@@ -1,7 +1,8 @@
 // Encoded bytes and existing buffers, put together as one text.
 ghost use Rattle.std.specs.Prelude.{◌≡◌, ◌+◌, ◌<◌, ◌≤◌, ◌^◌, [], length, Err, IfErr, IsErrAnd, IfOk, IsOk, IsOkUnless, OnOk};
 ghost use Rattle.iobufs_core.specs.Items.{items_inline};
-ghost use Rattle.iobufs.specs.Building.{IsBuilding, building_items, building_room, building_after, empty_building, finished};
+ghost use Rattle.iobufs.specs.Building.{IsBuilding, building_items, building_room, building_after, empty_building, finished, building_bytes, room_for_pushes};
+ghost use Rattle.iobufs.specs.Laws.Building.{IsBuilderPut, put_composes, put_lessens, put_nothing, put_unchanged, IsBuiltBy, built_adds, built_follows, built_idle, built_puts, built_skips, built_spends, built_uses};
 
 use crate::bufs::IoBufs;
 use crate::bufs::row::Gapped;
@@ -112,8 +113,6 @@ impl Builder {
 }
 
 impl BufMut for Builder {
-    ghost use Rattle.iobufs.specs.Laws.Building.{IsBuilderPut, put_composes, put_lessens, put_nothing, put_unchanged};
-
     ghost room = { building_room };
 
     ghost filled = { IsBuilderPut };
@@ -146,9 +145,6 @@ impl BufMut for Builder {
 }
 
 impl BufsMut for Builder {
-    ghost use Rattle.iobufs.specs.Building.{building_bytes, room_for_pushes};
-    ghost use Rattle.iobufs.specs.Laws.Building.{IsBuiltBy, built_adds, built_follows, built_idle, built_puts, built_skips, built_spends, built_uses};
-
     ghost joined = { building_bytes };
 
     ghost pushable = { room_for_pushes };

@@ -5,6 +5,7 @@ ghost use Rattle.std.specs.Prelude.{◌≡◌, ◌≢◌, ◌⊎◌, ℕ, ◌+�
 ghost use Rattle.iobufs_core.specs.MarkedText.{MarkedText, default_text, joined, text_append, text_rest};
 ghost use Rattle.iobufs_core.specs.View.{View};
 ghost use Rattle.iobufs_frames.specs.Frames.{AreMoved, IsBehindLength, IsFirst, IsFramed, IsNext, IsTakenApart, LacksFrame, bodies, found_of, frame_written, joined_bytes};
+ghost use Rattle.iobufs_frames.specs.declared.lengths.Prefix.TheVariants.{Spelled};
 
 pub mod laws;
 mod lengths;
@@ -43,10 +44,6 @@ impl Drop for Frames {
 }
 
 impl Default for Frames {
-    ghost use Rattle.std.specs.Prelude.{◌≡◌};
-    ghost use Rattle.iobufs_core.specs.MarkedText.{default_text};
-    ghost use Rattle.iobufs_frames.specs.declared.lengths.Prefix.TheVariants.{Spelled};
-
     ghost is_default = { λ frames. (frames.prefix ≡ Spelled) × (frames.rest ≡ default_text) };
 
     fn default() -> Frames {

@@ -1,7 +1,7 @@
 // The format: records in order, each a length, a number of eight bytes, a body, and the CRC-32 of both.
-ghost use Rattle.std.specs.Prelude.{◌≡◌, ◌≢◌, ℕ, ◌+◌, ◌^◌, ◌<◌, ◌≤◌, List, [], ◌++◌, length, take, IfErr, IfNone, IfOk, IfSome, IsOkUnless, IsTrue, ◌↔◌};
+ghost use Rattle.std.specs.Prelude.{◌≡◌, ◌≢◌, ℕ, ◌+◌, ◌^◌, ◌<◌, ◌≤◌, List, [], ◌++◌, length, take, IfErr, IfNone, IfOk, IfSome, IsOkUnless, IsTrue, ◌↔◌, Some};
 ghost use Rattle.iobufs_core.specs.Part.{part_put};
-ghost use Rattle.iobufs_journal.specs.Ending.{end_words};
+ghost use Rattle.iobufs_journal.specs.Ending.{end_words, ending_text};
 ghost use Rattle.iobufs_journal.specs.Journal.{AreShort, HasNoRecord, HasOneJournal, IsJournal, record_written, records_written, sealed, whole_of};
 ghost use Rattle.iobufs_journal.specs.JournalLaws.{IsSealed};
 
@@ -58,9 +58,6 @@ fn words_of(end: JournalEnd) -> &'static str
 }
 
 impl fmt::Display for Ending {
-    ghost use Rattle.std.specs.Prelude.{Some};
-    ghost use Rattle.iobufs_journal.specs.Ending.{ending_text};
-
     ghost output = { λ ending. Some (ending_text ending) };
 
     fn fmt<W: fmt::Write>(&self, f: &mut fmt::Formatter<W>) -> fmt::Result {

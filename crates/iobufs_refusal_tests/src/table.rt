@@ -19,16 +19,18 @@ fn new(rt: HostRuntime) {
     end(&rt, word, shown(&mut table, 0) == FREE);
 }
 
-const STATICS: [Cmd; 2] = [
-    Cmd::Static {
-        dst: 0,
-        text: b"abc",
-    },
-    Cmd::Static {
-        dst: 1,
-        text: b"abc",
-    },
-];
+// Commands that hold static slices under names.
+macro_rules! statics {
+    ($($dst:expr, $text:expr;)+) => {
+        [$(Cmd::Static { dst: $dst, text: $text }),+]
+    };
+}
+
+const VIEWS: [Cmd; 3] = statics! {
+    0, b"ab";
+    1, b"cde";
+    2, b"fg";
+};
 
 // A run whose first allocation fails changes no name.
 #[test]
@@ -36,29 +38,13 @@ fn run(rt: HostRuntime) {
     let mut table = Table::new(rt.alloc(), 6).expect(&rt, "a fixture");
     let (replies, word) = lent!(
         rt,
-        table.run(&STATICS),
+        table.run(&VIEWS),
         BufError::Memory,
         shown(&mut table, 0) == FREE
     );
-    let done = [Reply::Done, Reply::Done];
+    let done = [Reply::Done, Reply::Done, Reply::Done];
     end(&rt, word, replies.as_slice() == done.as_slice());
 }
-
-// Three views.
-const VIEWS: [Cmd; 3] = [
-    Cmd::Static {
-        dst: 0,
-        text: b"ab",
-    },
-    Cmd::Static {
-        dst: 1,
-        text: b"cde",
-    },
-    Cmd::Static {
-        dst: 2,
-        text: b"fg",
-    },
-];
 
 fn apply(table: &mut Table, cmd: &Cmd) -> Result<(), BufError> {
     match table.apply(cmd) {

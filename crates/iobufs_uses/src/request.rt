@@ -1,6 +1,7 @@
 // A request of one of three kinds, read and written as a value of one kind or another after the byte of its kind.
 ghost use Rattle.std.specs.Prelude.{◌≡◌};
 ghost use Rattle.iobufs_values.specs.declared.kinds.Either.TheVariants.{First, Second};
+ghost use Rattle.iobufs_uses.specs.declared.request.Request.TheVariants.{Get, Put, Sync};
 
 use iobufs_core::buf::IoBuf;
 use iobufs_values::{ByParts, Either, IntoParts, Kind};
@@ -32,8 +33,6 @@ impl ByParts for Request {
       | Put key body ↦ Second (First (record { value = (key, body) }))
       | Sync last ↦ Second (Second (record { value = last }))
     ] };
-
-    ghost use Rattle.iobufs_uses.specs.declared.request.Request.TheVariants.{Get, Put, Sync};
 
     fn from_parts(all: RequestParts) -> Request {
         match all {

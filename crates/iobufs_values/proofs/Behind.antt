@@ -1,13 +1,12 @@
 -- A refusal after values that are found.
 --     refused_so        an answer that is this error meets what the error meets
---     behind_refused    it is a fault of a pair, whatever fault it is behind the first value
+--     length_five       the length of five byte strings, concatenated
 --     fault_behind      it is a fault of a list, of one value behind those that are found
 --     found_more        a value behind those that are found is found with them
 use Rattle.std.proofs.Common.{zero, suc, ◌<◌, [], ◌∷◌, ◌++◌, length-append, arith, inl, ◌≡◌, ℕ, ◌+◌, Result, Ok, Err, List, length, IfErr, inr, sym, subst}
 use Rattle.std.specs.List.{flat_map}
 use Rattle.std.specs.Result.{IsErrAnd}
 use Rattle.iobufs_core.specs.MarkedText.{MarkedText}
-use Rattle.iobufs_values.specs.Form.{IsPairFault}
 use Rattle.iobufs_values.specs.Listed.{AreFound, IsOneFault}
 use Rattle.iobufs_values.specs.declared.fault.Fault.{Fault}
 
@@ -16,14 +15,9 @@ pub refused_so : {T E : Type 0} (P : E → Type 0) (r : Result T E) (e : E) → 
 refused_so P (Ok x) e h p = tt
 refused_so P (Err x) e h p = subst P (sym h) p
 
--- a value is found, it has so many bytes, and after them is a fault, which is answered: the pair is refused so
-pub behind_refused : {T Value Cfg : Type 0} (written : Value → List ℕ) (is_found : MarkedText → ℕ → Cfg → Value → Type 0)
-    (is_fault : MarkedText → ℕ → Cfg → Fault → Type 0) (behind_fault : MarkedText → ℕ → Fault → Type 0) (text : MarkedText) (skip len : ℕ) (cfg : Cfg)
-    (x : Value) (r : Result T Fault) (f : Fault) → is_found text skip cfg x → len ≡ length (written x) → behind_fault text (skip + len) f
-    → IsErrAnd r (λ e. e ≡ f) → IfErr r (λ fault. IsPairFault written is_found is_fault behind_fault text skip cfg fault)
-behind_refused written is_found is_fault behind_fault text skip len cfg x r f found long fault is =
-    refused_so (λ fault. IsPairFault written is_found is_fault behind_fault text skip cfg fault) r f is
-    (inr (x, found, subst (λ k. behind_fault text (skip + k) f) long fault))
+-- five byte strings, concatenated, are as long as they are together
+pub length_five : (a b c d e : List ℕ) → length (a ++ (b ++ (c ++ (d ++ e)))) ≡ length a + length b + length c + length d + length e
+length_five a b c d e = omega (arith, length-append a (b ++ (c ++ (d ++ e))), length-append b (c ++ (d ++ e)), length-append c (d ++ e), length-append d e)
 
 further : (skip m n all : ℕ) → all ≡ m + n → skip + all ≡ skip + m + n
 further skip m n all e = omega (arith, e)

@@ -1,7 +1,11 @@
 // A byte for the kind followed by a value, and a value of one of two kinds.
 ghost use Rattle.std.specs.Prelude.{◌≡◌, ℕ, Bool, true, ◌||◌, nat_eq, [], ◌∷◌};
 ghost use Rattle.iobufs_core.specs.Items.{put_item};
-ghost use Rattle.iobufs_values.specs.Kinds.{IsEitherAdmitted, IsEitherFault, IsEitherFound, IsTagAt, IsKindFault, IsKindFound, IsSameEither, either_items, either_written};
+ghost use Rattle.iobufs_values.specs.Kinds.{IsEitherAdmitted, IsEitherFault, IsEitherFound, IsTagAt, IsKindFault, IsKindFound, IsSameEither, either_items, either_written, kind_form, kind_first, joins_either, either_form, either_first};
+ghost use Rattle.iobufs_core.specs.SeveralLaws.{joins_two};
+ghost use Rattle.iobufs_core.specs.WireLaws.{joins-put};
+ghost use Rattle.iobufs_values.specs.Forms.{form_as};
+ghost use Rattle.std.proofs.Common.{refl};
 
 use crate::look::has_len;
 use crate::views::bytes_at;
@@ -37,9 +41,6 @@ pub enum Either<A, B> {
 }
 
 impl<const TAG: u8, T: EncodeSize> EncodeSize for Kind<TAG, T> {
-    ghost use Rattle.iobufs_core.specs.SeveralLaws.{joins_two};
-    ghost use Rattle.iobufs_core.specs.WireLaws.{joins-put};
-
     ghost written = { λ kind. TAG ∷ T.written kind.value };
 
     ghost items = { λ kind. put_item (TAG ∷ []) ∷ T.items kind.value };
@@ -69,10 +70,6 @@ impl<const TAG: u8, T: Write> Write for Kind<TAG, T> {
 impl<const TAG: u8, T: Look + Drop> Look for Kind<TAG, T> {
     type Cfg = T::Cfg;
 
-    ghost use Rattle.iobufs_values.specs.Forms.{form_as};
-    ghost use Rattle.iobufs_values.specs.Kinds.{kind_form};
-    ghost use Rattle.std.proofs.Common.{refl};
-
     ghost is_found = { λ text skip cfg kind. IsKindFound TAG T.is_found text skip cfg kind.value };
 
     ghost is_fault = { IsKindFault TAG T.is_fault };
@@ -100,8 +97,6 @@ impl<const TAG: u8, T: Look + Drop> Look for Kind<TAG, T> {
 }
 
 impl<const TAG: u8, T: Look + Drop> Tagged for Kind<TAG, T> {
-    ghost use Rattle.iobufs_values.specs.Kinds.{kind_first};
-
     ghost is_tag = { λ byte. nat_eq byte TAG };
 
     fn is_tag(byte: u8) -> bool {
@@ -112,8 +107,6 @@ impl<const TAG: u8, T: Look + Drop> Tagged for Kind<TAG, T> {
 }
 
 impl<A: EncodeSize, B: EncodeSize> EncodeSize for Either<A, B> {
-    ghost use Rattle.iobufs_values.specs.Kinds.{joins_either};
-
     ghost written = { either_written A.written B.written };
 
     ghost items = { either_items A.items B.items };
@@ -154,8 +147,6 @@ impl<A: Write, B: Write> Write for Either<A, B> {
 impl<A: Tagged + Drop, B: Tagged + Drop> Look for Either<A, B> {
     type Cfg = (A::Cfg, B::Cfg);
 
-    ghost use Rattle.iobufs_values.specs.Kinds.{either_form};
-
     ghost is_found = { IsEitherFound A.is_tag A.is_found B.is_found };
 
     ghost is_fault = { IsEitherFault A.is_tag A.is_fault B.is_fault };
@@ -183,8 +174,6 @@ impl<A: Tagged + Drop, B: Tagged + Drop> Look for Either<A, B> {
 }
 
 impl<A: Tagged + Drop, B: Tagged + Drop> Tagged for Either<A, B> {
-    ghost use Rattle.iobufs_values.specs.Kinds.{either_first};
-
     ghost is_tag = { λ byte. A.is_tag byte || B.is_tag byte };
 
     fn is_tag(byte: u8) -> bool {

@@ -4,7 +4,9 @@ ghost use Rattle.std.specs.List.{All, flat_map};
 ghost use Rattle.iobufs_core.specs.Items.{IsBegun, items_inline, items_pushed};
 ghost use Rattle.iobufs_core.specs.Ranges.{in_range};
 ghost use Rattle.iobufs_values.specs.Form.{no_memory};
-ghost use Rattle.iobufs_values.specs.Listed.{AreFound, AreSame, IsListFault, IsListFound, IsOneFault, list_items, list_written};
+ghost use Rattle.iobufs_values.specs.Listed.{AreFound, AreSame, IsListFault, IsListFound, IsOneFault, list_items, list_written, joins_list, list_form};
+ghost use Rattle.iobufs_values.specs.Forms.{form_as};
+ghost use Rattle.std.proofs.Common.{refl};
 
 use crate::look::has_len;
 use crate::{Fault, Look};
@@ -18,8 +20,6 @@ pub struct List<T> {
 }
 
 impl<T: EncodeSize> EncodeSize for List<T> {
-    ghost use Rattle.iobufs_values.specs.Listed.{joins_list};
-
     ghost written = { λ list. list_written T.written list.values.items };
 
     ghost items = { λ list. list_items T.items list.values.items };
@@ -54,10 +54,6 @@ impl<T: Write> Write for List<T> {
 
 impl<T: Look + Drop> Look for List<T> {
     type Cfg = (RangeCfg, T::Cfg);
-
-    ghost use Rattle.iobufs_values.specs.Forms.{form_as};
-    ghost use Rattle.iobufs_values.specs.Listed.{list_form};
-    ghost use Rattle.std.proofs.Common.{refl};
 
     ghost is_found = { λ text skip cfg list. IsListFound T.written T.is_found text skip cfg list.values.items };
 

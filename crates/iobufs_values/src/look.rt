@@ -24,7 +24,7 @@ pub trait Look: EncodeSize + Sized {
     // Which values a configuration admits, and which are the same, wherever their bytes are kept.
     ghost admits: { Self.Cfg → Self → Type 0 };
 
-    ghost same: { Self → Self → Type 0 };
+    ghost same: { Self → Self → Type 0 } = { λ x y. x ≡ y };
 
     /// Decodes the value after the first `skip` bytes, and returns it with its number of bytes. All of them stay.
     fn look<B: Peek>(
@@ -76,8 +76,8 @@ pub trait Look: EncodeSize + Sized {
     }
 }
 
-/// That a reader's bytes are as many as a `usize` says, and so a sum of places within them is one too. The prover knows it
-/// only of a length that was asked for, so this asks; nothing of the call is left in the program.
+/// Makes known that a reader's length fits a `usize`, and so does each offset within it. The prover knows it only of a
+/// length that was read, so this reads it; the compiler drops the call.
 pub(crate) fn has_len<B: Peek>(buf: &B)
     ensures { length (B.text buf.now) < 2 ^ 64 }
 {

@@ -1,8 +1,11 @@
 // Numbers of a fixed size, and lengths.
 ghost use Rattle.std.specs.Prelude.{◌≡◌, ◌^◌, ◌<◌, [], ◌∷◌, drop, true, Ok, Err};
 ghost use Rattle.std.specs.Int.{w16, w32, w64, w128, to_be_bytes};
-ghost use Rattle.iobufs_core.specs.Wire.{IsNumberRead};
+ghost use Rattle.iobufs_core.specs.Wire.{IsNumberRead, IsLengthRead};
 ghost use Rattle.iobufs_values.specs.Form.{IsCodecFault};
+ghost use Rattle.iobufs_core.specs.NumberLaws.{form_8, form_16, form_32, form_64, form_128};
+ghost use Rattle.iobufs_core.specs.Ranges.{in_range};
+ghost use Rattle.iobufs_values.specs.Forms.{number_form, length_form};
 
 use crate::views::bytes_at;
 use crate::{Fault, Look};
@@ -12,16 +15,11 @@ use std::alloc::Global;
 impl Look for u8 {
     type Cfg = ();
 
-    ghost use Rattle.iobufs_core.specs.NumberLaws.{form_8};
-    ghost use Rattle.iobufs_values.specs.Forms.{number_form};
-
     ghost is_found = { λ text skip _ n. IsNumberRead (λ n. n ∷ []) 1 (drop skip text.bytes) (Ok n) };
 
     ghost is_fault = { λ text skip _ fault. IsCodecFault (λ error. IsNumberRead (λ n. n ∷ []) 1 (drop skip text.bytes) (Err error)) fault };
 
     ghost admits = { λ _ n. n < 2 ^ 8 };
-
-    ghost same = { λ m n. m ≡ n };
 
     fn look<B: Peek>(
         _alloc: Global,
@@ -40,16 +38,11 @@ impl Look for u8 {
 impl Look for u16 {
     type Cfg = ();
 
-    ghost use Rattle.iobufs_core.specs.NumberLaws.{form_16};
-    ghost use Rattle.iobufs_values.specs.Forms.{number_form};
-
     ghost is_found = { λ text skip _ n. IsNumberRead (to_be_bytes w16) 2 (drop skip text.bytes) (Ok n) };
 
     ghost is_fault = { λ text skip _ fault. IsCodecFault (λ error. IsNumberRead (to_be_bytes w16) 2 (drop skip text.bytes) (Err error)) fault };
 
     ghost admits = { λ _ n. n < 2 ^ 16 };
-
-    ghost same = { λ m n. m ≡ n };
 
     fn look<B: Peek>(
         _alloc: Global,
@@ -66,16 +59,11 @@ impl Look for u16 {
 impl Look for u32 {
     type Cfg = ();
 
-    ghost use Rattle.iobufs_core.specs.NumberLaws.{form_32};
-    ghost use Rattle.iobufs_values.specs.Forms.{number_form};
-
     ghost is_found = { λ text skip _ n. IsNumberRead (to_be_bytes w32) 4 (drop skip text.bytes) (Ok n) };
 
     ghost is_fault = { λ text skip _ fault. IsCodecFault (λ error. IsNumberRead (to_be_bytes w32) 4 (drop skip text.bytes) (Err error)) fault };
 
     ghost admits = { λ _ n. n < 2 ^ 32 };
-
-    ghost same = { λ m n. m ≡ n };
 
     fn look<B: Peek>(
         _alloc: Global,
@@ -92,16 +80,11 @@ impl Look for u32 {
 impl Look for u64 {
     type Cfg = ();
 
-    ghost use Rattle.iobufs_core.specs.NumberLaws.{form_64};
-    ghost use Rattle.iobufs_values.specs.Forms.{number_form};
-
     ghost is_found = { λ text skip _ n. IsNumberRead (to_be_bytes w64) 8 (drop skip text.bytes) (Ok n) };
 
     ghost is_fault = { λ text skip _ fault. IsCodecFault (λ error. IsNumberRead (to_be_bytes w64) 8 (drop skip text.bytes) (Err error)) fault };
 
     ghost admits = { λ _ n. n < 2 ^ 64 };
-
-    ghost same = { λ m n. m ≡ n };
 
     fn look<B: Peek>(
         _alloc: Global,
@@ -118,16 +101,11 @@ impl Look for u64 {
 impl Look for u128 {
     type Cfg = ();
 
-    ghost use Rattle.iobufs_core.specs.NumberLaws.{form_128};
-    ghost use Rattle.iobufs_values.specs.Forms.{number_form};
-
     ghost is_found = { λ text skip _ n. IsNumberRead (to_be_bytes w128) 16 (drop skip text.bytes) (Ok n) };
 
     ghost is_fault = { λ text skip _ fault. IsCodecFault (λ error. IsNumberRead (to_be_bytes w128) 16 (drop skip text.bytes) (Err error)) fault };
 
     ghost admits = { λ _ n. n < 2 ^ 128 };
-
-    ghost same = { λ m n. m ≡ n };
 
     fn look<B: Peek>(
         _alloc: Global,
@@ -144,17 +122,11 @@ impl Look for u128 {
 impl Look for usize {
     type Cfg = RangeCfg;
 
-    ghost use Rattle.iobufs_core.specs.Ranges.{in_range};
-    ghost use Rattle.iobufs_core.specs.Wire.{IsLengthRead};
-    ghost use Rattle.iobufs_values.specs.Forms.{length_form};
-
     ghost is_found = { λ text skip range n. IsLengthRead (drop skip text.bytes) range (Ok n) };
 
     ghost is_fault = { λ text skip range fault. IsCodecFault (λ error. IsLengthRead (drop skip text.bytes) range (Err error)) fault };
 
     ghost admits = { λ range n. (n < 2 ^ 64) × (in_range range n ≡ true) };
-
-    ghost same = { λ m n. m ≡ n };
 
     fn look<B: Peek>(
         _alloc: Global,

@@ -1,10 +1,10 @@
 // A `bool`, and a value that is there or not, after a byte that tells it.
 ghost use Rattle.std.specs.Prelude.{◌≡◌, ⊤};
 ghost use Rattle.iobufs_core.specs.Wire.{flag};
-ghost use Rattle.iobufs_values.specs.Form.{IsBoolFault, IsByteAt};
+ghost use Rattle.iobufs_values.specs.Form.{IsBoolFault, IsByteAt, IsOptionAdmitted, IsOptionFault, IsOptionFound, IsSameOption};
+ghost use Rattle.iobufs_values.specs.Forms.{bool_form, option_form};
 
 use crate::look::has_len;
-use crate::views::bytes_at;
 use crate::{Fault, Look};
 use iobufs_core::codec::{Buf, Peek};
 use std::alloc::Global;
@@ -12,26 +12,22 @@ use std::alloc::Global;
 impl Look for bool {
     type Cfg = ();
 
-    ghost use Rattle.iobufs_values.specs.Forms.{bool_form};
-
     ghost is_found = { λ text skip _ truth. IsByteAt text skip (flag truth) };
 
     ghost is_fault = { λ text skip _ fault. IsBoolFault text skip fault };
 
     ghost admits = { λ _ _. Unit {0} };
 
-    ghost same = { λ x y. x ≡ y };
-
     fn look<B: Peek>(
-        _alloc: Global,
+        alloc: Global,
         buf: &B,
         skip: usize,
         _cfg: &(),
     ) -> Result<(bool, usize), Fault> {
-        let bytes: [u8; 1] = bytes_at(buf, skip)?;
-        match bytes {
-            [0] => Ok((false, 1)),
-            [1] => Ok((true, 1)),
+        let (byte, len) = u8::look(alloc, buf, skip, &())?;
+        match byte {
+            0 => Ok((false, len)),
+            1 => Ok((true, len)),
             _ => Err(Fault::InvalidBool),
         }
     }
@@ -41,9 +37,6 @@ impl Look for bool {
 
 impl<T: Look + Drop> Look for Option<T> {
     type Cfg = T::Cfg;
-
-    ghost use Rattle.iobufs_values.specs.Form.{IsOptionAdmitted, IsOptionFault, IsOptionFound, IsSameOption};
-    ghost use Rattle.iobufs_values.specs.Forms.{option_form};
 
     ghost is_found = { IsOptionFound T.is_found };
 

@@ -1,6 +1,8 @@
 // Several values, in order.
 ghost use Rattle.std.specs.Prelude.{◌≡◌, ◌+◌, ◌++◌, ◌≤◌, length, IfOk, IfErr};
 ghost use Rattle.iobufs_values.specs.Form.{IsPairFault};
+ghost use Rattle.iobufs_values.specs.Forms.{pair_form, form_as};
+ghost use Rattle.std.proofs.Common.{refl};
 
 use crate::look::has_len;
 use crate::{Fault, Look};
@@ -9,8 +11,6 @@ use std::alloc::Global;
 
 impl<A: Look + Drop, B: Look + Drop> Look for (A, B) {
     type Cfg = (A::Cfg, B::Cfg);
-
-    ghost use Rattle.iobufs_values.specs.Forms.{pair_form};
 
     ghost is_found = { λ text skip cfg p. A.is_found text skip cfg.0 p.0 × B.is_found text (skip + length (A.written p.0)) cfg.1 p.1 };
 
@@ -26,7 +26,12 @@ impl<A: Look + Drop, B: Look + Drop> Look for (A, B) {
         skip: usize,
         cfg: &(A::Cfg, B::Cfg),
     ) -> Result<((A, B), usize), Fault> {
-        look_two(alloc, buf, skip, &cfg.0, &cfg.1)
+        has_len(buf);
+        let (one, len) = A::look(alloc, buf, skip, &cfg.0)?;
+        let end = skip + len;
+        let (two, len) = B::look(alloc, buf, end, &cfg.1)?;
+        let end = end + len;
+        Ok(((one, two), end - skip))
     }
 
     ghost form = { pair_form A.form B.form };
@@ -34,9 +39,6 @@ impl<A: Look + Drop, B: Look + Drop> Look for (A, B) {
 
 impl<A: Look + Drop, B: Look + Drop, C: Look + Drop> Look for (A, B, C) {
     type Cfg = (A::Cfg, B::Cfg, C::Cfg);
-
-    ghost use Rattle.iobufs_values.specs.Forms.{form_as, pair_form};
-    ghost use Rattle.std.proofs.Common.{refl};
 
     ghost is_found = { λ text skip cfg p. A.is_found text skip cfg.0 p.0
         × (B.is_found text (skip + length (A.written p.0)) cfg.1 p.1
@@ -57,7 +59,14 @@ impl<A: Look + Drop, B: Look + Drop, C: Look + Drop> Look for (A, B, C) {
         skip: usize,
         cfg: &(A::Cfg, B::Cfg, C::Cfg),
     ) -> Result<((A, B, C), usize), Fault> {
-        look_three(alloc, buf, skip, &cfg.0, &cfg.1, &cfg.2)
+        has_len(buf);
+        let (one, len) = A::look(alloc, buf, skip, &cfg.0)?;
+        let end = skip + len;
+        let (two, len) = B::look(alloc, buf, end, &cfg.1)?;
+        let end = end + len;
+        let (three, len) = C::look(alloc, buf, end, &cfg.2)?;
+        let end = end + len;
+        Ok(((one, two, three), end - skip))
     }
 
     ghost form = { form_as (λ p. (p.0, (p.1, p.2))) (λ cfg. (cfg.0, (cfg.1, cfg.2)))
@@ -67,9 +76,6 @@ impl<A: Look + Drop, B: Look + Drop, C: Look + Drop> Look for (A, B, C) {
 
 impl<A: Look + Drop, B: Look + Drop, C: Look + Drop, D: Look + Drop> Look for (A, B, C, D) {
     type Cfg = (A::Cfg, B::Cfg, C::Cfg, D::Cfg);
-
-    ghost use Rattle.iobufs_values.specs.Forms.{form_as, pair_form};
-    ghost use Rattle.std.proofs.Common.{refl};
 
     ghost is_found = { λ text skip cfg p. A.is_found text skip cfg.0 p.0
         × (B.is_found text (skip + length (A.written p.0)) cfg.1 p.1
@@ -92,7 +98,16 @@ impl<A: Look + Drop, B: Look + Drop, C: Look + Drop, D: Look + Drop> Look for (A
         skip: usize,
         cfg: &(A::Cfg, B::Cfg, C::Cfg, D::Cfg),
     ) -> Result<((A, B, C, D), usize), Fault> {
-        look_four(alloc, buf, skip, &cfg.0, &cfg.1, &cfg.2, &cfg.3)
+        has_len(buf);
+        let (one, len) = A::look(alloc, buf, skip, &cfg.0)?;
+        let end = skip + len;
+        let (two, len) = B::look(alloc, buf, end, &cfg.1)?;
+        let end = end + len;
+        let (three, len) = C::look(alloc, buf, end, &cfg.2)?;
+        let end = end + len;
+        let (four, len) = D::look(alloc, buf, end, &cfg.3)?;
+        let end = end + len;
+        Ok(((one, two, three, four), end - skip))
     }
 
     ghost form = { form_as (λ p. (p.0, (p.1, (p.2, p.3)))) (λ cfg. (cfg.0, (cfg.1, (cfg.2, cfg.3))))
@@ -103,9 +118,6 @@ impl<A: Look + Drop, B: Look + Drop, C: Look + Drop, D: Look + Drop> Look for (A
 impl<A: Look + Drop, B: Look + Drop, C: Look + Drop, D: Look + Drop, E: Look + Drop> Look
     for (A, B, C, D, E) {
     type Cfg = (A::Cfg, B::Cfg, C::Cfg, D::Cfg, E::Cfg);
-
-    ghost use Rattle.iobufs_values.specs.Forms.{form_as, pair_form};
-    ghost use Rattle.std.proofs.Common.{refl};
 
     ghost is_found = { λ text skip cfg p. A.is_found text skip cfg.0 p.0
         × (B.is_found text (skip + length (A.written p.0)) cfg.1 p.1
@@ -130,7 +142,18 @@ impl<A: Look + Drop, B: Look + Drop, C: Look + Drop, D: Look + Drop, E: Look + D
         skip: usize,
         cfg: &(A::Cfg, B::Cfg, C::Cfg, D::Cfg, E::Cfg),
     ) -> Result<((A, B, C, D, E), usize), Fault> {
-        look_five(alloc, buf, skip, &cfg.0, &cfg.1, &cfg.2, &cfg.3, &cfg.4)
+        has_len(buf);
+        let (one, len) = A::look(alloc, buf, skip, &cfg.0)?;
+        let end = skip + len;
+        let (two, len) = B::look(alloc, buf, end, &cfg.1)?;
+        let end = end + len;
+        let (three, len) = C::look(alloc, buf, end, &cfg.2)?;
+        let end = end + len;
+        let (four, len) = D::look(alloc, buf, end, &cfg.3)?;
+        let end = end + len;
+        let (five, len) = E::look(alloc, buf, end, &cfg.4)?;
+        let end = end + len;
+        Ok(((one, two, three, four, five), end - skip))
     }
 
     ghost form = { form_as (λ p. (p.0, (p.1, (p.2, (p.3, p.4))))) (λ cfg. (cfg.0, (cfg.1, (cfg.2, (cfg.3, cfg.4)))))
@@ -147,9 +170,6 @@ impl<
     F: Look + Drop,
 > Look for (A, B, C, D, E, F) {
     type Cfg = (A::Cfg, B::Cfg, C::Cfg, D::Cfg, E::Cfg, F::Cfg);
-
-    ghost use Rattle.iobufs_values.specs.Forms.{form_as, pair_form};
-    ghost use Rattle.std.proofs.Common.{refl};
 
     ghost is_found = { λ text skip cfg p. A.is_found text skip cfg.0 p.0
         × (B.is_found text (skip + length (A.written p.0)) cfg.1 p.1
@@ -178,196 +198,23 @@ impl<
         skip: usize,
         cfg: &(A::Cfg, B::Cfg, C::Cfg, D::Cfg, E::Cfg, F::Cfg),
     ) -> Result<((A, B, C, D, E, F), usize), Fault> {
-        look_six(
-            alloc, buf, skip, &cfg.0, &cfg.1, &cfg.2, &cfg.3, &cfg.4, &cfg.5,
-        )
+        has_len(buf);
+        let (one, len) = A::look(alloc, buf, skip, &cfg.0)?;
+        let end = skip + len;
+        let (two, len) = B::look(alloc, buf, end, &cfg.1)?;
+        let end = end + len;
+        let (three, len) = C::look(alloc, buf, end, &cfg.2)?;
+        let end = end + len;
+        let (four, len) = D::look(alloc, buf, end, &cfg.3)?;
+        let end = end + len;
+        let (five, len) = E::look(alloc, buf, end, &cfg.4)?;
+        let end = end + len;
+        let (six, len) = F::look(alloc, buf, end, &cfg.5)?;
+        let end = end + len;
+        Ok(((one, two, three, four, five, six), end - skip))
     }
 
     ghost form = { form_as (λ p. (p.0, (p.1, (p.2, (p.3, (p.4, p.5)))))) (λ cfg. (cfg.0, (cfg.1, (cfg.2, (cfg.3, (cfg.4, cfg.5))))))
         (λ p. A.written p.0 ++ (B.written p.1 ++ (C.written p.2 ++ (D.written p.3 ++ (E.written p.4 ++ F.written p.5))))) (λ p. refl)
         (pair_form A.form (pair_form B.form (pair_form C.form (pair_form D.form (pair_form E.form F.form))))) };
-}
-
-// The values after the first `skip` bytes, and how many bytes they have.
-fn look_two<A: Look + Drop, B: Look + Drop, R: Peek>(
-    alloc: Global,
-    buf: &R,
-    skip: usize,
-    first: &A::Cfg,
-    second: &B::Cfg,
-) -> Result<((A, B), usize), Fault>
-    requires { skip ≤ length (R.text buf.now) }
-    ensures found { IfOk result (λ found. A.is_found (R.marked buf.now) skip first.now found.0.0
-        × B.is_found (R.marked buf.now) (skip + length (A.written found.0.0)) second.now found.0.1) }
-    ensures len { IfOk result (λ found. found.1 ≡ length (A.written found.0.0 ++ B.written found.0.1)) }
-    ensures within { IfOk result (λ found. skip + found.1 ≤ length (R.text buf.now)) }
-    ensures fault { IfErr result (λ fault. IsPairFault A.written A.is_found A.is_fault (λ t k f. B.is_fault t k second.now f)
-        (R.marked buf.now) skip first.now fault) }
-{
-    has_len(buf);
-    let (one, len) = A::look(alloc, buf, skip, first)?;
-    let (two, more) = B::look(alloc, buf, skip + len, second)?;
-    Ok(((one, two), len + more))
-}
-
-// The values after the first `skip` bytes, and how many bytes they have.
-fn look_three<A: Look + Drop, B: Look + Drop, C: Look + Drop, R: Peek>(
-    alloc: Global,
-    buf: &R,
-    skip: usize,
-    first: &A::Cfg,
-    second: &B::Cfg,
-    third: &C::Cfg,
-) -> Result<((A, B, C), usize), Fault>
-    requires { skip ≤ length (R.text buf.now) }
-    ensures found { IfOk result (λ found. A.is_found (R.marked buf.now) skip first.now found.0.0
-        × (B.is_found (R.marked buf.now) (skip + length (A.written found.0.0)) second.now found.0.1
-        × C.is_found (R.marked buf.now) (skip + length (A.written found.0.0) + length (B.written found.0.1)) third.now found.0.2)) }
-    ensures len { IfOk result (λ found. found.1 ≡ length (A.written found.0.0 ++ (B.written found.0.1 ++ C.written found.0.2))) }
-    ensures within { IfOk result (λ found. skip + found.1 ≤ length (R.text buf.now)) }
-    ensures fault { IfErr result (λ fault. IsPairFault A.written A.is_found A.is_fault
-        (λ t k f. IsPairFault B.written B.is_found B.is_fault
-        (λ t k f. C.is_fault t k third.now f) t k second.now f)
-        (R.marked buf.now) skip first.now fault) }
-{
-    has_len(buf);
-    let (one, len) = A::look(alloc, buf, skip, first)?;
-    let ((two, three), more) = look_two(alloc, buf, skip + len, second, third)?;
-    Ok(((one, two, three), len + more))
-}
-
-// The values after the first `skip` bytes, and how many bytes they have.
-fn look_four<A: Look + Drop, B: Look + Drop, C: Look + Drop, D: Look + Drop, R: Peek>(
-    alloc: Global,
-    buf: &R,
-    skip: usize,
-    first: &A::Cfg,
-    second: &B::Cfg,
-    third: &C::Cfg,
-    fourth: &D::Cfg,
-) -> Result<((A, B, C, D), usize), Fault>
-    requires { skip ≤ length (R.text buf.now) }
-    ensures found { IfOk result (λ found. A.is_found (R.marked buf.now) skip first.now found.0.0
-        × (B.is_found (R.marked buf.now) (skip + length (A.written found.0.0)) second.now found.0.1
-        × (C.is_found (R.marked buf.now) (skip + length (A.written found.0.0) + length (B.written found.0.1)) third.now found.0.2
-        × D.is_found (R.marked buf.now) (skip + length (A.written found.0.0) + length (B.written found.0.1)
-        + length (C.written found.0.2)) fourth.now found.0.3))) }
-    ensures len { IfOk result (λ found. found.1 ≡ length (A.written found.0.0 ++ (B.written found.0.1 ++ (C.written found.0.2 ++ D.written found.0.3)))) }
-    ensures within { IfOk result (λ found. skip + found.1 ≤ length (R.text buf.now)) }
-    ensures fault { IfErr result (λ fault. IsPairFault A.written A.is_found A.is_fault
-        (λ t k f. IsPairFault B.written B.is_found B.is_fault
-        (λ t k f. IsPairFault C.written C.is_found C.is_fault
-        (λ t k f. D.is_fault t k fourth.now f) t k third.now f) t k second.now f)
-        (R.marked buf.now) skip first.now fault) }
-{
-    has_len(buf);
-    let (one, len) = A::look(alloc, buf, skip, first)?;
-    let ((two, three, four), more) = look_three(alloc, buf, skip + len, second, third, fourth)?;
-    Ok(((one, two, three, four), len + more))
-}
-
-// The values after the first `skip` bytes, and how many bytes they have.
-fn look_five<
-    A: Look + Drop,
-    B: Look + Drop,
-    C: Look + Drop,
-    D: Look + Drop,
-    E: Look + Drop,
-    R: Peek,
->(
-    alloc: Global,
-    buf: &R,
-    skip: usize,
-    first: &A::Cfg,
-    second: &B::Cfg,
-    third: &C::Cfg,
-    fourth: &D::Cfg,
-    fifth: &E::Cfg,
-) -> Result<((A, B, C, D, E), usize), Fault>
-    requires { skip ≤ length (R.text buf.now) }
-    ensures found { IfOk result (λ found. A.is_found (R.marked buf.now) skip first.now found.0.0
-        × (B.is_found (R.marked buf.now) (skip + length (A.written found.0.0)) second.now found.0.1
-        × (C.is_found (R.marked buf.now) (skip + length (A.written found.0.0) + length (B.written found.0.1)) third.now found.0.2
-        × (D.is_found (R.marked buf.now) (skip + length (A.written found.0.0) + length (B.written found.0.1)
-        + length (C.written found.0.2)) fourth.now found.0.3
-        × E.is_found (R.marked buf.now) (skip + length (A.written found.0.0) + length (B.written found.0.1) + length (C.written found.0.2)
-        + length (D.written found.0.3)) fifth.now found.0.4)))) }
-    ensures len { IfOk result (λ found. found.1 ≡ length (A.written found.0.0 ++ (B.written found.0.1 ++ (C.written found.0.2 ++ (D.written found.0.3
-        ++ E.written found.0.4))))) }
-    ensures within { IfOk result (λ found. skip + found.1 ≤ length (R.text buf.now)) }
-    ensures fault { IfErr result (λ fault. IsPairFault A.written A.is_found A.is_fault
-        (λ t k f. IsPairFault B.written B.is_found B.is_fault
-        (λ t k f. IsPairFault C.written C.is_found C.is_fault
-        (λ t k f. IsPairFault D.written D.is_found D.is_fault
-        (λ t k f. E.is_fault t k fifth.now f) t k fourth.now f) t k third.now f) t k second.now f)
-        (R.marked buf.now) skip first.now fault) }
-{
-    has_len(buf);
-    let (one, len) = A::look(alloc, buf, skip, first)?;
-    let ((two, three, four, five), more) = look_four(
-        alloc,
-        buf,
-        skip + len,
-        second,
-        third,
-        fourth,
-        fifth,
-    )?;
-    Ok(((one, two, three, four, five), len + more))
-}
-
-// The values after the first `skip` bytes, and how many bytes they have.
-fn look_six<
-    A: Look + Drop,
-    B: Look + Drop,
-    C: Look + Drop,
-    D: Look + Drop,
-    E: Look + Drop,
-    F: Look + Drop,
-    R: Peek,
->(
-    alloc: Global,
-    buf: &R,
-    skip: usize,
-    first: &A::Cfg,
-    second: &B::Cfg,
-    third: &C::Cfg,
-    fourth: &D::Cfg,
-    fifth: &E::Cfg,
-    sixth: &F::Cfg,
-) -> Result<((A, B, C, D, E, F), usize), Fault>
-    requires { skip ≤ length (R.text buf.now) }
-    ensures found { IfOk result (λ found. A.is_found (R.marked buf.now) skip first.now found.0.0
-        × (B.is_found (R.marked buf.now) (skip + length (A.written found.0.0)) second.now found.0.1
-        × (C.is_found (R.marked buf.now) (skip + length (A.written found.0.0) + length (B.written found.0.1)) third.now found.0.2
-        × (D.is_found (R.marked buf.now) (skip + length (A.written found.0.0) + length (B.written found.0.1)
-        + length (C.written found.0.2)) fourth.now found.0.3
-        × (E.is_found (R.marked buf.now) (skip + length (A.written found.0.0) + length (B.written found.0.1) + length (C.written found.0.2)
-        + length (D.written found.0.3)) fifth.now found.0.4
-        × F.is_found (R.marked buf.now) (skip + length (A.written found.0.0) + length (B.written found.0.1) + length (C.written found.0.2)
-        + length (D.written found.0.3) + length (E.written found.0.4)) sixth.now found.0.5))))) }
-    ensures len { IfOk result (λ found. found.1 ≡ length (A.written found.0.0 ++ (B.written found.0.1 ++ (C.written found.0.2 ++ (D.written found.0.3
-        ++ (E.written found.0.4 ++ F.written found.0.5)))))) }
-    ensures within { IfOk result (λ found. skip + found.1 ≤ length (R.text buf.now)) }
-    ensures fault { IfErr result (λ fault. IsPairFault A.written A.is_found A.is_fault
-        (λ t k f. IsPairFault B.written B.is_found B.is_fault
-        (λ t k f. IsPairFault C.written C.is_found C.is_fault
-        (λ t k f. IsPairFault D.written D.is_found D.is_fault
-        (λ t k f. IsPairFault E.written E.is_found E.is_fault
-        (λ t k f. F.is_fault t k sixth.now f) t k fifth.now f) t k fourth.now f) t k third.now f) t k second.now f)
-        (R.marked buf.now) skip first.now fault) }
-{
-    has_len(buf);
-    let (one, len) = A::look(alloc, buf, skip, first)?;
-    let ((two, three, four, five, six), more) = look_five(
-        alloc,
-        buf,
-        skip + len,
-        second,
-        third,
-        fourth,
-        fifth,
-        sixth,
-    )?;
-    Ok(((one, two, three, four, five, six), len + more))
 }

@@ -1,5 +1,10 @@
 // Signed numbers, as the number of their bits.
 ghost use Rattle.std.specs.Prelude.{◌≡◌};
+ghost use Rattle.iobufs_values.specs.Forms.{form_as};
+ghost use Rattle.iobufs_values.specs.Signed.{signed_form, one_of_bits, small_8, small_16, small_32, small_64, small_128};
+ghost use Rattle.std.proofs.Common.{refl};
+ghost use Rattle.std.specs.Int.{cast_unsigned, w8, w16, w32, w64, w128};
+ghost use Rattle.std.specs.Int.RustNames.{FitsSigned};
 
 use crate::{Fault, Look};
 use iobufs_core::codec::{BufMut, BufsMut, EncodeSize, Error, Peek, Write};
@@ -10,7 +15,7 @@ pub trait SignedNumber: Copy {
     /// The number of the bits.
     type Bits: Look + Write + Copy;
 
-    // That number, and which numbers the type has.
+    // The number of the bits, and which numbers the type has.
     ghost bits: { Self → Self.Bits };
 
     ghost fits: { Self → Type 0 };
@@ -66,10 +71,6 @@ impl<N: SignedNumber> Write for Signed<N> {
 impl<N: SignedNumber> Look for Signed<N> {
     type Cfg = <N::Bits as Look>::Cfg;
 
-    ghost use Rattle.iobufs_values.specs.Forms.{form_as};
-    ghost use Rattle.iobufs_values.specs.Signed.{signed_form};
-    ghost use Rattle.std.proofs.Common.{refl};
-
     ghost is_found = { λ text skip cfg n. N.fits n.value × N.Bits.is_found text skip cfg (N.bits n.value) };
 
     ghost is_fault = { λ text skip cfg fault. N.Bits.is_fault text skip cfg fault };
@@ -96,10 +97,6 @@ impl<N: SignedNumber> Look for Signed<N> {
 impl SignedNumber for i8 {
     type Bits = u8;
 
-    ghost use Rattle.iobufs_values.specs.Signed.{one_of_bits, small_8};
-    ghost use Rattle.std.specs.Int.{cast_unsigned, w8};
-    ghost use Rattle.std.specs.Int.RustNames.{FitsSigned};
-
     ghost bits = { cast_unsigned w8 };
 
     ghost fits = { FitsSigned w8 };
@@ -119,10 +116,6 @@ impl SignedNumber for i8 {
 
 impl SignedNumber for i16 {
     type Bits = u16;
-
-    ghost use Rattle.iobufs_values.specs.Signed.{one_of_bits, small_16};
-    ghost use Rattle.std.specs.Int.{cast_unsigned, w16};
-    ghost use Rattle.std.specs.Int.RustNames.{FitsSigned};
 
     ghost bits = { cast_unsigned w16 };
 
@@ -144,10 +137,6 @@ impl SignedNumber for i16 {
 impl SignedNumber for i32 {
     type Bits = u32;
 
-    ghost use Rattle.iobufs_values.specs.Signed.{one_of_bits, small_32};
-    ghost use Rattle.std.specs.Int.{cast_unsigned, w32};
-    ghost use Rattle.std.specs.Int.RustNames.{FitsSigned};
-
     ghost bits = { cast_unsigned w32 };
 
     ghost fits = { FitsSigned w32 };
@@ -168,10 +157,6 @@ impl SignedNumber for i32 {
 impl SignedNumber for i64 {
     type Bits = u64;
 
-    ghost use Rattle.iobufs_values.specs.Signed.{one_of_bits, small_64};
-    ghost use Rattle.std.specs.Int.{cast_unsigned, w64};
-    ghost use Rattle.std.specs.Int.RustNames.{FitsSigned};
-
     ghost bits = { cast_unsigned w64 };
 
     ghost fits = { FitsSigned w64 };
@@ -191,10 +176,6 @@ impl SignedNumber for i64 {
 
 impl SignedNumber for i128 {
     type Bits = u128;
-
-    ghost use Rattle.iobufs_values.specs.Signed.{one_of_bits, small_128};
-    ghost use Rattle.std.specs.Int.{cast_unsigned, w128};
-    ghost use Rattle.std.specs.Int.RustNames.{FitsSigned};
 
     ghost bits = { cast_unsigned w128 };
 

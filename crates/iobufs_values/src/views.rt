@@ -5,6 +5,9 @@ ghost use Rattle.iobufs_core.specs.Spelling.{spell};
 ghost use Rattle.iobufs_core.specs.View.{static_mark};
 ghost use Rattle.iobufs_core.specs.Wire.{HasView, IsViewFault, bytes_written};
 ghost use Rattle.iobufs_values.specs.Form.{HasStaticViewThere, IsCodecFault, IsMadeThere, IsShortThere, behind};
+ghost use Rattle.iobufs_core.specs.Ranges.{in_range};
+ghost use Rattle.iobufs_values.specs.Forms.{bytes_form, array_form};
+ghost use Rattle.std.proofs.Common.{ap};
 
 use crate::{Fault, Look};
 use bytes::Bytes;
@@ -55,10 +58,6 @@ pub(crate) fn bytes_at<const N: usize, B: Peek>(buf: &B, skip: usize) -> Result<
 impl Look for IoBuf {
     type Cfg = RangeCfg;
 
-    ghost use Rattle.iobufs_core.specs.Ranges.{in_range};
-    ghost use Rattle.iobufs_values.specs.Forms.{bytes_form};
-    ghost use Rattle.std.proofs.Common.{ap};
-
     ghost is_found = { IsMadeThere (λ view made. made ≡ view) };
 
     ghost is_fault = { λ text skip range fault. IsCodecFault (IsViewFault (behind text skip) range) fault };
@@ -90,16 +89,11 @@ impl Look for IoBuf {
 impl Look for Bytes {
     type Cfg = RangeCfg;
 
-    ghost use Rattle.iobufs_core.specs.Ranges.{in_range};
-    ghost use Rattle.iobufs_values.specs.Forms.{bytes_form};
-
     ghost is_found = { IsMadeThere (λ view made. made ≡ view.bytes) };
 
     ghost is_fault = { λ text skip range fault. IsCodecFault (IsViewFault (behind text skip) range) fault };
 
     ghost admits = { λ range bytes. (length bytes < 2 ^ 64) × (in_range range (length bytes) ≡ true) };
-
-    ghost same = { λ x y. x ≡ y };
 
     /// Cannot fail with `Error::Memory` if the bytes are static.
     fn look<B: Peek>(
@@ -124,15 +118,11 @@ impl Look for Bytes {
 impl<const N: usize> Look for [u8; N] {
     type Cfg = ();
 
-    ghost use Rattle.iobufs_values.specs.Forms.{array_form};
-
     ghost is_found = { λ text skip _ bytes. (length bytes ≡ N) × (take N (drop skip text.bytes) ≡ bytes) };
 
     ghost is_fault = { λ text skip _ fault. IsCodecFault (IsShortThere text skip N) fault };
 
     ghost admits = { λ _ bytes. length bytes ≡ N };
-
-    ghost same = { λ x y. x ≡ y };
 
     fn look<B: Peek>(
         _alloc: Global,

@@ -1,20 +1,6 @@
 -- How puts and pushes change the fields of a builder.
-use Rattle.std.proofs.Common.{◌≡◌, ℕ, ◌+◌, ◌-◌, ◌^◌, ◌<◌, ◌≤◌, List, [], ◌∷◌, ◌++◌, length, take, drop, refl, sym, ap, ◌∙◌, arith, append_assoc, length-append, length-drop, length-take, take_all, zero, suc}
-use Rattle.std.proofs.Common.{subst}
-use Rattle.std.proofs.lemmas.Bool.Decides.{nat_tests}
-use Rattle.std.proofs.lemmas.Grind.{common_steps}
-use Rattle.std.proofs.lemmas.List.{drop-drop, length-replicate, take-append-le, drop-append-le, drop_all}
-use Rattle.iobufs_core.proofs.LayoutLaws.{good_layout, large_layout}
-use Rattle.iobufs_core.specs.View.{View, view_of_bytes}
-use Rattle.iobufs_core.specs.Items.{PutOrPush, push_item, items_inline, items_pushed}
-use Rattle.iobufs_core.specs.Part.{Part, empty_part, part_put, part_capacity}
-use Rattle.iobufs.specs.Building.{Building, AreInTurn, IsBuilding, building_items, inline_run, empty_building, building_put, building_push, building_room, room_for_pushes}
-use Rattle.iobufs.specs.Laws.Building.{items_inline-append, items_pushed-append, run-inline, run-pushed, push-some}
-use Rattle.iobufs.specs.Inside.Gaps.{AreSegments, gaps_len, segments_pushed, stood_len}
-use Rattle.iobufs.specs.Inside.Pushes.{items_front, building_from}
-use Rattle.iobufs.specs.Inside.RowValues.{Segment, gap, standing}
-use Rattle.iobufs.proofs.Building.GapLaws.{gaps-push, stood-push, segments-push}
-use Rattle.iobufs.proofs.Text.Sides.{not_zero}
+use Rattle.iobufs.proofs.Text.{AreInTurn, AreSegments, Building, IsBuilding, List, Part, PutOrPush, Segment, View, [], ap, append_assoc, arith, building_from, building_items, building_push, building_put, building_room, common_steps, drop, drop-append-le, drop-drop, drop_all, empty_building, empty_part, gap, gaps_len, good_layout, inline_run, items_front, items_inline, items_inline-append, items_pushed, items_pushed-append, large_layout, length, length-append, length-drop, length-replicate, length-take, nat_tests, not_zero, part_capacity, part_put, push-some, push_item, refl, room_for_pushes, run-inline, run-pushed, segments_pushed, standing, stood_len, subst, suc, sym, take, take-append-le, take_all, view_of_bytes, zero, ℕ, ◌++◌, ◌+◌, ◌-◌, ◌<◌, ◌^◌, ◌∙◌, ◌∷◌, ◌≡◌, ◌≤◌}
+use Rattle.iobufs.proofs.Building.GapLaws.{gaps-push, segments-push, stood-push}
 
 -- bytes after the gaps change nothing before them
 front-put : (bytes more : List ℕ) (ss : List Segment) → gaps_len ss ≤ length bytes → items_front (bytes ++ more) ss ≡ items_front bytes ss
@@ -23,9 +9,7 @@ front-put bytes more (standing view ∷ ss) fits = ap (λ items. push_item view 
 front-put bytes more (gap n ∷ ss) fits =
     let d = length-drop n bytes in
     let inside : n ≤ length bytes = omega arith in
-    ap (λ run. inline_run run ++ items_front (drop n (bytes ++ more)) ss) (take-append-le n bytes more inside)
-    ∙ ap (λ rest. inline_run (take n bytes) ++ items_front rest ss) (drop-append-le n bytes more inside)
-    ∙ ap (λ items. inline_run (take n bytes) ++ items) (front-put (drop n bytes) more ss (omega arith))
+    cc (take-append-le n bytes more inside, drop-append-le n bytes more inside, front-put (drop n bytes) more ss (omega arith))
 
 front-inline : (bytes : List ℕ) (ss : List Segment) → gaps_len ss ≤ length bytes → items_inline (items_front bytes ss) ≡ gaps_len ss
 front-inline bytes [] fits = refl
@@ -42,10 +26,7 @@ front-pushed : (bytes : List ℕ) (ss : List Segment) → items_pushed (items_fr
 front-pushed bytes [] = refl
 front-pushed bytes (standing view ∷ ss) = let ih = front-pushed bytes ss in omega arith
 front-pushed bytes (gap n ∷ ss) =
-    let ih = front-pushed (drop n bytes) ss in
-    let r = run-pushed (take n bytes) in
-    let a = items_pushed-append (inline_run (take n bytes)) (items_front (drop n bytes) ss) in
-    omega arith
+    omega (arith, front-pushed (drop n bytes) ss, run-pushed (take n bytes), items_pushed-append (inline_run (take n bytes)) (items_front (drop n bytes) ss))
 
 -- segments after others get the bytes that no gap had
 front-append : (bytes : List ℕ) (ss ts : List Segment) → items_front bytes (ss ++ ts) ≡ items_front bytes ss ++ items_front (drop (gaps_len ss) bytes) ts
@@ -54,9 +35,7 @@ front-append bytes (standing view ∷ ss) ts =
     let same : gaps_len ss ≡ 0 + gaps_len ss = omega arith in
     ap (λ items. push_item view ∷ items) (front-append bytes ss ts) ∙ ap (λ n. push_item view ∷ items_front bytes ss ++ items_front (drop n bytes) ts) same
 front-append bytes (gap n ∷ ss) ts =
-    ap (λ items. inline_run (take n bytes) ++ items) (front-append (drop n bytes) ss ts
-    ∙ ap (λ rest. items_front (drop n bytes) ss ++ items_front rest ts) (drop-drop (gaps_len ss) n bytes))
-    ∙ sym (append_assoc (inline_run (take n bytes)) (items_front (drop n bytes) ss) _)
+    cc (front-append (drop n bytes) ss ts, drop-drop (gaps_len ss) n bytes, append_assoc (inline_run (take n bytes)) (items_front (drop n bytes) ss) _)
 
 front-pushed_segments : (bytes : List ℕ) (run : ℕ) (view : View)
     → items_front bytes (segments_pushed run view) ≡ inline_run (take run bytes) ++ push_item view ∷ []
@@ -70,30 +49,22 @@ new-building capacity =
 pub put-building : (part : Part) (ss : List Segment) (placed : ℕ) (bytes : List ℕ) → gaps_len ss ≡ placed → placed ≤ length part.filled
     → length bytes ≤ part.spare → building_from (part_put part bytes) ss placed ≡ building_put (building_from part ss placed) bytes
 put-building part ss placed bytes counted within fits =
-    let n = length-append part.filled bytes in
-    let capacity : part_capacity (part_put part bytes) ≡ part_capacity part = omega arith in
-    let front = front-put part.filled bytes ss (omega arith) in
-    let last = drop-append-le placed part.filled bytes within in
-    ap (λ c. record { capacity = c; front = items_front (part.filled ++ bytes) ss; last = drop placed (part.filled ++ bytes) }) capacity
-    ∙ ap (λ f. record { capacity = part_capacity part; front = f; last = drop placed (part.filled ++ bytes) }) front
-    ∙ ap (λ l. record { capacity = part_capacity part; front = items_front part.filled ss; last = l }) last
+    let capacity : part_capacity (part_put part bytes) ≡ part_capacity part = omega (arith, length-append part.filled bytes) in
+    cc (front-put part.filled bytes ss (omega arith), drop-append-le placed part.filled bytes within)
 
 pub push-building : (part : Part) (ss : List Segment) (placed run : ℕ) (view : View) → gaps_len ss ≡ placed → placed ≤ length part.filled
     → run ≡ length part.filled - placed → 0 < length view.bytes
     → building_from part (ss ++ segments_pushed run view) (placed + run) ≡ building_push (building_from part ss placed) view
 push-building part ss placed run view counted within is some =
     let d = length-drop placed part.filled in
-    let all = take_all run (drop placed part.filled) (omega arith) in
     let before = items_front part.filled ss in
     let front =
     front-append part.filled ss (segments_pushed run view)
     ∙ ap (λ items. before ++ items) (front-pushed_segments (drop (gaps_len ss) part.filled) run view)
     ∙ ap (λ n. before ++ (inline_run (take run (drop n part.filled)) ++ push_item view ∷ [])) counted
-    ∙ ap (λ bytes. before ++ (inline_run bytes ++ push_item view ∷ [])) all in
+    ∙ ap (λ bytes. before ++ (inline_run bytes ++ push_item view ∷ [])) (take_all run (drop placed part.filled) (omega arith)) in
     let last = drop_all (placed + run) part.filled (omega arith) in
-    ap (λ f. record { capacity = part_capacity part; front = f; last = drop (placed + run) part.filled }) front
-    ∙ ap (λ l. record { capacity = part_capacity part; front = before ++ (inline_run (drop placed part.filled) ++ push_item view ∷ []); last = l }) last
-    ∙ sym (push-some (building_from part ss placed) view some)
+    cc (push-some (building_from part ss placed) view some)
 
 pub room-building : (part : Part) (ss : List Segment) (placed : ℕ) → gaps_len ss ≡ placed → placed ≤ length part.filled
     → building_room (building_from part ss placed) ≡ part.spare
@@ -115,8 +86,7 @@ inline-building part ss placed counted within =
 pub pushes-building : (part : Part) (ss : List Segment) (placed pushable : ℕ) → part_capacity part + stood_len ss + pushable + 1 ≡ 2 ^ 64
     → room_for_pushes (building_from part ss placed) ≡ pushable
 pushes-building part ss placed pushable limited =
-    let n = front-pushed part.filled ss in
-    omega arith
+    omega (arith, front-pushed part.filled ss)
 
 pub put-capacity : (part : Part) (bytes : List ℕ) → length bytes ≤ part.spare → part_capacity (part_put part bytes) ≡ part_capacity part
 put-capacity part bytes fits = let n = length-append part.filled bytes in omega arith
@@ -125,21 +95,13 @@ put-capacity part bytes fits = let n = length-append part.filled bytes in omega 
 pub put-kept : (part after : Part) (ss : List Segment) (placed : ℕ) (b : Building) (bytes : List ℕ) → gaps_len ss ≡ placed → placed ≤ length part.filled
     → building_from part ss placed ≡ b → length bytes ≤ building_room b → after ≡ part_put part bytes → building_from after ss placed ≡ building_put b bytes
 put-kept part after ss placed b bytes counted within is fits put =
-    let room = room-building part ss placed counted within in
-    let same = ap building_room is in
-    ap (λ (p : Part). building_from p ss placed) put
-    ∙ put-building part ss placed bytes counted within (omega arith)
-    ∙ ap (λ (x : Building). building_put x bytes) is
+    cc (put-building part ss placed bytes counted within (omega (arith, room-building part ss placed counted within, ap building_room is)))
 
 -- a push keeps that the fields read as the builder
 pub push-kept : (part : Part) (ss after : List Segment) (placed end : ℕ) (b : Building) (run : ℕ) (view : View) → gaps_len ss ≡ placed
     → placed ≤ length part.filled → building_from part ss placed ≡ b → run ≡ length part.filled - placed → 0 < length view.bytes
     → after ≡ ss ++ segments_pushed run view → end ≡ placed + run → building_from part after end ≡ building_push b view
-push-kept part ss after placed end b run view counted within is run_is some pushed moved =
-    ap (λ (all : List Segment). building_from part all end) pushed
-    ∙ ap (λ n. building_from part (ss ++ segments_pushed run view) n) moved
-    ∙ push-building part ss placed run view counted within run_is some
-    ∙ ap (λ (x : Building). building_push x view) is
+push-kept part ss after placed end b run view counted within is run_is some pushed moved = cc (push-building part ss placed run view counted within run_is some)
 
 -- how many bytes pushes may still add
 pub pushes-kept : (part : Part) (ss : List Segment) (placed pushable : ℕ) (b : Building) → part_capacity part + stood_len ss + pushable + 1 ≡ 2 ^ 64

@@ -1,56 +1,28 @@
 -- The pieces that a builder finishes to.
-use Rattle.std.proofs.Common.{◌≡◌, ℕ, ◌+◌, ◌-◌, ◌^◌, ◌<◌, ◌≤◌, ◌==◌, if◌then◌else◌, List, [], ◌∷◌, ◌++◌, length, take, drop, refl, sym, ap, ◌∙◌, arith, append_assoc, length-append, length-drop, length-take, take_all, ⊎_elim}
-use Rattle.std.proofs.lemmas.Bool.{cases_lt}
-use Rattle.std.proofs.lemmas.Bool.Decides.{nat_tests}
-use Rattle.std.proofs.lemmas.Grind.{common_steps}
-use Rattle.std.proofs.lemmas.List.{drop-drop, nil_from_length}
-use Rattle.iobufs_core.specs.View.{View, default_view, native_mark, view_rest, view_split_front}
-use Rattle.iobufs_core.specs.MarkedText.{joined}
-use Rattle.iobufs_core.specs.Items.{PutOrPush, put_item, push_item, items_bytes, items_inline, items_pushed}
-use Rattle.iobufs_core.specs.Part.{Part, part_frozen, part_capacity}
-use Rattle.iobufs.specs.Building.{Building, building_bytes, building_items, building_put, building_push, building_after, empty_building, inline_run, room_for_pushes, views_from, finished}
-use Rattle.iobufs.specs.Laws.Building.{bytes-built, items_bytes-append, push-none, put_nothing, run-bytes}
-use Rattle.iobufs.specs.Inside.Pieces.{pieces_bytes}
-use Rattle.iobufs.proofs.Text.Sides.{not_zero}
-use Rattle.iobufs.proofs.Joined.{bytes-joined}
-use Rattle.iobufs.specs.Inside.Gaps.{AreSegments, filled, gaps_len}
-use Rattle.iobufs.specs.Inside.Pushes.{items_front, building_from}
-use Rattle.iobufs.specs.Inside.RowValues.{Segment, gap, standing}
+use Rattle.iobufs.proofs.Text.{AreSegments, Building, List, Part, PutOrPush, Segment, View, [], ap, append_assoc, arith, building_after, building_bytes, building_from, building_items, building_push, building_put, by_lt, common_steps, default_view, drop, drop-drop, empty_building, filled, finished, gap, gaps_len, if◌then◌else◌, inline_run, items_bytes, items_bytes-append, items_front, items_inline, items_pushed, joined, length, length-append, length-drop, length-take, nat_tests, native_mark, nil_from_length, not_zero, part_capacity, part_frozen, pieces_bytes, push-none, push_item, put_item, put_nothing, refl, room_for_pushes, run-bytes, standing, sym, take, take_all, view_rest, view_split_front, views_from, ℕ, ◌++◌, ◌+◌, ◌-◌, ◌<◌, ◌==◌, ◌^◌, ◌∙◌, ◌∷◌, ◌≡◌, ◌≤◌}
+use Rattle.iobufs.proofs.Building.AddLaws.{len-append}
 use Rattle.iobufs.proofs.Building.GapLaws.{segments-first}
-use Rattle.iobufs.proofs.Parts.Frozen.{len-append}
+use Rattle.iobufs.proofs.Joined.{bytes-joined}
 
 -- inline bytes as a view
 abbrev pub inline_view : ℕ → List ℕ → View
 inline_view room bytes = if length bytes == 0 then default_view else record { bytes = bytes; mark = native_mark room }
 
-abbrev pub run_views : ℕ → List ℕ → List View
-run_views room [] = []
-run_views room (byte ∷ bytes) = record { bytes = byte ∷ bytes; mark = native_mark room } ∷ []
-
-run_views-some : (room : ℕ) (bytes : List ℕ) → 0 < length bytes → run_views room bytes ≡ record { bytes = bytes; mark = native_mark room } ∷ []
-run_views-some room [] some = absurd (omega arith)
-run_views-some room (b ∷ bs) some = refl
-
 inline-some : (room : ℕ) (bytes : List ℕ) → 0 < length bytes → inline_view room bytes ≡ record { bytes = bytes; mark = native_mark room }
 inline-some room bytes some = grind (arith, nat_tests, common_steps)
 
-inline-none : (room : ℕ) (bytes : List ℕ) → length bytes ≡ 0 → inline_view room bytes ≡ default_view
-inline-none room bytes none = grind (arith, nat_tests, common_steps)
-
-views-run : (room : ℕ) (bytes : List ℕ) (items : List PutOrPush)
-    → views_from room (inline_run bytes ++ items) ≡ run_views room bytes ++ views_from (room - length bytes) items
-views-run room [] items = let n : room ≡ room - 0 = omega arith in ap (λ r. views_from r items) n
-views-run room (b ∷ bs) items = refl
+views-some : (room : ℕ) (bytes : List ℕ) (items : List PutOrPush) → 0 < length bytes
+    → views_from room (inline_run bytes ++ items) ≡ record { bytes = bytes; mark = native_mark room } ∷ views_from (room - length bytes) items
+views-some room [] items some = absurd (omega arith)
+views-some room (b ∷ bs) items some = refl
 
 -- the front of inline bytes, and what is left of them
 split-some : (room : ℕ) (bytes : List ℕ) (n : ℕ) → 0 < n → n ≤ length bytes
     → view_split_front (inline_view room bytes) n ≡ record { bytes = take n bytes; mark = native_mark room }
 split-some room bytes n some fits =
     ap (λ (v : View). view_split_front v n) (inline-some room bytes (omega arith))
-    ∙ ⊎_elim
-    (λ (h : n < length bytes). grind (arith, nat_tests, common_steps))
-    (λ (h : length bytes ≤ n). let all = take_all n bytes h in let e : n ≡ length bytes = omega arith in rw all (grind (arith, nat_tests, common_steps)))
-    (cases_lt n (length bytes))
+    ∙ by_lt n (length bytes) (λ h. grind (arith, nat_tests, common_steps))
+    (λ h. let all = take_all n bytes h in let e : n ≡ length bytes = omega arith in rw all (grind (arith, nat_tests, common_steps)))
 
 rest-inside : (room : ℕ) (bytes : List ℕ) (n : ℕ) → 0 < n → n < length bytes
     → view_rest (record { bytes = bytes; mark = native_mark room }) n ≡ record { bytes = drop n bytes; mark = native_mark (room - n) }
@@ -61,19 +33,15 @@ rest-whole room bytes n some whole = grind (arith, nat_tests, common_steps)
 
 rest-inline : (room : ℕ) (bytes : List ℕ) (n : ℕ) → n ≤ length bytes → view_rest (inline_view room bytes) n ≡ inline_view (room - n) (drop n bytes)
 rest-inline room bytes n fits =
-    ⊎_elim
-    (λ (some : 0 < n).
+    by_lt 0 n (λ some.
     let d = length-drop n bytes in
     ap (λ (v : View). view_rest v n) (inline-some room bytes (omega arith))
-    ∙ ⊎_elim
-    (λ (h : n < length bytes). rest-inside room bytes n some h ∙ sym (inline-some (room - n) (drop n bytes) (omega arith)))
-    (λ (h : length bytes ≤ n). rest-whole room bytes n some (omega arith) ∙ sym (inline-none (room - n) (drop n bytes) (omega arith)))
-    (cases_lt n (length bytes)))
-    (λ (h : n ≤ 0).
+    ∙ by_lt n (length bytes) (λ h. rest-inside room bytes n some h ∙ sym (inline-some (room - n) (drop n bytes) (omega arith)))
+    (λ h. rest-whole room bytes n some (omega arith) ∙ sym (grind (arith, nat_tests, common_steps))))
+    (λ h.
     let none : n ≡ 0 = omega arith in
     let same : room ≡ room - 0 = omega arith in
     rw none (ap (λ r. inline_view r bytes) same))
-    (cases_lt 0 n)
 
 last-views : (room : ℕ) (bytes : List ℕ) → filled (inline_view room bytes) [] ≡ views_from room (inline_run bytes)
 last-views room [] = refl
@@ -87,8 +55,7 @@ filled-views : (room : ℕ) (bytes : List ℕ) (ss : List Segment) → AreSegmen
 filled-views room bytes [] segments fits = last-views room bytes
 filled-views room bytes (standing view ∷ ss) segments fits =
     let same : gaps_len ss ≡ 0 + gaps_len ss = omega arith in
-    ap (λ vs. view ∷ vs) (filled-views room bytes ss segments.1 (omega arith))
-    ∙ ap (λ n. view ∷ views_from room (items_front bytes ss ++ inline_run (drop n bytes))) same
+    cc (filled-views room bytes ss segments.1 (omega arith))
 filled-views room bytes (gap n ∷ ss) segments fits =
     let first = segments-first (gap n) ss segments in
     let some : 0 < n = omega (arith, first.0) in
@@ -99,9 +66,7 @@ filled-views room bytes (gap n ∷ ss) segments fits =
     let len : length w ≡ n = (let t = length-take n bytes in omega arith) in
     let items = items_front left ss ++ inline_run (drop (gaps_len ss) left) in
     let run : record { bytes = w; mark = native_mark room } ∷ views_from (room - n) items ≡ views_from room (inline_run w ++ items) =
-    ap (λ k. record { bytes = w; mark = native_mark room } ∷ views_from (room - k) items) (sym len)
-    ∙ ap (λ vs. vs ++ views_from (room - length w) items) (sym (run_views-some room w (omega arith)))
-    ∙ sym (views-run room w items) in
+    ap (λ k. record { bytes = w; mark = native_mark room } ∷ views_from (room - k) items) (sym len) ∙ sym (views-some room w items (omega arith)) in
     ap (λ (v : View). v ∷ filled (view_rest (inline_view room bytes) n) ss) (split-some room bytes n some inside)
     ∙ ap (λ (v : View). record { bytes = w; mark = native_mark room } ∷ filled v ss) (rest-inline room bytes n inside)
     ∙ ap (λ vs. record { bytes = w; mark = native_mark room } ∷ vs) (filled-views (room - n) left ss first.1 (omega arith))
@@ -112,9 +77,7 @@ filled-views room bytes (gap n ∷ ss) segments fits =
 -- so they make what the builder says
 pub finished-views : (part : Part) (ss : List Segment) (placed : ℕ) → AreSegments ss → gaps_len ss ≡ placed → placed ≤ length part.filled
     → joined (filled (part_frozen part) ss) ≡ finished (building_from part ss placed)
-finished-views part ss placed segments counted within =
-    ap joined (filled-views (part_capacity part) part.filled ss segments (omega arith))
-    ∙ ap (λ n. joined (views_from (part_capacity part) (items_front part.filled ss ++ inline_run (drop n part.filled)))) counted
+finished-views part ss placed segments counted within = cc (filled-views (part_capacity part) part.filled ss segments (omega arith))
 
 inline-bytes : (room : ℕ) (bytes : List ℕ) → (inline_view room bytes).bytes ≡ bytes
 inline-bytes room [] = refl
@@ -137,10 +100,6 @@ finished-bytes b =
     ∙ items_bytes-append b.front (inline_run b.last)
     ∙ ap (λ more. items_bytes b.front ++ more) (run-bytes b.last)
 
--- a new builder finishes to the bytes of the items that it was given, whatever its capacity
-pub encoded-bytes : (capacity : ℕ) (items : List PutOrPush) → (finished (building_after (empty_building capacity) items)).bytes ≡ items_bytes items
-encoded-bytes capacity items = finished-bytes (building_after (empty_building capacity) items) ∙ bytes-built (empty_building capacity) items
-
 -- the bytes of items are as many as those that are put and those that are pushed
 pub items-len : (items : List PutOrPush) → length (items_bytes items) ≡ items_inline items + items_pushed items
 items-len [] = omega arith
@@ -159,9 +118,7 @@ built-nothing : (b : Building) (items : List PutOrPush) → length (items_bytes 
 built-nothing b [] none = refl
 built-nothing b (put_item bytes ∷ items) none =
     let n = length-append bytes (items_bytes items) in
-    built-nothing (building_put b bytes) items (omega arith)
-    ∙ ap (λ w. building_put b w) (nil_from_length bytes (omega arith))
-    ∙ sym (put_nothing b).1
+    cc (built-nothing (building_put b bytes) items (omega arith), nil_from_length bytes (omega arith), (put_nothing b).1)
 built-nothing b (push_item view ∷ items) none =
     let n = length-append view.bytes (items_bytes items) in
     built-nothing (building_push b view) items (omega arith) ∙ push-none b view (omega arith)

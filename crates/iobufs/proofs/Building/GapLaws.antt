@@ -1,17 +1,6 @@
 -- A row in the making, and how its gaps are filled.
-use Rattle.std.proofs.Common.{◌≡◌, ℕ, ◌+◌, ◌^◌, ◌<◌, ◌≤◌, ◌==◌, if◌then◌else◌, List, [], ◌∷◌, ◌++◌, length, take, drop, zero, suc, refl, sym, ap, ◌∙◌, arith, append_assoc, append-nil, length-append, subst, ⊎_elim, slice_set, slice_index_or, drop-cons}
-use Rattle.std.proofs.lemmas.Bool.{cases_lt}
-use Rattle.std.proofs.lemmas.List.{take_more_set, drop-set-lt}
-use Rattle.std.proofs.lemmas.List.Concat.{flat_map-append}
-use Rattle.iobufs_core.specs.View.{View, IsView}
-use Rattle.iobufs.specs.Inside.Ends.{views_in, IsRow}
-use Rattle.iobufs.specs.Inside.Gaps.{AreSegments, filled, gap_len, gaps_len, segment_len, segment_of, segments_in, segments_pushed, stood_len}
-use Rattle.iobufs.specs.Inside.Pieces.{AreViews, pieces_bytes, view_len}
-use Rattle.iobufs.specs.Inside.RowValues.{Segment, gap, standing}
-use Rattle.iobufs.specs.declared.bufs.row.Piece.{Piece}
-use Rattle.iobufs.proofs.Text.EndLaws.{row-push, views-push}
-use Rattle.iobufs.proofs.Text.KeptLaws.{AreViews-append}
-use Rattle.iobufs.proofs.Text.Sides.{not_zero, same_eq}
+use Rattle.iobufs.proofs.Text.{AreSegments, AreViews, AreViews-append, IsRow, IsView, List, Piece, Segment, View, [], ap, append-nil, append_assoc, arith, drop, drop-cons, drop-set-lt, eq-eqb, filled, flat_map-append, gap, gap_len, gaps_len, if◌then◌else◌, length, length-append, not_zero, pieces_bytes, refl, row-push, segment_len, segment_of, segments_in, segments_pushed, slice_index_or, slice_set, standing, stood_len, subst, suc, sym, take, take_more_set, view_len, views-popped, views_in, zero, ℕ, ◌++◌, ◌+◌, ◌<◌, ◌==◌, ◌^◌, ◌∙◌, ◌∷◌, ◌≡◌, ◌≤◌}
+use Rattle.iobufs.proofs.Building.AddLaws.{added-by}
 
 -- the first segment is not empty, nor are the others
 pub segments-first : (s : Segment) (ss : List Segment) → AreSegments (s ∷ ss) → (0 < segment_len s) × AreSegments ss
@@ -90,7 +79,7 @@ filling-next all done next waiting p q rest left end after h fill len less moved
     let old = h.ends in
     let within = h.within in
     let fits = h.fits in
-    let views : views_in next ≡ views_in done ++ q.view ∷ [] = ap (λ (ps : List Piece). views_in ps) is ∙ views-push done q in
+    let views = views-popped next done q is in
     let bytes = ap (λ (vs : List View). length (pieces_bytes vs)) views
     ∙ ap length (flat_map-append (λ (v : View). v.bytes) (views_in done) (q.view ∷ []))
     ∙ length-append (pieces_bytes (views_in done)) (q.view.bytes ++ []) in
@@ -99,12 +88,18 @@ filling-next all done next waiting p q rest left end after h fill len less moved
       row = row-push 0 q.end done next q.view h.row (omega (arith, first.0)) (omega arith) (omega arith) is;
       roomy = subst AreViews (sym views) (AreViews-append (views_in done) (q.view ∷ []) h.roomy (view, tt));
       ends = omega arith;
-      so_far = ap (λ vs. vs ++ filled left (segments_in waiting)) views ∙ append_assoc (views_in done) (q.view ∷ []) (filled left (segments_in waiting))
-          ∙ ap (λ vs. views_in done ++ vs) (sym (fill (segments_in waiting))) ∙ h.so_far;
+      so_far = cc (append_assoc (views_in done) (q.view ∷ []) (filled left (segments_in waiting)), fill (segments_in waiting), h.so_far);
       segments = first.1;
       within = omega arith;
       fits = omega arith;
     }
+
+-- the piece at the index waits first
+filling-here : (all : List View) (ps : List Piece) (i : ℕ) (p : Piece) (rest : View) (end : ℕ) → i < length ps → p ≡ slice_index_or ps i p
+    → IsFilling all (take i ps) (drop i ps) rest end → IsFilling all (take i ps) (p ∷ drop (i + 1) ps) rest end
+filling-here all ps i p rest end inside at h =
+    let next : suc i ≡ i + 1 = omega arith in
+    subst (λ (w : List Piece). IsFilling all (take i ps) w rest end) (drop-cons ps i p inside ∙ (λ k. sym at k ∷ drop (next k) ps)) h
 
 -- filling a gap of a deque, at the index of a loop that counts up
 pub filling-set : (all : List View) (ps : List Piece) (i : ℕ) (p q : Piece) (rest left : View) (end after : ℕ) → i < length ps
@@ -114,33 +109,22 @@ pub filling-set : (all : List View) (ps : List Piece) (i : ℕ) (p q : Piece) (r
     → after ≡ end + view_len q.view → q.end ≡ after → IsView q.view
     → IsFilling all (take (i + 1) (slice_set ps i q)) (drop (i + 1) (slice_set ps i q)) left after
 filling-set all ps i p q rest left end after inside at h fill len less moved ends view =
-    let next : suc i ≡ i + 1 = omega arith in
-    let behind : drop i ps ≡ p ∷ drop (i + 1) ps = drop-cons ps i p inside ∙ (λ k. sym at k ∷ drop (next k) ps) in
-    let same = drop-set-lt (i + 1) ps i q (omega arith) in
-    subst (λ (w : List Piece). IsFilling all (take (i + 1) (slice_set ps i q)) w left after) (sym same) (
-    filling-next all (take i ps) (take (i + 1) (slice_set ps i q)) (drop (i + 1) ps) p q rest left end after
-    (subst (λ (w : List Piece). IsFilling all (take i ps) w rest end) behind h)
+    subst (λ (w : List Piece). IsFilling all (take (i + 1) (slice_set ps i q)) w left after) (sym (drop-set-lt (i + 1) ps i q (omega arith))) (
+    filling-next all (take i ps) (take (i + 1) (slice_set ps i q)) (drop (i + 1) ps) p q rest left end after (filling-here all ps i p rest end inside at h)
     fill len less moved ends view (take_more_set ps i q inside))
 
 -- the inline bytes that are left suffice for the gap of the next chunk, and the chunk ends below 2 ^ 64
 pub filling-first : (all : List View) (ps : List Piece) (i : ℕ) (p : Piece) (rest : View) (end : ℕ) → i < length ps → p ≡ slice_index_or ps i p
     → IsFilling all (take i ps) (drop i ps) rest end → (gap_len (segment_of p) ≤ length rest.bytes) × (end + segment_len (segment_of p) < 2 ^ 64)
 filling-first all ps i p rest end inside at h =
-    let next : suc i ≡ i + 1 = omega arith in
-    let behind : drop i ps ≡ p ∷ drop (i + 1) ps = drop-cons ps i p inside ∙ (λ k. sym at k ∷ drop (next k) ps) in
-    let g = subst (λ (w : List Piece). IsFilling all (take i ps) w rest end) behind h in
-    let within = g.within in
-    let fits = g.fits in (omega arith, omega arith)
+    let g = filling-here all ps i p rest end inside at h in (omega (arith, g.within), omega (arith, g.fits))
 
 -- after the last gap is filled, the bytes that are left follow as the last chunk, if there are any
 pub filled-last : (all vs ws : List View) (rest : View) → vs ++ filled rest [] ≡ all → ws ≡ (if length rest.bytes == 0 then vs else vs ++ rest ∷ []) → ws ≡ all
 filled-last all vs ws rest so_far is =
-    ⊎_elim
-    (λ (h : 0 < length rest.bytes).
+    added-by vs ws rest is (λ h e.
     let last : filled rest [] ≡ rest ∷ [] = rw (not_zero (length rest.bytes) h) refl in
-    is ∙ rw (not_zero (length rest.bytes) h) refl ∙ ap (λ xs. vs ++ xs) (sym last) ∙ so_far)
-    (λ (h : length rest.bytes ≤ 0).
-    let z = same_eq (length rest.bytes) 0 (omega arith) in
-    let last : filled rest [] ≡ [] = rw z refl in
-    is ∙ rw z refl ∙ sym (append-nil vs) ∙ ap (λ xs. vs ++ xs) (sym last) ∙ so_far)
-    (cases_lt 0 (length rest.bytes))
+    e ∙ ap (λ xs. vs ++ xs) (sym last) ∙ so_far)
+    (λ h e.
+    let last : filled rest [] ≡ [] = rw (eq-eqb (length rest.bytes) 0 h) refl in
+    e ∙ sym (append-nil vs) ∙ ap (λ xs. vs ++ xs) (sym last) ∙ so_far)

@@ -1,10 +1,5 @@
 -- The buffer that several coalesce to, and bytes that are put into a buffer of exactly their length.
-use Rattle.std.proofs.Common.{◌≡◌, ℕ, None, List, [], ◌∷◌, length, refl, sym, arith}
-use Rattle.std.proofs.lemmas.Option.{none-some}
-use Rattle.iobufs_core.proofs.LayoutLaws.{bad_layout_one}
-use Rattle.iobufs_core.specs.Part.{Part, empty_part, part_put}
-use Rattle.iobufs.specs.Laws.Filling.{same_part}
-use Rattle.iobufs.specs.Parts.{parts_coalesced, parts_filled, single_part}
+use Rattle.iobufs.proofs.Text.{List, None, Part, [], arith, bad_layout_one, empty_part, length, none-some, part_put, parts_coalesced, parts_filled, refl, same_part, single_part, sym, ℕ, ◌∷◌, ◌≡◌}
 
 -- where no part is the only one, they become one of their bytes, with no room after them
 pub coalesced-several : (parts : List Part) → single_part parts ≡ None → parts_coalesced parts ≡ record { filled = parts_filled parts; spare = 0 }

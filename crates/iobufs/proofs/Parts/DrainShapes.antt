@@ -1,13 +1,5 @@
 -- The buffers that draining leaves, by the definitions: each without its share, and those that can hold a byte.
-use Rattle.std.proofs.Common.{◌≡◌, ℕ, ◌-◌, ◌<◌, ◌≤◌, List, [], ◌∷◌, ◌++◌, length, drop, refl, sym, ap, ◌∙◌, arith, length-append, length-drop, nat_eq, nat_lt}
-use Rattle.std.proofs.Math.Seq.{drop-nil}
-use Rattle.std.proofs.lemmas.Bool.{cond_both, cond-true, cond-false, eqb-true, ltb-true, ltb-false, lt-ltb, le-ltb}
-use Rattle.std.proofs.lemmas.List.{nil_from_length}
-use Rattle.std.proofs.lemmas.List.Elements.{filter-append}
-use Rattle.std.proofs.lemmas.List.Sums.{sum_by-cons}
-use Rattle.iobufs_core.specs.Part.{Part, part_capacity, part_drained}
-use Rattle.iobufs.specs.Laws.Filling.{same_part}
-use Rattle.iobufs.specs.Parts.{HaveCapacity, kept_parts, parts_capacity, parts_drained, parts_filled, parts_or_default, parts_shared_out, with_capacity}
+use Rattle.iobufs.proofs.Text.{HaveCapacity, List, Part, [], ap, arith, cond-false, cond-true, cond_both, drop, drop-nil, eqb-true, filter-append, kept_parts, le-ltb, length, length-append, length-drop, lt-ltb, ltb-false, ltb-true, nat_eq, nat_lt, nil_from_length, part_capacity, part_drained, parts_capacity, parts_drained, parts_filled, parts_shared_out, refl, same_part, sum_by-cons, sym, with_capacity, ℕ, ◌++◌, ◌-◌, ◌<◌, ◌∙◌, ◌∷◌, ◌≡◌, ◌≤◌}
 
 -- parts that can all hold a byte stay
 pub with_capacity-all : (parts : List Part) → HaveCapacity parts → with_capacity parts ≡ parts
@@ -21,8 +13,7 @@ pub shared_out-none : (parts : List Part) → parts_shared_out parts 0 ≡ parts
 shared_out-none [] = refl
 shared_out-none (p ∷ parts) =
     let none : 0 - length p.filled ≡ 0 = omega arith in
-    let ih = ap (parts_shared_out parts) none ∙ shared_out-none parts in
-    λ i. p ∷ ih i
+    λ i. p ∷ (ap (parts_shared_out parts) none ∙ shared_out-none parts) i
 
 -- with two or more that can all hold a byte, no bytes need no case of their own
 pub drained-several : (parts : List Part) (n : ℕ) → 1 < length parts → HaveCapacity parts → parts_drained parts n ≡ kept_parts (parts_shared_out parts n)
@@ -30,15 +21,13 @@ drained-several [] n several able = absurd (omega arith)
 drained-several (p ∷ []) n several able = absurd (omega arith)
 drained-several (p ∷ q ∷ parts) n several able =
     cond_both (nat_eq n 0) (p ∷ q ∷ parts) (kept_parts (parts_shared_out (p ∷ q ∷ parts) n)) (λ ps. ps ≡ kept_parts (parts_shared_out (p ∷ q ∷ parts) n))
-    (λ e. sym (ap (λ k. kept_parts (parts_shared_out (p ∷ q ∷ parts) k)) (eqb-true n 0 e) ∙ ap kept_parts (shared_out-none (p ∷ q ∷ parts))
-    ∙ ap parts_or_default (with_capacity-all (p ∷ q ∷ parts) able)))
+    (λ e. sym (cc (eqb-true n 0 e, shared_out-none (p ∷ q ∷ parts), with_capacity-all (p ∷ q ∷ parts) able)))
     (λ _. refl)
 
 -- less than the first part holds goes from it alone
 pub shared_out-first : (p : Part) (parts : List Part) (n : ℕ) → n < length p.filled → parts_shared_out (p ∷ parts) n ≡ part_drained p n ∷ parts
 shared_out-first p parts n less =
-    let none : n - length p.filled ≡ 0 = omega arith in
-    ap (λ ps. part_drained p n ∷ ps) (ap (parts_shared_out parts) none ∙ shared_out-none parts)
+    ap (λ ps. part_drained p n ∷ ps) (ap (parts_shared_out parts) (omega arith) ∙ shared_out-none parts)
 
 -- the parts that can hold a byte
 pub able-with_capacity : (parts : List Part) → HaveCapacity (with_capacity parts)
@@ -91,10 +80,8 @@ pub shared_out-behind : (empty parts : List Part) (n : ℕ) → length (parts_fi
 shared_out-behind [] parts n none = refl
 shared_out-behind (p ∷ empty) parts n none =
     let both = length-append p.filled (parts_filled empty) in
-    let same = drained-empty p n (omega (arith, both, none)) in
-    let left : n - length p.filled ≡ n = omega (arith, both, none) in
-    let rest = ap (parts_shared_out (empty ++ parts)) left ∙ shared_out-behind empty parts n (omega (arith, both, none)) in
-    λ i. same i ∷ rest i
+    let rest = ap (parts_shared_out (empty ++ parts)) (omega (arith, both, none)) ∙ shared_out-behind empty parts n (omega (arith, both, none)) in
+    λ i. (drained-empty p n (omega (arith, both, none))) i ∷ rest i
 
 -- all parts of two rows can hold a byte, and those of each
 pub able-both : (ps qs : List Part) → HaveCapacity ps → HaveCapacity qs → HaveCapacity (ps ++ qs)

@@ -1,10 +1,5 @@
 -- A row of parts whose bytes are dropped, part by part.
-use Rattle.std.proofs.Common.{◌≡◌, ℕ, ◌+◌, ◌-◌, ◌^◌, ◌<◌, ◌≤◌, List, [], ◌∷◌, ◌++◌, length, take, drop, refl, sym, subst, ap, ◌∙◌, arith, append_assoc, length-append, length-drop, take-append-drop, get_or}
-use Rattle.std.proofs.lemmas.List.{drop_all}
-use Rattle.std.proofs.lemmas.List.Sums.{sum_by_push}
-use Rattle.iobufs_core.specs.Part.{Part, empty_part, part_capacity, part_drained}
-use Rattle.iobufs.specs.Inside.PartOrder.{AreBehind, AreKept, HaveNoSpare, first_drained, in_order}
-use Rattle.iobufs.specs.Parts.{HaveCapacity, IsParts, kept_parts, parts_capacity, parts_drained, parts_filled, parts_or_default, parts_shared_out}
+use Rattle.iobufs.proofs.Text.{AreBehind, AreKept, HaveCapacity, HaveNoSpare, IsParts, List, Part, [], ap, append_assoc, arith, drop, drop_all, empty_part, first_drained, get_or, in_order, kept_parts, length, length-append, length-drop, part_capacity, part_drained, parts_capacity, parts_drained, parts_filled, parts_or_default, parts_shared_out, refl, subst, sum_by_push, sym, take, take-append-drop, ℕ, ◌++◌, ◌+◌, ◌-◌, ◌<◌, ◌^◌, ◌∙◌, ◌∷◌, ◌≡◌, ◌≤◌}
 use Rattle.iobufs.proofs.Parts.DrainShapes.{able-both, able-front, able-rest, capacity-shared_out, shared_out-behind, shared_out-first, shared_out-none, with_capacity-spent}
 use Rattle.iobufs.proofs.Parts.FewLaws.{drained-parts, kept-same, parts-kept}
 use Rattle.iobufs.proofs.Parts.FullLaws.{full-drained, full-push}
@@ -29,7 +24,6 @@ pub draining-begins : (row : List Part) (used n : ℕ) → AreBehind row used �
     → IsDraining row used n (parts_drained (in_order row used) n)
 draining-begins row used n behind parts some =
     let k = length row - used in
-    let all = ap (λ ps. length (parts_filled ps)) (take-append-drop k row) in
     record {
       others = take k row;
       behind = drop k row;
@@ -38,7 +32,7 @@ draining-begins row used n behind parts some =
       empty = behind.empty;
       one = parts.some;
       have_capacity = parts.have_capacity;
-      some = omega (arith, all, filled-length (take k row) (drop k row), behind.empty, some);
+      some = omega (arith, ap (λ ps. length (parts_filled ps)) (take-append-drop k row), filled-length (take k row) (drop k row), behind.empty, some);
       left_is = ap kept_parts (sym (shared_out-behind (drop k row) (take k row) n behind.empty)) ∙ sym (drained-parts (in_order row used) n parts);
     }
 
@@ -65,12 +59,9 @@ first_behind (p ∷ rest) behind n none less = (p, rest, refl)
 pub draining-stops : (row new : List Part) (used n : ℕ) (left : List Part) → IsDraining row used n left
     → n < length (get_or row 0 (empty_part 0)).filled → new ≡ first_drained row n → IsDraining new used 0 left
 draining-stops row new used n left d less drained =
-    let held = subst (λ (ps : List Part). n < length (get_or ps 0 (empty_part 0)).filled) d.row_is less in
-    let (p, rest, are) = first_behind d.others d.behind n d.empty held in
+    let (p, rest, are) = first_behind d.others d.behind n d.empty (subst (λ (ps : List Part). n < length (get_or ps 0 (empty_part 0)).filled) d.row_is less) in
     let row_is : row ≡ p ∷ (rest ++ d.behind) = d.row_is ∙ ap (λ ps. ps ++ d.behind) are in
     let inside : n < length p.filled = subst (λ (ps : List Part). n < length (get_or ps 0 (empty_part 0)).filled) row_is less in
-    let count = ap (λ (ps : List Part). length ps) are in
-    let ahead = length-append d.behind d.others in
     let after = length-append d.behind (part_drained p n ∷ rest) in
     record {
       others = part_drained p n ∷ rest;
@@ -80,12 +71,11 @@ draining-stops row new used n left d less drained =
       empty = d.empty;
       one = omega (arith, after);
       have_capacity = λ more.
-          let all = d.have_capacity (omega (arith, count, ahead, after, more)) in
+          let all = d.have_capacity (omega (arith, (ap (λ (ps : List Part). length ps) are), length-append d.behind d.others, after, more)) in
           let able = subst HaveCapacity are (able-rest d.behind d.others all) in
           able-both d.behind (part_drained p n ∷ rest) (able-front d.behind d.others all) (omega (arith, length-drop n p.filled), able.1);
       some = omega arith;
-      left_is = ap (λ ps. kept_parts (d.behind ++ ps))
-          (shared_out-none (part_drained p n ∷ rest) ∙ sym (shared_out-first p rest n inside) ∙ ap (λ ps. parts_shared_out ps n) (sym are)) ∙ d.left_is;
+      left_is = cc (shared_out-none (part_drained p n ∷ rest), shared_out-first p rest n inside, d.left_is);
     }
 
 -- the first buffer, of `len` bytes, is drained: it goes after the others
@@ -95,15 +85,11 @@ module _ (row rest : List Part) (p q : Part) (used n len : ℕ) (left : List Par
   first_is : (others : List Part) × (d.others ≡ p ∷ others) × (rest ≡ others ++ d.behind)
   first_is =
       let (r, others, are) = first_of d.others n more d.some in
-      let both : p ∷ rest ≡ r ∷ (others ++ d.behind) = sym front ∙ d.row_is ∙ ap (λ ps. ps ++ d.behind) are in
-      let same : p ≡ r = cc in
-      let tail : rest ≡ others ++ d.behind = cc in
-      (others, are ∙ ap (λ x. x ∷ others) (sym same), tail)
+      (others, are ∙ ap (λ x. x ∷ others) (sym (cc)), (cc))
 
   gone : q ≡ part_drained p n
   gone =
-      let none : drop len p.filled ≡ drop n p.filled = drop_all len p.filled (omega arith) ∙ sym (drop_all n p.filled (omega arith)) in
-      is ∙ (λ i. record { filled = none i; spare = p.spare })
+      is ∙ (λ i. record { filled = (drop_all len p.filled (omega arith) ∙ sym (drop_all n p.filled (omega arith))) i; spare = p.spare })
 
   shared : (others : List Part) → d.others ≡ p ∷ others → kept_parts (d.behind ++ q ∷ parts_shared_out others (n - len)) ≡ left
   shared others are =
@@ -123,9 +109,6 @@ module _ (row rest : List Part) (p q : Part) (used n len : ℕ) (left : List Par
       let (others, are, tail) = first_is in
       let none : length q.filled ≡ 0 = omega (arith, ap (λ (x : Part). length x.filled) is, length-drop len p.filled) in
       let count = ap (λ (ps : List Part). length ps) (last ∙ ap (λ ps. ps ++ q ∷ []) tail) in
-      let placed = length-append (others ++ d.behind) (q ∷ []) in
-      let both = length-append others d.behind in
-      let before = length-append d.behind (p ∷ others) in
       let ahead = length-append d.behind (q ∷ []) in
       let after = length-append (d.behind ++ q ∷ []) others in
       record {
@@ -136,8 +119,8 @@ module _ (row rest : List Part) (p q : Part) (used n len : ℕ) (left : List Par
         empty = omega (arith, filled-length d.behind (q ∷ []), length-append q.filled [], none, d.empty);
         one = omega (arith, ahead, after);
         have_capacity = λ more.
-            let all = able_all others are (omega (arith, before, ahead, after, more)) in
-            let last_able = able (omega (arith, count, placed, both, ahead, after, more)) in
+            let all = able_all others are (omega (arith, (length-append d.behind (p ∷ others)), ahead, after, more)) in
+            let last_able = able (omega (arith, count, (length-append (others ++ d.behind) (q ∷ [])), (length-append others d.behind), ahead, after, more)) in
             able-both (d.behind ++ q ∷ []) others (able-both d.behind (q ∷ []) (able-front d.behind (p ∷ others) all) (last_able, tt))
             (able-rest d.behind (p ∷ others) all).1;
         some = fewer others are;
@@ -148,9 +131,6 @@ module _ (row rest : List Part) (p q : Part) (used n len : ℕ) (left : List Par
   pub draining-spent : part_capacity q ≡ 0 → 0 < length rest → IsDraining rest used (n - len) left
   draining-spent none beside =
       let (others, are, tail) = first_is in
-      let count = ap (λ (ps : List Part). length ps) tail in
-      let both = length-append others d.behind in
-      let before = length-append d.behind (p ∷ others) in
       let after = length-append d.behind others in
       record {
         others = others;
@@ -158,37 +138,36 @@ module _ (row rest : List Part) (p q : Part) (used n len : ℕ) (left : List Par
         row_is = tail;
         used_is = d.used_is;
         empty = d.empty;
-        one = omega (arith, count, both, after, beside);
+        one = omega (arith, (ap (λ (ps : List Part). length ps) tail), (length-append others d.behind), after, beside);
         have_capacity = λ more.
-            let all = able_all others are (omega (arith, before, after, more)) in
+            let all = able_all others are (omega (arith, (length-append d.behind (p ∷ others)), after, more)) in
             able-both d.behind others (able-front d.behind (p ∷ others) all) (able-rest d.behind (p ∷ others) all).1;
         some = fewer others are;
         left_is = sym (ap parts_or_default (with_capacity-spent d.behind (parts_shared_out others (n - len)) q none)) ∙ shared others are;
       }
 
 -- the first part alone loses bytes
-pub shortened-row : (row new : List Part) (used n : ℕ) → AreBehind row used → IsParts (in_order row used) → n ≤ length (parts_filled row)
+pub shortened-row : (row new : List Part) (used n : ℕ) → AreBehind row used → IsParts (in_order row used) → n ≤ length (parts_filled (in_order row used))
     → n < length (get_or row 0 (empty_part 0)).filled → new ≡ first_drained row n
     → (in_order new used ≡ parts_drained (in_order row used) n) × AreBehind new used
 shortened-row row new used n behind parts some less drained =
-    draining-ends new used 0 _ refl (draining-stops row new used n _ (draining-begins row used n behind parts some) less drained)
+    let fits = ap length (filled-order row used behind) in
+    draining-ends new used 0 _ refl (draining-stops row new used n _ (draining-begins row used n behind parts (omega arith)) less drained)
 
 -- the buffers that draining leaves keep their invariant, with their sums
-pub kept-drained-row : (row new : List Part) (used behind n full still len capacity : ℕ) → AreKept row used full len capacity → n ≤ length (parts_filled row)
-    → in_order new behind ≡ parts_drained (in_order row used) n → AreBehind new behind → still ≡ full - (length row - length new)
-    → AreKept new behind still (len - n) (capacity - n)
+pub kept-drained-row : (row new : List Part) (used behind n full still len capacity : ℕ) → AreKept row used full len capacity
+    → n ≤ length (parts_filled (in_order row used)) → in_order new behind ≡ parts_drained (in_order row used) n → AreBehind new behind
+    → still ≡ full - (length row - length new) → AreKept new behind still (len - n) (capacity - n)
 kept-drained-row row new used behind n full still len capacity kept some is are still_is =
     let all = in_order row used in
-    let bytes = ap (λ (w : List ℕ). length w) (filled-order row used kept.behind) in
-    let left = is ∙ drained-parts all n kept.parts in
     let fits : parts_capacity (parts_shared_out all n) < 2 ^ 64 = omega (arith, capacity-shared_out all n, kept.parts.fits) in
     let count : still ≡ full - (length all - length (parts_drained all n)) =
     omega (arith, still_is, order-length row used, order-length new behind, ap (λ (ps : List Part). length ps) is) in
     record {
       behind = are;
       no_spare = subst (λ ps. HaveNoSpare still ps) (sym is) (full-drained still full n all kept.no_spare kept.parts count);
-      sums = summed-drained all (in_order new behind) n len capacity kept.sums (omega (arith, bytes, some)) is;
-      parts = subst IsParts (sym left) (parts-kept (parts_shared_out all n) fits);
+      sums = summed-drained all (in_order new behind) n len capacity kept.sums some is;
+      parts = subst IsParts (sym (is ∙ drained-parts all n kept.parts)) (parts-kept (parts_shared_out all n) fits);
     }
 
 -- a part that can hold a byte, put after two or more in order, is kept with their sums

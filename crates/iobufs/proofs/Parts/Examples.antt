@@ -1,9 +1,5 @@
 -- The rules of parts on examples with known answers.
-use Rattle.std.proofs.Common.{◌≡◌, ℕ, List, [], ◌∷◌, refl}
-use Rattle.iobufs_core.specs.MarkedText.{text_glue}
-use Rattle.iobufs_core.specs.View.{native_mark}
-use Rattle.iobufs_core.specs.Part.{Part, empty_part}
-use Rattle.iobufs.specs.Parts.{kept_parts, parts_coalesced, parts_drained, parts_fill, parts_frozen, parts_overwritten, parts_spare, parts_with_len}
+use Rattle.iobufs.proofs.Text.{List, Part, [], empty_part, kept_parts, native_mark, parts_coalesced, parts_drained, parts_fill, parts_frozen, parts_overwritten, parts_spare, parts_with_len, refl, text_glue, ℕ, ◌∷◌, ◌≡◌}
 
 -- the bytes `ab` with so much room after them
 abbrev ab : ℕ → Part

@@ -1,23 +1,12 @@
 -- Parts some of which can't hold a byte, and those of them that are kept: each call does the same to both.
-use Rattle.std.proofs.Common.{◌≡◌, ℕ, None, ◌+◌, ◌-◌, ◌^◌, ◌<◌, ◌≤◌, ◌==◌, List, [], ◌∷◌, ◌++◌, length, take, drop, min, fold, map, if◌then◌else◌, refl, sym, ap, ◌∙◌, arith, append-nil, append_assoc, length-append, length-drop, length-take, nat_lt, subst, take_all, ⊎_elim}
-use Rattle.std.proofs.lemmas.Bool.{cases_lt, cond-true, cond-false, lt-ltb, le-ltb}
-use Rattle.std.proofs.lemmas.Bool.Decides.{nat_tests}
-use Rattle.std.proofs.lemmas.Grind.{common_steps}
-use Rattle.std.proofs.lemmas.List.{nil_from_length, take-append-le}
-use Rattle.iobufs_core.specs.View.{View}
-use Rattle.iobufs_core.specs.MarkedText.{MarkedText, default_text, text_append}
-use Rattle.iobufs_core.specs.Part.{Part, empty_part, part_capacity, part_drained, part_frozen, part_overwritten, part_put, part_with_len}
-use Rattle.iobufs.specs.Inside.Pieces.{AreFull, of_pieces}
-use Rattle.iobufs.specs.Laws.Draining.{filled-kept_parts}
-use Rattle.iobufs.specs.Laws.Filling.{same_part, take_both}
-use Rattle.iobufs.specs.Parts.{HaveCapacity, IsParts, kept_parts, parts_capacity, parts_chunks, parts_coalesced, parts_drained, parts_fill, parts_filled, parts_frozen, parts_or_default, parts_overwritten, parts_shared_out, parts_spare, parts_with_len, single_part, with_capacity}
-use Rattle.iobufs.proofs.Building.AddLaws.{add-full, add-text, of_pieces-none}
+use Rattle.iobufs.proofs.Text.{AreFull, HaveCapacity, IsParts, List, MarkedText, None, Part, View, [], ap, append-nil, append_assoc, arith, by_lt, common_steps, cond-false, cond-true, default_text, drop, empty_part, filled-kept_parts, fold, if◌then◌else◌, kept_parts, le-ltb, length, length-append, length-drop, length-take, lt-ltb, map, min, nat_lt, nat_tests, nil_from_length, of_pieces, part_capacity, part_drained, part_frozen, part_overwritten, part_put, part_with_len, parts_capacity, parts_chunks, parts_coalesced, parts_drained, parts_fill, parts_filled, parts_frozen, parts_or_default, parts_overwritten, parts_shared_out, parts_spare, parts_with_len, refl, same_part, single_part, subst, sym, take, take_all, take_both, text_append, with_capacity, ℕ, ◌++◌, ◌+◌, ◌-◌, ◌<◌, ◌==◌, ◌^◌, ◌∙◌, ◌∷◌, ◌≡◌, ◌≤◌}
+use Rattle.iobufs.proofs.Building.{add-full, add-text, of_pieces-none}
 use Rattle.iobufs.proofs.Parts.Coalesced.{coalesced-several}
 use Rattle.iobufs.proofs.Parts.DrainShapes.{able-with_capacity, capacity-with_capacity, drained-several}
 use Rattle.iobufs.proofs.Parts.Frozen.{frozen-none}
-use Rattle.iobufs.proofs.Parts.PartChunks.{chunks-empty, chunks-full, filled-one}
+use Rattle.iobufs.proofs.Parts.PartChunks.{chunks-both, chunks-empty, filled-one}
 use Rattle.iobufs.proofs.Parts.PartLaws.{capacity-parts, same-fill, same-overwritten, same-with_len}
-use Rattle.iobufs.proofs.Parts.PartRuns.{capacity-kept, kept-all, kept-more}
+use Rattle.iobufs.proofs.Parts.PartRuns.{capacity-kept, kept-all, kept-more, of_default}
 
 -- a part that can't hold a byte is the empty one
 pub spent-empty : (p : Part) → part_capacity p ≡ 0 → p ≡ empty_part 0
@@ -43,18 +32,16 @@ walk-with_capacity : {S : Type 0} (f : List Part → S → List Part) (g : Part 
     → (parts : List Part) (s : S) → f (with_capacity parts) s ≡ with_capacity (f parts s)
 walk-with_capacity f g h w [] s = w.nothing s ∙ sym (ap with_capacity (w.nothing s))
 walk-with_capacity f g h w (p ∷ parts) s =
-    ⊎_elim
-    (λ (some : 0 < part_capacity p).
+    by_lt 0 (part_capacity p) (λ some.
     ap (λ ps. f ps s) (with_capacity-able p parts some) ∙ w.step p (with_capacity parts) s
     ∙ ap (λ ps. g p s ∷ ps) (walk-with_capacity f g h w parts (h p s))
     ∙ sym (with_capacity-able (g p s) (f parts (h p s)) (omega (arith, w.same p s)))
     ∙ sym (ap with_capacity (w.step p parts s)))
-    (λ (none : part_capacity p ≤ 0).
+    (λ none.
     ap (λ ps. f ps s) (with_capacity-none p parts (omega arith)) ∙ walk-with_capacity f g h w parts s
     ∙ ap (λ t. with_capacity (f parts t)) (sym (w.past p s (omega arith)))
     ∙ sym (with_capacity-none (g p s) (f parts (h p s)) (omega (arith, w.same p s)))
     ∙ sym (ap with_capacity (w.step p parts s)))
-    (cases_lt 0 (part_capacity p))
 
 walk-or_default : {S : Type 0} (f : List Part → S → List Part) (g : Part → S → Part) (h : Part → S → S) → Walks f g h
     → (parts : List Part) (s : S) → f (parts_or_default parts) s ≡ parts_or_default (f parts s)
@@ -104,16 +91,14 @@ shared-with_capacity : (parts : List Part) (n : ℕ)
 shared-with_capacity [] n = refl
 shared-with_capacity (p ∷ parts) n =
     let rest = n - length p.filled in
-    ⊎_elim
-    (λ (some : 0 < part_capacity p).
+    by_lt 0 (part_capacity p) (λ some.
     ap (λ ps. with_capacity (parts_shared_out ps n)) (with_capacity-able p parts some)
     ∙ beside (part_drained p n) (parts_shared_out (with_capacity parts) rest) (parts_shared_out parts rest) (shared-with_capacity parts rest))
-    (λ (none : part_capacity p ≤ 0).
+    (λ none.
     let same : rest ≡ n = omega arith in
     ap (λ ps. with_capacity (parts_shared_out ps n)) (with_capacity-none p parts (omega arith)) ∙ shared-with_capacity parts n
     ∙ ap (λ m. with_capacity (parts_shared_out parts m)) (sym same)
     ∙ sym (with_capacity-none (part_drained p n) (parts_shared_out parts rest) (omega (arith, length-drop n p.filled))))
-    (cases_lt 0 (part_capacity p))
   where
     beside : (q : Part) (ps qs : List Part) → with_capacity ps ≡ with_capacity qs → with_capacity (q ∷ ps) ≡ with_capacity (q ∷ qs)
     beside q ps qs same = ap (λ rs. if nat_lt 0 (part_capacity q) then q ∷ rs else rs) same
@@ -124,12 +109,8 @@ kept-drained parts n = of_able (with_capacity parts) (able-with_capacity parts) 
     of_able : (able : List Part) → HaveCapacity able → parts_drained (parts_or_default able) n ≡ kept_parts (parts_shared_out able n)
     of_able [] h = ap (λ p. p ∷ []) (spent-empty (part_drained (empty_part 0) n) (omega (arith, length-drop {A = ℕ} n [])))
     of_able (p ∷ []) h =
-        ⊎_elim
-        (λ (some : 0 < part_capacity (part_drained p n)). sym (ap parts_or_default (with_capacity-able (part_drained p n) [] some)))
-        (λ (none : part_capacity (part_drained p n) ≤ 0).
-        ap (λ q. q ∷ []) (spent-empty (part_drained p n) (omega arith))
-        ∙ sym (ap parts_or_default (with_capacity-none (part_drained p n) [] (omega arith))))
-        (cases_lt 0 (part_capacity (part_drained p n)))
+        by_lt 0 (part_capacity (part_drained p n)) (λ some. sym (ap parts_or_default (with_capacity-able (part_drained p n) [] some)))
+        (λ none. cc (spent-empty (part_drained p n) (omega arith), with_capacity-none (part_drained p n) [] (omega arith)))
     of_able (p ∷ q ∷ able) h = drained-several (p ∷ q ∷ able) n (omega arith) h
 
 -- the kept parts have the room of all
@@ -155,11 +136,8 @@ parts-kept parts fits = of_able (with_capacity parts) (able-with_capacity parts)
 pub kept-same : (parts : List Part) → 0 < length parts → (1 < length parts → HaveCapacity parts) → parts ≡ kept_parts parts
 kept-same [] some able = absurd (omega arith)
 kept-same (p ∷ []) some able =
-    ⊎_elim
-    (λ (more : 0 < part_capacity p). kept-all (p ∷ []) (more, tt) (omega arith))
-    (λ (none : part_capacity p ≤ 0).
-    ap (λ q. q ∷ []) (spent-empty p (omega arith)) ∙ sym (ap parts_or_default (with_capacity-none p [] (omega arith))))
-    (cases_lt 0 (part_capacity p))
+    by_lt 0 (part_capacity p) (λ more. kept-all (p ∷ []) (more, tt) (omega arith))
+    (λ none. cc (spent-empty p (omega arith), with_capacity-none p [] (omega arith)))
 kept-same (p ∷ q ∷ parts) some able = kept-all (p ∷ q ∷ parts) (able (omega arith)) (omega arith)
 
 -- parts that lose bytes are those of them that are kept then
@@ -167,50 +145,29 @@ pub drained-parts : (parts : List Part) (n : ℕ) → IsParts parts → parts_dr
 drained-parts parts n are = ap (λ ps. parts_drained ps n) (kept-same parts are.some are.have_capacity) ∙ kept-drained parts n
 
 -- the chunks of the kept parts are those of all
-pub chunks-kept : (parts : List Part) → parts_chunks (kept_parts parts) ≡ parts_chunks parts
-chunks-kept parts = of_default (with_capacity parts) ∙ of_able parts
+pub chunks-kept_parts : (parts : List Part) → parts_chunks (kept_parts parts) ≡ parts_chunks parts
+chunks-kept_parts parts = of_default parts_chunks refl (with_capacity parts) ∙ of_able parts
   where
-    of_default : (able : List Part) → parts_chunks (parts_or_default able) ≡ parts_chunks able
-    of_default [] = refl
-    of_default (p ∷ able) = refl
-
     of_able : (parts : List Part) → parts_chunks (with_capacity parts) ≡ parts_chunks parts
     of_able [] = refl
     of_able (p ∷ parts) =
-        ⊎_elim
-        (λ (some : 0 < length p.filled).
-        ap parts_chunks (with_capacity-able p parts (omega arith)) ∙ chunks-full p (with_capacity parts) some
-        ∙ ap (λ texts. p.filled ∷ texts) (of_able parts) ∙ sym (chunks-full p parts some))
-        (λ (none : length p.filled ≤ 0).
-        ⊎_elim
-        (λ (some : 0 < part_capacity p).
-        ap parts_chunks (with_capacity-able p parts some) ∙ chunks-empty p (with_capacity parts) (omega arith) ∙ of_able parts
-        ∙ sym (chunks-empty p parts (omega arith)))
-        (λ (spent : part_capacity p ≤ 0).
-        ap parts_chunks (with_capacity-none p parts (omega arith)) ∙ of_able parts ∙ sym (chunks-empty p parts (omega arith)))
-        (cases_lt 0 (part_capacity p)))
-        (cases_lt 0 (length p.filled))
+        by_lt 0 (part_capacity p)
+        (λ some. cc (with_capacity-able p parts some, chunks-both (p ∷ []) (with_capacity parts), of_able parts, chunks-both (p ∷ []) parts))
+        (λ none. cc (with_capacity-none p parts (omega arith), of_able parts, chunks-empty p parts (omega arith)))
 
 -- the kept parts freeze to the text of all
 pub frozen-kept : (parts : List Part) → parts_frozen (kept_parts parts) ≡ parts_frozen parts
-frozen-kept parts = of_default (with_capacity parts) ∙ of_able default_text parts
+frozen-kept parts = of_default parts_frozen (frozen-none default_text (empty_part 0 ∷ []) refl) (with_capacity parts) ∙ of_able default_text parts
   where
-    of_default : (able : List Part) → parts_frozen (parts_or_default able) ≡ parts_frozen able
-    of_default [] = frozen-none default_text (empty_part 0 ∷ []) refl
-    of_default (p ∷ able) = refl
-
     of_able : (text : MarkedText) (parts : List Part)
         → fold text_append text (map part_frozen (with_capacity parts)) ≡ fold text_append text (map part_frozen parts)
     of_able text [] = refl
     of_able text (p ∷ parts) =
-        ⊎_elim
-        (λ (some : 0 < part_capacity p).
-        ap (λ ps. fold text_append text (map part_frozen ps)) (with_capacity-able p parts some) ∙ of_able (text_append text (part_frozen p)) parts)
-        (λ (none : part_capacity p ≤ 0).
+        by_lt 0 (part_capacity p) (λ some. cc (with_capacity-able p parts some, of_able (text_append text (part_frozen p)) parts))
+        (λ none.
         ap (λ ps. fold text_append text (map part_frozen ps)) (with_capacity-none p parts (omega arith)) ∙ of_able text parts
         ∙ ap (λ (t : MarkedText). fold text_append t (map part_frozen parts))
         (sym (frozen-none text (p ∷ []) (omega (arith, ap (λ (w : List ℕ). length w) (filled-one p))))))
-        (cases_lt 0 (part_capacity p))
 
 -- where more than one is kept, they coalesce to the bytes of all
 pub coalesced-kept : (parts : List Part) → single_part (kept_parts parts) ≡ None
@@ -241,7 +198,7 @@ pub ruleset keeping = (
   capacity-kept,
   spare-kept,
   parts-kept,
-  chunks-kept,
+  chunks-kept_parts,
   kept-fill,
   kept-with_len,
   kept-overwritten,
@@ -255,30 +212,7 @@ pub ruleset freezing_few = (filled-kept_parts, frozen-kept, coalesced-kept)
 -- the first bytes of three lists, of which so many stand in each
 pub taken-three : (f s t : List ℕ) (n a b : ℕ) → a ≡ n - length f → b ≡ a - length s
     → take n (f ++ (s ++ (t ++ []))) ≡ (take n f ++ take a s) ++ take b t
-taken-three f s t n a b first second =
-    take_both n f (s ++ (t ++ [])) ∙ ap (λ k. take n f ++ take k (s ++ (t ++ []))) (sym first)
-    ∙ ap (λ w. take n f ++ w) (take_both a s (t ++ []) ∙ ap (λ k. take a s ++ take k (t ++ [])) (sym second))
-    ∙ ap (λ w. take n f ++ (take a s ++ take b w)) (append-nil t)
-    ∙ sym (append_assoc (take n f) (take a s) (take b t))
-
--- the chunks of a part and of those after it
-pub chunks-cons : (p : Part) (parts : List Part) → parts_chunks (p ∷ parts) ≡ parts_chunks (p ∷ []) ++ parts_chunks parts
-chunks-cons p parts =
-    ⊎_elim
-    (λ (some : 0 < length p.filled). chunks-full p parts some ∙ ap (λ texts. texts ++ parts_chunks parts) (sym (chunks-full p [] some)))
-    (λ (none : length p.filled ≤ 0).
-    chunks-empty p parts (omega arith) ∙ ap (λ texts. texts ++ parts_chunks parts) (sym (chunks-empty p [] (omega arith))))
-    (cases_lt 0 (length p.filled))
-
--- the first of what was the first before more came after it
-pub taken-again : {A : Type 0} (n : ℕ) (u v : List A) → take n (take n u ++ v) ≡ take n (u ++ v)
-taken-again n u v =
-    ⊎_elim
-    (λ (less : length u < n). ap (λ w. take n (w ++ v)) (take_all n u (omega arith)))
-    (λ (more : n ≤ length u).
-    let long : length (take n u) ≡ n = omega (arith, length-take n u) in
-    take-append-le n (take n u) v (omega arith) ∙ take_all n (take n u) (omega arith) ∙ sym (take-append-le n u v more))
-    (cases_lt (length u) n)
+taken-three f s t n a b first second = cc (take_both n f (s ++ (t ++ [])), take_both a s (t ++ []), append-nil t, append_assoc (take n f) (take a s) (take b t))
 
 -- three lists that were read one after the other into a destination that they fill
 pub read-three : (dst one two all f s t : List ℕ) (first second third : ℕ)
@@ -291,12 +225,8 @@ read-three dst one two all f s t first second third l m n a b c u v w fits =
     let whole : length dst - 0 ≡ length dst = omega arith in
     let long : length (f ++ (s ++ (t ++ []))) ≡ length f + (length s + length t) =
     omega (arith, length-append f (s ++ (t ++ [])), length-append s (t ++ []), length-append t []) in
-    let behind : length one - first ≡ length dst - length f = omega (arith, l, a) in
-    let last : length two - second ≡ (length one - first) - length s = omega (arith, l, m, a, b) in
     let full : length all ≤ third = omega (arith, l, m, n, a, b, c, long, fits) in
-    sym (take_all third all full) ∙ w
-    ∙ ap (λ x. x ++ take (length two - second) t) (v ∙ ap (λ x. x ++ take (length one - first) s) (u ∙ ap (λ k. take k f) whole))
-    ∙ sym (taken-three f s t (length dst) (length one - first) (length two - second) behind last)
+    cc (take_all third all full, taken-three f s t (length dst) (length one - first) (length two - second) (omega (arith, l, a)) (omega (arith, l, m, a, b)))
 
 -- three parts that are put as pieces in order, but for those that hold no bytes
 pub frozen-three : (p q r : Part) (none one two all : List View) → none ≡ []

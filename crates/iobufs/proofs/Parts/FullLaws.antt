@@ -1,10 +1,5 @@
 -- How many parts at the front have no spare capacity, after each call on parts.
-use Rattle.std.proofs.Common.{◌≡◌, ℕ, zero, suc, ◌+◌, ◌-◌, ◌<◌, ◌≤◌, List, [], ◌∷◌, ◌++◌, length, take, drop, refl, sym, subst, ap, ◌∙◌, arith, append-nil, get_or, nat_lt}
-use Rattle.std.proofs.lemmas.Bool.{cond_both}
-use Rattle.iobufs_core.specs.Part.{Part, part_capacity, part_drained, part_put}
-use Rattle.iobufs.specs.Inside.PartOrder.{HaveNoSpare}
-use Rattle.iobufs.specs.Laws.Filling.{same_part}
-use Rattle.iobufs.specs.Parts.{IsParts, kept_parts, parts_drained, parts_fill, parts_or_default, parts_overwritten, parts_shared_out, with_capacity}
+use Rattle.iobufs.proofs.Text.{HaveNoSpare, IsParts, List, Part, [], ap, append-nil, arith, cond_both, drop, get_or, length, nat_lt, part_capacity, part_drained, part_put, parts_drained, parts_fill, parts_or_default, parts_overwritten, parts_shared_out, refl, same_part, subst, suc, sym, take, with_capacity, zero, ℕ, ◌++◌, ◌+◌, ◌-◌, ◌<◌, ◌∙◌, ◌∷◌, ◌≡◌, ◌≤◌}
 use Rattle.iobufs.proofs.Parts.FewLaws.{drained-parts}
 
 -- one more, if the next part has none
@@ -27,8 +22,7 @@ fill-after zero parts w full = refl
 fill-after (suc n) [] w full = absurd full
 fill-after (suc n) (p ∷ parts) w full =
     let same = same_part (part_put p (take p.spare w)) p (ap (λ k. p.filled ++ take k w) full.0 ∙ append-nil p.filled) (omega (arith, full.0)) in
-    let rest = ap (λ k. parts_fill parts (drop k w)) full.0 ∙ fill-after n parts w full.1 in
-    λ i. same i ∷ rest i
+    λ i. same i ∷ (ap (λ k. parts_fill parts (drop k w)) full.0 ∙ fill-after n parts w full.1) i
 
 -- filling leaves them full
 pub full-fill : (n : ℕ) (parts : List Part) (w : List ℕ) → HaveNoSpare n parts → HaveNoSpare n (parts_fill parts w)
@@ -86,9 +80,7 @@ pub full-drained : (k n m : ℕ) (parts : List Part) → HaveNoSpare n parts →
     → HaveNoSpare k (parts_drained parts m)
 full-drained k n m parts full are is =
     let drained = drained-parts parts m are in
-    let gone : k ≡ n - (length parts - length (kept_parts (parts_shared_out parts m))) =
-    is ∙ ap (λ (ps : List Part). n - (length parts - length ps)) drained in
-    subst (λ ps. HaveNoSpare k ps) (sym drained) (of_able k (able_left parts m) gone (λ few. full-left k n m parts few full))
+    subst (λ ps. HaveNoSpare k ps) (sym drained) (of_able k (able_left parts m) (cc) (λ few. full-left k n m parts few full))
   where
     of_able : (k : ℕ) (able : List Part) → k ≡ n - (length parts - length (parts_or_default able))
         → (k + length parts ≤ n + length able → HaveNoSpare k able) → HaveNoSpare k (parts_or_default able)

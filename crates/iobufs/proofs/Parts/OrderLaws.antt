@@ -1,23 +1,12 @@
 -- Parts in order, and as they stand in their row, those that are drained after the others.
-use Rattle.std.proofs.Common.{◌≡◌, ℕ, ◌+◌, ◌-◌, ◌<◌, ◌≤◌, List, [], ◌∷◌, ◌++◌, length, take, drop, fold, map, refl, sym, subst, ap, ◌∙◌, arith, append-nil, length-append, length-drop, length-take, take-append-drop, take_all, drop-drop, get_or, set, ⊎_elim}
-use Rattle.std.proofs.lemmas.Bool.{cases_lt}
-use Rattle.std.proofs.lemmas.List.{drop_all, drop_at, take_at, nil_from_length}
-use Rattle.std.proofs.lemmas.List.Concat.{flat_map-append}
-use Rattle.std.proofs.lemmas.List.Sums.{sum_by-append}
-use Rattle.iobufs_core.specs.MarkedText.{MarkedText, default_text, text_append}
-use Rattle.iobufs_core.specs.Part.{Part, empty_part, part_capacity, part_drained, part_frozen, part_overwritten}
-use Rattle.iobufs.specs.Laws.Filling.{fill-nil, same_part}
-use Rattle.iobufs.specs.Inside.PartOrder.{AreBehind, AreKept, HaveNoSpare, first_drained, in_order}
-use Rattle.iobufs.specs.Inside.PartSums.{AreSummed}
-use Rattle.iobufs.specs.Parts.{IsParts, parts_capacity, parts_chunks, parts_fill, parts_filled, parts_frozen, parts_overwritten}
+use Rattle.iobufs.proofs.Text.{AreBehind, AreKept, AreSummed, HaveNoSpare, IsParts, List, MarkedText, Part, [], ap, append-nil, arith, default_text, drop, drop-drop, drop_all, drop_at, empty_part, fill-nil, first_drained, flat_map-append, fold, get_or, in_order, length, length-append, length-drop, length-take, map, nil_from_length, part_capacity, part_drained, part_frozen, part_overwritten, parts_capacity, parts_chunks, parts_fill, parts_filled, parts_frozen, parts_overwritten, refl, same_part, set, subst, sum_by-append, sym, take, take-append-drop, take_all, take_at, text_append, ℕ, ◌++◌, ◌+◌, ◌-◌, ◌<◌, ◌∙◌, ◌∷◌, ◌≡◌, ◌≤◌}
 use Rattle.iobufs.proofs.Parts.Frozen.{frozen-none}
-use Rattle.iobufs.proofs.Parts.PartChunks.{chunks-empty, chunks-full, chunks-none}
+use Rattle.iobufs.proofs.Parts.PartChunks.{chunks-both, chunks-none}
 
 -- a row of which none is drained
 pub order-none : (row : List Part) (used : ℕ) → used ≡ 0 → in_order row used ≡ row
 order-none row used none =
-    let all : length row - used ≡ length row = omega arith in
-    ap (λ k. drop k row ++ take k row) all ∙ (λ i. drop_all (length row) row (omega arith) i ++ take_all (length row) row (omega arith) i)
+    ap (λ k. drop k row ++ take k row) (omega arith) ∙ (λ i. drop_all (length row) row (omega arith) i ++ take_all (length row) row (omega arith) i)
 
 -- a row of which no part is drained is kept, where the sums beside it are its own
 pub kept-none : (row : List Part) (used full len capacity : ℕ) → used ≡ 0 → HaveNoSpare full row → AreSummed row len capacity → IsParts row
@@ -35,19 +24,16 @@ kept-none row used full len capacity none no_spare sums parts = record {
 -- those at the back are at the front of the others
 pub order-both : (others behind : List Part) (used : ℕ) → used ≡ length behind → in_order (others ++ behind) used ≡ behind ++ others
 order-both others behind used e =
-    let sum = length-append others behind in
-    let k : length (others ++ behind) - used ≡ length others = omega arith in
-    ap (λ n. drop n (others ++ behind) ++ take n (others ++ behind)) k
+    ap (λ n. drop n (others ++ behind) ++ take n (others ++ behind)) (omega (arith, length-append others behind))
     ∙ (λ i. drop_at others behind (length others) refl i ++ take_at others behind (length others) refl i)
 
 -- parts without bytes at the back of a row are those that are drained
 pub behind-both : (others behind : List Part) (used : ℕ) → used ≡ length behind → length (parts_filled behind) ≡ 0 → AreBehind (others ++ behind) used
 behind-both others behind used e none =
     let sum = length-append others behind in
-    let k : length others ≡ length (others ++ behind) - used = omega arith in
     record {
       within = omega arith;
-      empty = ap (λ ps. length (parts_filled ps)) (drop_at others behind (length (others ++ behind) - used) k) ∙ none;
+      empty = ap (λ ps. length (parts_filled ps)) (drop_at others behind (length (others ++ behind) - used) (omega arith)) ∙ none;
     }
 
 -- there are as many parts in order as in their row
@@ -64,18 +50,6 @@ filled-both ps qs = flat_map-append (λ (p : Part). p.filled) ps qs
 pub filled-length : (ps qs : List Part) → length (parts_filled (ps ++ qs)) ≡ length (parts_filled ps) + length (parts_filled qs)
 filled-length ps qs = ap length (filled-both ps qs) ∙ length-append (parts_filled ps) (parts_filled qs)
 
-chunks-both : (ps qs : List Part) → parts_chunks (ps ++ qs) ≡ parts_chunks ps ++ parts_chunks qs
-chunks-both [] qs = refl
-chunks-both (p ∷ ps) qs =
-    let ih = chunks-both ps qs in
-    ⊎_elim
-    (λ (h : 0 < length p.filled).
-    chunks-full p (ps ++ qs) h ∙ ap (λ texts. p.filled ∷ texts) ih ∙ ap (λ texts. texts ++ parts_chunks qs) (sym (chunks-full p ps h)))
-    (λ (h : length p.filled ≤ 0).
-    let none : length p.filled ≡ 0 = omega arith in
-    chunks-empty p (ps ++ qs) none ∙ ih ∙ ap (λ texts. texts ++ parts_chunks qs) (sym (chunks-empty p ps none)))
-    (cases_lt 0 (length p.filled))
-
 frozen-both : (text : MarkedText) (ps qs : List Part)
     → fold text_append text (map part_frozen (ps ++ qs)) ≡ fold text_append (fold text_append text (map part_frozen ps)) (map part_frozen qs)
 frozen-both text [] qs = refl
@@ -86,18 +60,14 @@ pub filled-order : (row : List Part) (used : ℕ) → AreBehind row used → par
 filled-order row used behind =
     let k = length row - used in
     let none = nil_from_length (parts_filled (drop k row)) behind.empty in
-    ap parts_filled (sym (take-append-drop k row))
-    ∙ filled-both (take k row) (drop k row) ∙ ap (λ w. parts_filled (take k row) ++ w) none ∙ append-nil (parts_filled (take k row))
-    ∙ sym (filled-both (drop k row) (take k row) ∙ ap (λ w. w ++ parts_filled (take k row)) none)
+    cc (take-append-drop k row, filled-both (take k row) (drop k row), append-nil (parts_filled (take k row)), filled-both (drop k row) (take k row))
 
 -- a row has the chunks of its parts in order
 pub chunks-order : (row : List Part) (used : ℕ) → AreBehind row used → parts_chunks row ≡ parts_chunks (in_order row used)
 chunks-order row used behind =
     let k = length row - used in
     let none = chunks-none (drop k row) behind.empty in
-    ap parts_chunks (sym (take-append-drop k row))
-    ∙ chunks-both (take k row) (drop k row) ∙ ap (λ texts. parts_chunks (take k row) ++ texts) none ∙ append-nil (parts_chunks (take k row))
-    ∙ sym (chunks-both (drop k row) (take k row) ∙ ap (λ texts. texts ++ parts_chunks (take k row)) none)
+    cc (take-append-drop k row, chunks-both (take k row) (drop k row), append-nil (parts_chunks (take k row)), chunks-both (drop k row) (take k row))
 
 -- a row freezes to the text of its parts in order
 pub frozen-order : (row : List Part) (used : ℕ) → AreBehind row used → parts_frozen row ≡ parts_frozen (in_order row used)
@@ -105,8 +75,7 @@ frozen-order row used behind =
     let k = length row - used in
     ap parts_frozen (sym (take-append-drop k row))
     ∙ frozen-both default_text (take k row) (drop k row) ∙ frozen-none (parts_frozen (take k row)) (drop k row) behind.empty
-    ∙ sym (frozen-both default_text (drop k row) (take k row)
-    ∙ ap (λ (text : MarkedText). fold text_append text (map part_frozen (take k row))) (frozen-none default_text (drop k row) behind.empty))
+    ∙ sym (cc (frozen-both default_text (drop k row) (take k row), frozen-none default_text (drop k row) behind.empty))
 
 -- a row has the capacity of its parts in order
 pub capacity-order : (row : List Part) (used : ℕ) → parts_capacity row ≡ parts_capacity (in_order row used)
@@ -140,8 +109,7 @@ overwritten-both : (ps qs : List Part) (w : List ℕ)
 overwritten-both [] qs w = refl
 overwritten-both (p ∷ ps) qs w =
     let n = length p.filled in
-    let all : n + length (parts_filled ps) ≡ length (parts_filled (p ∷ ps)) = omega (arith, length-append p.filled (parts_filled ps)) in
-    let rest = drop-drop (length (parts_filled ps)) n w ∙ ap (λ m. drop m w) all in
+    let rest = drop-drop (length (parts_filled ps)) n w ∙ ap (λ m. drop m w) (omega (arith, length-append p.filled (parts_filled ps))) in
     ap (λ qs. part_overwritten p (take n w) ∷ qs)
     (overwritten-both ps qs (drop n w) ∙ ap (λ v. parts_overwritten ps (drop n w) ++ parts_overwritten qs v) rest)
 
@@ -151,9 +119,7 @@ overwritten-empty (p ∷ ps) w none =
     let both = length-append p.filled (parts_filled ps) in
     let nil = nil_from_length p.filled (omega (arith, both, none)) in
     let bytes = ap (λ (u : List ℕ). take (length u) (take (length u) w ++ drop (length (take (length u) w)) u)) nil ∙ sym nil in
-    let same : part_overwritten p (take (length p.filled) w) ≡ p = same_part _ p bytes refl in
-    let rest : parts_overwritten ps (drop (length p.filled) w) ≡ ps = overwritten-empty ps (drop (length p.filled) w) (omega (arith, both, none)) in
-    λ i. same i ∷ rest i
+    λ i. (same_part _ p bytes refl) i ∷ (overwritten-empty ps (drop (length p.filled) w) (omega (arith, both, none))) i
 
 -- bytes written over the parts of a row are written over the parts in order, and those that are drained stay at the back
 pub overwritten-order : (row new : List Part) (used : ℕ) (w : List ℕ) → AreBehind row used → new ≡ parts_overwritten row w

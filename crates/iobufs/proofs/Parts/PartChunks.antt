@@ -1,13 +1,5 @@
 -- The bytes of parts, as a reader sees them piece by piece.
-use Rattle.std.proofs.Common.{◌≡◌, ℕ, zero, suc, ◌+◌, ◌-◌, ◌<◌, ◌≤◌, List, [], ◌∷◌, ◌++◌, length, take, map, slice_get, min, refl, sym, ap, ◌∙◌, arith, append-nil, append_assoc, length-append, length-take, take_all, ⊎_elim}
-use Rattle.std.proofs.lemmas.Bool.{cases_lt}
-use Rattle.std.proofs.lemmas.List.{take-append-le}
-use Rattle.std.proofs.Math.Seq.{take-nil}
-use Rattle.iobufs_core.specs.Chunks.{IsChunkOf, first_chunk, full_chunks}
-use Rattle.iobufs_core.specs.Part.{Part}
-use Rattle.std.proofs.lemmas.List.{nil_from_length}
-use Rattle.iobufs.specs.Laws.Filling.{take_both}
-use Rattle.iobufs.specs.Parts.{parts_chunks, parts_filled}
+use Rattle.iobufs.proofs.Text.{IsChunkOf, List, Part, [], ap, append-nil, append_assoc, arith, by_lt, first_chunk, full_chunks, length, length-append, length-take, map, min, nil_from_length, parts_chunks, parts_filled, refl, slice_get, suc, sym, take, take-append-le, take-nil, take_all, take_both, zero, ℕ, ◌++◌, ◌+◌, ◌-◌, ◌<◌, ◌∙◌, ◌∷◌, ◌≡◌, ◌≤◌}
 
 -- one part holds its bytes
 pub filled-one : (p : Part) → parts_filled (p ∷ []) ≡ p.filled
@@ -24,6 +16,13 @@ full_first (byte ∷ bytes) texts h = refl
 -- the bytes of a first part that has some are the first chunk, and the others' chunks follow it
 pub chunks-full : (p : Part) (parts : List Part) → 0 < length p.filled → parts_chunks (p ∷ parts) ≡ p.filled ∷ parts_chunks parts
 chunks-full p parts h = full_first p.filled (map (λ q. q.filled) parts) h
+
+-- the chunks of two rows
+pub chunks-both : (ps qs : List Part) → parts_chunks (ps ++ qs) ≡ parts_chunks ps ++ parts_chunks qs
+chunks-both [] qs = refl
+chunks-both (p ∷ ps) qs =
+    by_lt 0 (length p.filled) (λ h. cc (chunks-full p (ps ++ qs) h, chunks-both ps qs, chunks-full p ps h))
+    (λ h. cc (chunks-empty p (ps ++ qs) (omega arith), chunks-both ps qs, chunks-empty p ps (omega arith)))
 
 -- parts without bytes show no chunk, however many are asked for
 pub chunks-none : (parts : List Part) → length (parts_filled parts) ≡ 0 → parts_chunks parts ≡ []
@@ -46,10 +45,8 @@ chunk_front bytes rest h = record {
 pub first_chunk-front : (parts : List Part) → IsChunkOf (first_chunk (parts_chunks parts)) (parts_filled parts)
 first_chunk-front [] = record { front = refl; some = λ e. refl }
 first_chunk-front (p ∷ parts) =
-    ⊎_elim
-    (λ (h : 0 < length p.filled). rw (chunks-full p parts h) (chunk_front p.filled (parts_filled parts) h))
-    (λ (h : length p.filled ≤ 0). let none : p.filled ≡ [] = nil_from_length p.filled (omega arith) in rw none (first_chunk-front parts))
-    (cases_lt 0 (length p.filled))
+    by_lt 0 (length p.filled) (λ h. rw (chunks-full p parts h) (chunk_front p.filled (parts_filled parts) h))
+    (λ h. let none : p.filled ≡ [] = nil_from_length p.filled (omega arith) in rw none (first_chunk-front parts))
 
 -- the byte at a place, in a part or after it
 pub byte_in : (bytes rest : List ℕ) (at : ℕ) → at < length bytes → slice_get (bytes ++ rest) at ≡ slice_get bytes at
@@ -68,14 +65,11 @@ byte_behind (byte ∷ bytes) rest (suc at) h =
 pub share-turn : (all before bytes rest : List ℕ) (k n : ℕ) → n ≡ min k (length bytes) → all ≡ before ++ take k (bytes ++ rest)
     → all ≡ (before ++ take n bytes) ++ take (k - n) rest
 share-turn all before bytes rest k n e h =
-    let both = take_both k bytes rest in
     let less : k - length bytes ≡ k - n = omega arith in
     let share : take k bytes ≡ take n bytes =
-    ⊎_elim
-    (λ (l : k < length bytes). let same : k ≡ n = omega arith in ap (λ m. take m bytes) same)
-    (λ (l : length bytes ≤ k). take_all k bytes l ∙ sym (take_all n bytes (omega arith)))
-    (cases_lt k (length bytes)) in
-    h ∙ ap (λ w. before ++ w) (both ∙ (λ i. share i ++ take (less i) rest)) ∙ sym (append_assoc before (take n bytes) (take (k - n) rest))
+    by_lt k (length bytes) (λ l. let same : k ≡ n = omega arith in ap (λ m. take m bytes) same)
+    (λ l. take_all k bytes l ∙ sym (take_all n bytes (omega arith))) in
+    cc (take_both k bytes rest, append_assoc before (take n bytes) (take (k - n) rest))
 
 -- a turn of reading into a destination of length len
 pub read-turn : (all dst new bytes rest : List ℕ) (len at n : ℕ) → at ≤ len → n ≡ min (length bytes) (len - at)
@@ -89,18 +83,13 @@ read-turn all dst new bytes rest len at n within e written h =
 pub read-done : (all dst : List ℕ) (at : ℕ) → at ≤ length dst → length dst ≤ length all
     → take (length dst) all ≡ take at dst ++ take (length dst - at) [] → dst ≡ take (length dst) all
 read-done all dst at within fits h =
-    let none = take-nil {A = ℕ} (length dst - at) in
-    let full = h ∙ ap (λ w. take at dst ++ w) none ∙ append-nil (take at dst) in
-    let long = length-take (length dst) all in
-    let short = length-take at dst in
-    let same = ap (λ (w : List ℕ). length w) full in
-    sym (full ∙ take_all at dst (omega arith))
+    let full = h ∙ ap (λ w. take at dst ++ w) (take-nil {A = ℕ} (length dst - at)) ∙ append-nil (take at dst) in
+    sym (full ∙ take_all at dst (omega (arith, length-take (length dst) all, length-take at dst, ap (λ (w : List ℕ). length w) full)))
 
 -- one more chunk of at most k
 pub chunk-turn : (before texts : List (List ℕ)) (text : List ℕ) (k : ℕ) → 0 < k → before ++ take k (text ∷ texts) ≡ (before ++ text ∷ []) ++ take (k - 1) texts
 chunk-turn before texts text zero h = absurd (omega arith)
 chunk-turn before texts text (suc k) h =
-    let same : k ≡ suc k - 1 = omega arith in
-    sym (append_assoc before (text ∷ []) (take k texts)) ∙ ap (λ m. (before ++ text ∷ []) ++ take m texts) same
+    sym (append_assoc before (text ∷ []) (take k texts)) ∙ ap (λ m. (before ++ text ∷ []) ++ take m texts) (omega arith)
 
 pub ruleset reading = (filled-one, first_chunk-front, chunks-empty, chunks-full, none-taken, byte_in, byte_behind)

@@ -1,10 +1,5 @@
 -- The calls on buffers keep capacities, the number of buffers, and their invariant (`IsParts`).
-use Rattle.std.proofs.Common.{◌≡◌, ℕ, ◌+◌, ◌-◌, List, [], ◌∷◌, ◌++◌, length, take, drop, replicate, min, refl, sym, ap, ◌∙◌, arith, length-append, length-take, length-drop}
-use Rattle.std.specs.List.{sum_by}
-use Rattle.std.proofs.lemmas.List.{length-replicate}
-use Rattle.std.proofs.lemmas.List.Sums.{sum_by-cons}
-use Rattle.iobufs_core.specs.Part.{Part, part_capacity}
-use Rattle.iobufs.specs.Parts.{HaveCapacity, IsParts, parts_capacity, parts_fill, parts_filled, parts_overwritten, parts_spare, parts_with_len}
+use Rattle.iobufs.proofs.Text.{HaveCapacity, IsParts, List, Part, [], ap, arith, drop, length, length-append, length-drop, length-replicate, length-take, min, part_capacity, parts_capacity, parts_fill, parts_filled, parts_overwritten, parts_spare, parts_with_len, refl, replicate, suc, sum_by, sum_by-cons, sym, take, ℕ, ◌++◌, ◌+◌, ◌-◌, ◌∙◌, ◌∷◌, ◌≡◌}
 
 -- sums over parts, as an iterator gives them
 pub filled-sum : (parts : List Part) → sum_by (λ (p : Part). length p.filled) parts ≡ length (parts_filled parts)
@@ -32,42 +27,38 @@ HaveSame [] (q ∷ qs) = ⊥
 HaveSame (p ∷ ps) [] = ⊥
 HaveSame (p ∷ ps) (q ∷ qs) = (part_capacity p ≡ part_capacity q) × HaveSame ps qs
 
-same-length : (ps qs : List Part) → HaveSame ps qs → length ps ≡ length qs
-same-length [] [] h = refl
-same-length [] (q ∷ qs) h = absurd h
-same-length (p ∷ ps) [] h = absurd h
-same-length (p ∷ ps) (q ∷ qs) h = omega (arith, same-length ps qs h.1)
+-- parts each of which has the same capacity as before are as many, have the same capacity together, and can each hold a byte if they could
+same-all : (ps qs : List Part) → HaveSame ps qs
+    → (length ps ≡ length qs) × (parts_capacity ps ≡ parts_capacity qs) × (HaveCapacity ps → HaveCapacity qs)
+same-all [] [] h = (refl, refl, λ able. able)
+same-all [] (q ∷ qs) h = absurd h
+same-all (p ∷ ps) [] h = absurd h
+same-all (p ∷ ps) (q ∷ qs) h =
+    let (count, capacity, able) = same-all ps qs h.1 in (
+      ap suc count,
+      omega (arith, capacity, h.0, sum_by-cons part_capacity p ps, sum_by-cons part_capacity q qs),
+      λ a. (omega (arith, h.0, a.0), able a.1),
+    )
 
 -- parts each of which has the same capacity as before have the same capacity together
 pub same-capacity : (ps qs : List Part) → HaveSame ps qs → parts_capacity ps ≡ parts_capacity qs
-same-capacity [] [] h = refl
-same-capacity [] (q ∷ qs) h = absurd h
-same-capacity (p ∷ ps) [] h = absurd h
-same-capacity (p ∷ ps) (q ∷ qs) h = omega (arith, same-capacity ps qs h.1, h.0, sum_by-cons part_capacity p ps, sum_by-cons part_capacity q qs)
-
-same-able : (ps qs : List Part) → HaveSame ps qs → HaveCapacity ps → HaveCapacity qs
-same-able [] [] h a = tt
-same-able [] (q ∷ qs) h a = absurd h
-same-able (p ∷ ps) [] h a = absurd h
-same-able (p ∷ ps) (q ∷ qs) h a = (omega (arith, h.0, a.0), same-able ps qs h.1 a.1)
+same-capacity ps qs h = (same-all ps qs h).1
 
 -- parts each of which has the same capacity as before are parts as before
 parts-same : (ps qs : List Part) → HaveSame ps qs → IsParts ps → IsParts qs
 parts-same ps qs h a =
-    let n = same-length ps qs h in
+    let (count, capacity, able) = same-all ps qs h in
     record {
-      some = omega (arith, n, a.some);
-      have_capacity = λ more. same-able ps qs h (a.have_capacity (omega (arith, n, more)));
-      fits = omega (arith, same-capacity ps qs h, a.fits);
+      some = omega (arith, count, a.some);
+      have_capacity = λ more. able (a.have_capacity (omega (arith, count, more)));
+      fits = omega (arith, capacity, a.fits);
     }
 
 -- filling leaves the capacity of each part
 pub same-fill : (parts : List Part) (w : List ℕ) → HaveSame parts (parts_fill parts w)
 same-fill [] w = tt
 same-fill (p ∷ parts) w =
-    let n = length-append p.filled (take p.spare w) in
-    let t = length-take p.spare w in
-    (omega arith, same-fill parts (drop p.spare w))
+    (omega (arith, length-append p.filled (take p.spare w), length-take p.spare w), same-fill parts (drop p.spare w))
 
 -- bytes that are put into parts leave them parts
 pub parts-fill : (parts : List Part) (w : List ℕ) → IsParts parts → IsParts (parts_fill parts w)
@@ -78,10 +69,8 @@ pub same-with_len : (parts : List Part) (n : ℕ) → HaveSame parts (parts_with
 same-with_len [] n = tt
 same-with_len (p ∷ parts) n =
     let m = min n (part_capacity p) in
-    let t = length-take m p.filled in
     let r : length (replicate {A = ℕ} (m - length p.filled) 0) ≡ m - length p.filled = length-replicate (m - length p.filled) 0 in
-    let a = length-append (take m p.filled) (replicate (m - length p.filled) 0) in
-    (omega arith, same-with_len parts (n - part_capacity p))
+    (omega (arith, length-take m p.filled, length-append (take m p.filled) (replicate (m - length p.filled) 0)), same-with_len parts (n - part_capacity p))
 
 -- so many bytes filled leave them parts
 pub parts-with_len : (parts : List Part) (n : ℕ) → IsParts parts → IsParts (parts_with_len parts n)

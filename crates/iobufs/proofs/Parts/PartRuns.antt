@@ -1,12 +1,6 @@
 -- Parts that are strung together one by one: which are kept, and why the last one is refused.
-use Rattle.std.proofs.Common.{◌≡◌, ◌+◌, ◌<◌, ◌≤◌, ◌^◌, List, [], ◌∷◌, ◌++◌, length, length-append, refl, sym, ap, ◌∙◌, arith, nat_lt}
-use Rattle.std.proofs.lemmas.Bool.{cond-true, cond-false, lt-ltb, le-ltb}
-use Rattle.std.proofs.lemmas.List.Sums.{sum_by-cons, sum_by_push}
-use Rattle.iobufs_core.specs.Part.{Part, part_capacity}
-use Rattle.iobufs_core.specs.declared.codec.base.BufError.TheVariants.{Memory, TooLong}
-use Rattle.iobufs.specs.PartLimits.{IsRowRefusedAt}
-use Rattle.iobufs.specs.Parts.{HaveCapacity, IsParts, kept_parts, parts_capacity, parts_or_default, with_capacity}
-use Rattle.iobufs.proofs.Parts.DrainShapes.{able-with_capacity, capacity-with_capacity, with_capacity-all, with_capacity-push}
+use Rattle.iobufs.proofs.Text.{HaveCapacity, IsParts, IsRowRefusedAt, List, Memory, Part, TooLong, [], ap, arith, cond-false, cond-true, empty_part, kept_parts, le-ltb, length, length-append, lt-ltb, nat_lt, part_capacity, parts_capacity, parts_or_default, refl, sum_by-cons, sum_by_push, sym, with_capacity, ◌++◌, ◌+◌, ◌<◌, ◌^◌, ◌∙◌, ◌∷◌, ◌≡◌, ◌≤◌}
+use Rattle.iobufs.proofs.Parts.DrainShapes.{able-both, able-with_capacity, capacity-with_capacity, with_capacity-all, with_capacity-push}
 
 -- where there is a part, no other has to represent them
 pub default-some : (parts : List Part) → 0 < length parts → parts_or_default parts ≡ parts
@@ -16,10 +10,6 @@ default-some (p ∷ parts) some = refl
 -- parts that can all hold a byte are all kept
 pub kept-all : (parts : List Part) → HaveCapacity parts → 0 < length parts → parts ≡ kept_parts parts
 kept-all parts able some = sym (ap parts_or_default (with_capacity-all parts able) ∙ default-some parts some)
-
-able-push : (parts : List Part) (p : Part) → HaveCapacity parts → 0 < part_capacity p → HaveCapacity (parts ++ p ∷ [])
-able-push [] p able more = (more, tt)
-able-push (q ∷ parts) p able more = (able.0, able-push parts p able.1 more)
 
 -- one that can't hold a byte makes way
 pub kept-first : (first p : Part) → part_capacity first ≡ 0 → 0 < part_capacity p → p ∷ [] ≡ kept_parts (first ∷ p ∷ [])
@@ -37,17 +27,18 @@ pub parts-push : (parts : List Part) (p : Part) → IsParts parts → 1 < length
     → IsParts (parts ++ p ∷ [])
 parts-push parts p are several more fits = record {
   some = omega (arith, length-append parts (p ∷ []));
-  have_capacity = λ _. able-push parts p (are.have_capacity several) more;
+  have_capacity = λ _. able-both parts (p ∷ []) (are.have_capacity several) (more, tt);
   fits = omega (arith, sum_by_push part_capacity parts p);
 }
 
+-- a function that is equal on no part and on the default part is equal on parts, and on those with the default part for none
+pub of_default : {A : Type 0} (f : List Part → A) → f (empty_part 0 ∷ []) ≡ f [] → (parts : List Part) → f (parts_or_default parts) ≡ f parts
+of_default f same [] = same
+of_default f same (p ∷ parts) = refl
+
 -- the capacity of the parts that are kept
 pub capacity-kept : (parts : List Part) → parts_capacity (kept_parts parts) ≡ parts_capacity parts
-capacity-kept parts = of_default (with_capacity parts) ∙ capacity-with_capacity parts
-  where
-    of_default : (parts : List Part) → parts_capacity (parts_or_default parts) ≡ parts_capacity parts
-    of_default [] = refl
-    of_default (p ∷ parts) = refl
+capacity-kept parts = of_default parts_capacity refl (with_capacity parts) ∙ capacity-with_capacity parts
 
 -- one more part beside those that are kept
 pub kept-more : (parts : List Part) (p : Part) → 0 < part_capacity p → kept_parts (kept_parts parts ++ p ∷ []) ≡ kept_parts (parts ++ p ∷ [])
@@ -56,14 +47,6 @@ kept-more parts p more = ap parts_or_default (beside (with_capacity parts) (able
     beside : (parts : List Part) → HaveCapacity parts → with_capacity (parts_or_default parts ++ p ∷ []) ≡ parts ++ p ∷ []
     beside [] able = with_capacity-push [] p more
     beside (q ∷ parts) able = with_capacity-push (q ∷ parts) p more ∙ ap (λ ps. ps ++ p ∷ []) (with_capacity-all (q ∷ parts) able)
-
--- the kept parts that can hold a byte are those of all
-pub able-kept : (parts : List Part) → with_capacity (kept_parts parts) ≡ with_capacity parts
-able-kept parts = of_able (with_capacity parts) (able-with_capacity parts)
-  where
-    of_able : (able : List Part) → HaveCapacity able → with_capacity (parts_or_default able) ≡ able
-    of_able [] h = refl
-    of_able (p ∷ able) h = with_capacity-all (p ∷ able) h
 
 -- where parts that can hold a byte are kept, they are some, and have capacity
 pub able-some : (parts : List Part) → 1 < length (kept_parts parts) → (length (with_capacity parts) ≡ length (kept_parts parts)) × (0 < parts_capacity parts)

@@ -1,11 +1,5 @@
 -- One turn of a loop that goes over parts by index, front to back.
-use Rattle.std.proofs.Common.{◌≡◌, ℕ, ◌+◌, ◌<◌, ◌≤◌, List, [], ◌∷◌, ◌++◌, length, take, drop, refl, sym, ap, ◌∙◌, arith, append_assoc, take-append-drop, ⊎_elim, min, take_all, get_or, set}
-use Rattle.std.proofs.lemmas.Bool.{cases_lt}
-use Rattle.std.proofs.Math.Seq.{drop-set-lt}
-use Rattle.std.proofs.lemmas.List.{drop_all, drop_more, take_more_set}
-use Rattle.iobufs_core.specs.Part.{Part, part_put}
-use Rattle.iobufs.specs.Laws.Filling.{fill-nil}
-use Rattle.iobufs.specs.Parts.{parts_fill}
+use Rattle.iobufs.proofs.Text.{List, Part, [], ap, append_assoc, arith, by_lt, drop, drop-set-lt, drop_all, drop_more, fill-nil, get_or, length, min, part_put, parts_fill, refl, set, sym, take, take-append-drop, take_all, take_more_set, ℕ, ◌++◌, ◌+◌, ◌<◌, ◌∙◌, ◌∷◌, ◌≡◌}
 
 -- f works on one part after the other, and carries s along; the part at i was x and is y
 pub turn : {S : Type 0} (f : List Part → S → List Part) (g : Part → S → Part) (h : Part → S → S)
@@ -16,26 +10,18 @@ turn f g h step all now i x y s s' l e q r so_far =
     let front : take (i + 1) (set now i y) ≡ take i now ++ y ∷ [] = take_more_set now i y l in
     let rest : drop (i + 1) (set now i y) ≡ drop (i + 1) now = drop-set-lt (i + 1) now i y (omega arith) in
     let here : drop i now ≡ x ∷ drop (i + 1) now = drop_more now i x l ∙ ap (λ p. p ∷ drop (i + 1) now) (sym e) in
-    so_far ∙ ap (λ ps. take i now ++ f ps s) here
-    ∙ ap (λ ps. take i now ++ ps) (step x (drop (i + 1) now) s)
-    ∙ (λ j. take i now ++ (sym q j ∷ f (drop (i + 1) now) (sym r j)))
-    ∙ sym (append_assoc (take i now) (y ∷ []) (f (drop (i + 1) now) s'))
-    ∙ (λ j. sym front j ++ f (sym rest j) s')
+    cc (step x (drop (i + 1) now) s, append_assoc (take i now) (y ∷ []) (f (drop (i + 1) now) s'))
 
 -- a share of the bytes is what fits or all of them
 share_taken : (w : List ℕ) (n s : ℕ) → n ≡ min (length w) s → take n w ≡ take s w
 share_taken w n s e =
-    ⊎_elim
-    (λ (h : length w < s). let k : n ≡ length w = omega arith in ap (λ m. take m w) k ∙ take_all (length w) w (omega arith) ∙ sym (take_all s w (omega arith)))
-    (λ (h : s ≤ length w). let k : n ≡ s = omega arith in ap (λ m. take m w) k)
-    (cases_lt (length w) s)
+    by_lt (length w) s
+    (λ h. let k : n ≡ length w = omega arith in ap (λ m. take m w) k ∙ take_all (length w) w (omega arith) ∙ sym (take_all s w (omega arith)))
+    (λ h. let k : n ≡ s = omega arith in ap (λ m. take m w) k)
 
 share_dropped : (w : List ℕ) (n s : ℕ) → n ≡ min (length w) s → drop n w ≡ drop s w
 share_dropped w n s e =
-    ⊎_elim
-    (λ (h : length w < s). drop_all n w (omega arith) ∙ sym (drop_all s w (omega arith)))
-    (λ (h : s ≤ length w). let k : n ≡ s = omega arith in ap (λ m. drop m w) k)
-    (cases_lt (length w) s)
+    by_lt (length w) s (λ h. drop_all n w (omega arith) ∙ sym (drop_all s w (omega arith))) (λ h. let k : n ≡ s = omega arith in ap (λ m. drop m w) k)
 
 -- the part takes n bytes, u, and w' is left of them
 pub fill-turn : (all now : List Part) (i : ℕ) (x y : Part) (w w' u : List ℕ) (n : ℕ) → i < length now → x ≡ get_or now i x → y ≡ part_put x u

@@ -1,13 +1,5 @@
 -- The effect of the calls on several buffers on the sums that are stored with them.
-use Rattle.std.proofs.Common.{◌≡◌, ℕ, ◌+◌, ◌-◌, ◌≤◌, List, [], ◌∷◌, ◌++◌, length, take, drop, replicate, min, refl, ap, ◌∙◌, sym, arith, nat_eq, length-append, length-take, length-drop}
-use Rattle.std.proofs.lemmas.Bool.{cond_both, eqb-true}
-use Rattle.std.proofs.lemmas.List.{length-replicate}
-use Rattle.std.proofs.lemmas.List.Sums.{sum_by-cons}
-use Rattle.iobufs_core.specs.Part.{Part, part_capacity, part_drained, part_overwritten, part_with_len}
-use Rattle.iobufs.specs.Laws.Draining.{filled-drained}
-use Rattle.iobufs.specs.Laws.Filling.{spare-fill}
-use Rattle.iobufs.specs.Inside.PartSums.{AreSummed}
-use Rattle.iobufs.specs.Parts.{kept_parts, parts_capacity, parts_drained, parts_fill, parts_filled, parts_overwritten, parts_shared_out, parts_spare, parts_with_len}
+use Rattle.iobufs.proofs.Text.{AreSummed, List, Part, [], ap, arith, cond_both, drop, eqb-true, filled-drained, kept_parts, length, length-append, length-drop, length-replicate, length-take, min, nat_eq, part_capacity, part_drained, part_overwritten, part_with_len, parts_capacity, parts_drained, parts_fill, parts_filled, parts_overwritten, parts_shared_out, parts_spare, parts_with_len, refl, replicate, spare-fill, sum_by-cons, sym, take, ℕ, ◌++◌, ◌+◌, ◌-◌, ◌∙◌, ◌∷◌, ◌≡◌, ◌≤◌}
 use Rattle.iobufs.proofs.Parts.PartLaws.{capacity-parts, same-capacity, same-fill, same-overwritten, same-with_len}
 use Rattle.iobufs.proofs.Parts.PartRuns.{capacity-kept}
 
@@ -20,9 +12,8 @@ pub summed-fill : (parts new : List Part) (w : List ℕ) (len capacity : ℕ) �
     → new ≡ parts_fill parts w → AreSummed new (len + length w) capacity
 summed-fill parts new w len capacity sums fits is =
     let same = same-capacity parts (parts_fill parts w) (same-fill parts w) in
-    let room = spare-fill parts w fits in
     rw is (record {
-      len_is = omega (arith, capacity-parts parts, capacity-parts (parts_fill parts w), sums.len_is);
+      len_is = omega (arith, spare-fill parts w fits, capacity-parts parts, capacity-parts (parts_fill parts w), sums.len_is);
       capacity_is = sums.capacity_is ∙ same;
     })
 

@@ -1,11 +1,5 @@
 -- The chunks of a text (`text_chunks`): of pieces that hold bytes the bytes of each, of the empty text none.
-use Rattle.std.proofs.Common.{◌≡◌, ◌<◌, length, true, zero, suc, ℕ, ◌+◌, ◌-◌, List, [], ◌∷◌, ◌++◌, take, drop, map, refl, sym, ap, ◌∙◌, arith}
-use Rattle.std.proofs.Math.Seq.{take-append_seam}
-use Rattle.iobufs_core.specs.View.{View, Mark}
-use Rattle.iobufs_core.specs.Chunks.{full_chunks, is_full}
-use Rattle.iobufs_core.specs.MarkedText.{MarkedText, text_len, moved_up, text_glue, cut_up, text_chunks}
-use Rattle.iobufs.specs.Inside.Pieces.{view_len, of_pieces, AreFull}
-use Rattle.iobufs.specs.Laws.Filling.{drop_past}
+use Rattle.iobufs.proofs.Text.Known.{AreFull, List, Mark, MarkedText, View, [], ap, arith, cut_up, drop, drop_past, full_chunks, is_full, length, map, moved_up, of_pieces, refl, suc, sym, take, take-append_seam, text_chunks, text_glue, text_len, true, view_len, zero, ℕ, ◌++◌, ◌+◌, ◌-◌, ◌<◌, ◌∙◌, ◌∷◌, ◌≡◌}
 use Rattle.iobufs.proofs.Text.Sides.{no_sub}
 
 moved_off : (n k key : ℕ) (bytes : List ℕ) (cuts : List (ℕ × Mark)) → cut_up bytes (n + key) (map (moved_up n) cuts) ≡ cut_up bytes key cuts
@@ -19,14 +13,13 @@ unfolding of_pieces text_glue
 cut_up-of_pieces v [] = refl
 cut_up-of_pieces v (w ∷ vs) =
     let y = of_pieces (w ∷ vs) in
-    let ih = cut_up-of_pieces w vs in
     let a : take (view_len v) (v.bytes ++ y.bytes) ≡ v.bytes = take-append_seam v.bytes y.bytes in
     let b : drop (view_len v) (v.bytes ++ y.bytes) ≡ y.bytes = drop_past (view_len v) v.bytes y.bytes (omega arith)
     ∙ ap (λ n. drop n y.bytes) (let z : view_len v - view_len v ≡ 0 = omega arith in z) in
     let n : view_len v + 0 ≡ view_len v = omega arith in
     let c : cut_up y.bytes (view_len v) (map (moved_up (view_len v)) y.cuts) ≡ cut_up y.bytes 0 y.cuts =
     ap (λ k. cut_up y.bytes k (map (moved_up (view_len v)) y.cuts)) (sym n) ∙ moved_off (view_len v) 0 0 y.bytes y.cuts in
-    rw (no_sub (view_len v), a, b, c, ih)
+    rw (no_sub (view_len v), a, b, c, cut_up-of_pieces w vs)
 
 full_chunks-full : (vs : List View) → AreFull vs → full_chunks (map (λ (v : View). v.bytes) vs) ≡ map (λ (v : View). v.bytes) vs
 full_chunks-full [] f = refl

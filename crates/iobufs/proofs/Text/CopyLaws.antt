@@ -1,34 +1,20 @@
 -- Bytes copied piece by piece.
-use Rattle.std.proofs.Common.{◌≡◌, ℕ, ◌+◌, ◌-◌, ◌<◌, ◌≤◌, List, [], ◌∷◌, ◌++◌, length, take, drop, map, zero, suc, min, sym, ap, ◌∙◌, arith, add-one, append-nil, append_assoc, length-append, length-drop, length-take-le, drop-cons, get_or, take_all, ⊎_elim, refl, take-append-drop}
-use Rattle.std.proofs.lemmas.List.{map-append, take-append-le, drop-append-le, drop-drop, drop_at}
-use Rattle.std.proofs.lemmas.Bool.{cases_lt}
-use Rattle.std.proofs.lemmas.Grind.{flat_map-append}
-use Rattle.iobufs_core.specs.Part.{Part, part_put}
-use Rattle.iobufs_core.specs.View.{View, default_view}
-use Rattle.iobufs.specs.declared.bufs.row.Piece.{Piece}
-use Rattle.iobufs.specs.Inside.Ends.{views_in}
-use Rattle.iobufs.specs.Inside.Pieces.{view_len, piece_at, pieces_bytes, piece_start}
-use Rattle.std.proofs.Common.{Result, Err, Ok, IsErrAnd, IsOkUnless}
-use Rattle.iobufs.specs.Laws.Filling.{take_past}
+use Rattle.iobufs.proofs.Text.Known.{Err, IsErrAnd, IsOkUnless, List, Ok, Part, Piece, Result, View, [], add-one, ap, append-nil, append_assoc, arith, by_lt, default_view, drop, drop-append-le, drop-cons, drop-drop, drop_at, flat_map-append, get_or, length, length-append, length-drop, length-take-le, map, map-append, min, part_put, piece_at, piece_start, pieces_bytes, refl, suc, sym, take, take-append-drop, take-append-le, take_all, take_past, view_len, views_in, zero, ℕ, ◌++◌, ◌+◌, ◌-◌, ◌<◌, ◌∙◌, ◌∷◌, ◌≡◌, ◌≤◌}
 
 -- the bytes from inside a piece on
 pub bytes-from : (ps : List View) (i o : ℕ) → i < length ps → o ≤ view_len (piece_at ps i)
     → drop o (pieces_bytes (drop i ps)) ≡ drop o (piece_at ps i).bytes ++ pieces_bytes (drop (i + 1) ps)
-bytes-from ps i o l h =
-    let d : drop i ps ≡ piece_at ps i ∷ drop (i + 1) ps = drop-cons ps i default_view l ∙ ap (λ k. piece_at ps i ∷ drop k ps) (sym (add-one i)) in
-    ap (λ (qs : List View). drop o (pieces_bytes qs)) d ∙ drop-append-le o (piece_at ps i).bytes (pieces_bytes (drop (i + 1) ps)) h
+bytes-from ps i o l h = cc (drop-cons ps i default_view l, add-one i, drop-append-le o (piece_at ps i).bytes (pieces_bytes (drop (i + 1) ps)) h)
 
 take-both : (m : ℕ) (b rest : List ℕ) → take m (b ++ rest) ≡ take (min (length b) m) b ++ take (m - min (length b) m) rest
 take-both m b rest =
-    ⊎_elim
-    (λ (h : m < length b).
+    by_lt m (length b) (λ h.
     let k : min (length b) m ≡ m = omega arith in
     let z : m - m ≡ 0 = omega arith in
     rw (k, z) (take-append-le m b rest (omega arith) ∙ sym (append-nil (take m b))))
-    (λ (h : length b ≤ m).
+    (λ h.
     let k : min (length b) m ≡ length b = omega arith in
     rw k (take_past m b rest h ∙ ap (λ xs. xs ++ take (m - length b) rest) (sym (take_all (length b) b (omega arith)))))
-    (cases_lt m (length b))
 
 -- one turn of a copy: some bytes of a piece from a place in it on, then the next piece from its first byte on
 pub copied-turn : (ps : List View) (i o m : ℕ) (bytes : List ℕ) → i < length ps → o ≤ view_len (piece_at ps i) → bytes ≡ drop o (piece_at ps i).bytes
@@ -61,8 +47,7 @@ copied-step ps i o n c k copy more bytes target l h b s e r t m x =
     record {
       some = omega arith;
       left = omega arith;
-      so_far = ap (λ j. more ++ take j rest) left ∙ ap (λ xs. xs ++ take (n - c - k) rest) x
-          ∙ append_assoc copy (take k bytes) (take (n - c - k) rest) ∙ ap (λ xs. copy ++ xs) (sym turn) ∙ t;
+      so_far = cc (append_assoc copy (take k bytes) (take (n - c - k) rest));
     }
 
 -- a slice from a place on
@@ -82,16 +67,14 @@ pub filled-step : (ps : List View) (i o f k : ℕ) (dst now bytes target : List 
     → take (f + k) now ≡ take f dst ++ take k bytes → IsFilled ps (i + 1) (f + k) now target
 filled-step ps i o f k dst now bytes target l h b s r t m same x =
     let rest = pieces_bytes (drop (i + 1) ps) in
-    let whole : drop o (pieces_bytes (drop i ps)) ≡ bytes ++ rest = bytes-from ps i o l h ∙ ap (λ xs. xs ++ rest) (sym b) in
     let total : length (pieces_bytes (drop i ps)) - o ≡ length bytes + length rest =
-    sym (length-drop o (pieces_bytes (drop i ps))) ∙ ap length whole ∙ length-append bytes rest in
-    let left : length now - (f + k) ≡ length dst - f - k = omega arith in
+    sym (length-drop o (pieces_bytes (drop i ps))) ∙ ap length (bytes-from ps i o l h ∙ ap (λ xs. xs ++ rest) (sym b)) ∙ length-append bytes rest in
     let turn : take (length dst - f) (drop o (pieces_bytes (drop i ps))) ≡ take k bytes ++ take (length dst - f - k) rest =
     copied-turn ps i o (length dst - f) bytes l h b ∙ ap (λ j. take j bytes ++ take (length dst - f - j) rest) (sym m) in
     record {
       some = omega arith;
       left = omega arith;
-      so_far = ap (λ j. take (f + k) now ++ take j rest) left ∙ ap (λ xs. xs ++ take (length dst - f - k) rest) x
+      so_far = ap (λ j. take (f + k) now ++ take j rest) (omega arith) ∙ ap (λ xs. xs ++ take (length dst - f - k) rest) x
           ∙ append_assoc (take f dst) (take k bytes) (take (length dst - f - k) rest) ∙ ap (λ xs. take f dst ++ xs) (sym turn) ∙ t;
     }
 
@@ -100,10 +83,8 @@ pub from-place : (ps : List View) (at i o : ℕ) → piece_start ps i + o ≡ at
 from-place ps at i o e =
     let front = pieces_bytes (take i ps) in
     let behind = pieces_bytes (drop i ps) in
-    let whole : front ++ behind ≡ pieces_bytes ps =
-    sym (flat_map-append (λ (v : View). v.bytes) (take i ps) (drop i ps)) ∙ ap pieces_bytes (take-append-drop i ps) in
-    ap (drop o) (sym (drop_at front behind (length front) refl)) ∙ drop-drop o (length front) (front ++ behind) ∙ ap (λ n. drop n (front ++ behind)) e
-    ∙ ap (drop at) whole
+    let whole : front ++ behind ≡ pieces_bytes ps = cc (flat_map-append (λ (v : View). v.bytes) (take i ps) (drop i ps), take-append-drop i ps) in
+    cc (drop_at front behind (length front) refl, drop-drop o (length front) (front ++ behind))
 
 chunk-next : (ps : List View) (i : ℕ) → i < length ps → take (suc i) (map (λ (p : View). p.bytes) ps) ≡ take i (map (λ (p : View). p.bytes) ps)
     ++ (piece_at ps i).bytes ∷ []
@@ -115,9 +96,7 @@ chunk-next (p ∷ ps) (suc i) l = ap (λ rest. p.bytes ∷ rest) (chunk-next ps 
 pub chunks-step : {B : Type 0} (now : B → List ℕ) (chunks more : List B) (chunk : B) (ps : List View) (i : ℕ) → i < length ps
     → map now chunks ≡ take i (map (λ (p : View). p.bytes) ps) → now chunk ≡ (piece_at ps i).bytes → more ≡ chunks ++ chunk ∷ []
     → map now more ≡ take (i + 1) (map (λ (p : View). p.bytes) ps)
-chunks-step now chunks more chunk ps i l h b m =
-    ap (map now) m ∙ map-append now chunks (chunk ∷ []) ∙ (λ k. h k ++ b k ∷ []) ∙ sym (chunk-next ps i l)
-    ∙ ap (λ n. take n (map (λ (p : View). p.bytes) ps)) (sym (add-one i))
+chunks-step now chunks more chunk ps i l h b m = cc (map-append now chunks (chunk ∷ []), chunk-next ps i l, add-one i)
 
 -- a refusal by its cause
 pub only-cause : {A E : Type 0} (result : Result A E) (e cause : E) → IsErrAnd result (λ x. x ≡ e) → e ≡ cause → IsOkUnless result cause
@@ -154,5 +133,4 @@ put-both part a b i = record { filled = append_assoc part.filled a b i; spare = 
 pub joined-pieces : (front behind ps : List Piece) → front ++ behind ≡ ps
     → pieces_bytes (views_in front) ++ pieces_bytes (views_in behind) ≡ pieces_bytes (views_in ps)
 joined-pieces front behind ps e =
-    sym (flat_map-append (λ (v : View). v.bytes) (views_in front) (views_in behind))
-    ∙ ap pieces_bytes (sym (map-append (λ (p : Piece). p.view) front behind)) ∙ ap (λ (qs : List Piece). pieces_bytes (views_in qs)) e
+    cc (flat_map-append (λ (v : View). v.bytes) (views_in front) (views_in behind), map-append (λ (p : Piece). p.view) front behind)

@@ -1,16 +1,6 @@
 -- Stored ends of pieces, counted from a base, and that a row stays one (`IsRow`) where a piece comes or goes.
-use Rattle.std.proofs.Common.{◌≡◌, ℕ, ◌+◌, ◌-◌, ◌%◌, ◌^◌, ◌<◌, ◌≤◌, List, [], ◌∷◌, ◌++◌, length, take, drop, zero, suc, refl, sym, ap, ◌∙◌, arith, subst, get_or, take_all, append-nil, zero-add, length-append, length-drop, slice_index_or}
-use Rattle.std.proofs.lemmas.List.{length-map, map-append}
-use Rattle.iobufs.proofs.Text.PieceLaws.{AreFull-append}
-use Rattle.iobufs_core.specs.View.{View, view_advanced}
-use Rattle.iobufs.specs.Inside.Pieces.{view_len, piece_at, pieces_bytes, piece_start, AreFull, IsChunkPlace}
-use Rattle.iobufs.specs.Search.{IsRising, IsFirstPast}
-use Rattle.iobufs.specs.Inside.Ends.{from_base, views_in, ends_from, AreEnds, IsRow, IsSearch, shortened}
-use Rattle.iobufs.specs.declared.bufs.row.Piece.{Piece}
-
--- an end that is stored reads back, and a base moved up lessens it
-pub end-stored : (b l : ℕ) → b < 2 ^ 64 → l < 2 ^ 64 → from_base b ((b + l) % 2 ^ 64) ≡ l
-end-stored b l p q = omega arith
+use Rattle.iobufs.proofs.Text.Known.{AreEnds, AreFull, IsChunkPlace, IsFirstPast, IsRising, IsRow, IsSearch, List, Piece, View, [], ap, append-nil, arith, drop, ends_from, from_base, get_or, length, length-append, length-drop, length-map, map-append, piece_at, piece_start, pieces_bytes, refl, shortened, slice_index_or, subst, suc, sym, take, take_all, view_advanced, view_len, views_in, zero, zero-add, ℕ, ◌%◌, ◌++◌, ◌+◌, ◌-◌, ◌<◌, ◌^◌, ◌∙◌, ◌∷◌, ◌≡◌, ◌≤◌}
+use Rattle.iobufs.proofs.Text.PieceLaws.{AreFull-append, full-behind, full-run}
 
 pub base-up : (e b n : ℕ) → b < 2 ^ 64 → n ≤ from_base b e → from_base ((b + n) % 2 ^ 64) e ≡ from_base b e - n
 base-up e b n q l = omega arith
@@ -21,10 +11,6 @@ base-down e b n q r l = omega arith
 -- the base itself, seen from a base moved down
 pub base-before : (b n : ℕ) → b < 2 ^ 64 → n < 2 ^ 64 → from_base ((b + (2 ^ 64 - n)) % 2 ^ 64) b ≡ n
 base-before b n p q = omega arith
-
--- the end of the first piece, where the base stands once it has gone
-pub base-after : (b l e : ℕ) → b < 2 ^ 64 → e < 2 ^ 64 → from_base b e ≡ l → e ≡ (b + l) % 2 ^ 64
-base-after b l e p q h = omega arith
 
 pub length-first : (v : View) (vs : List View) → length (pieces_bytes (v ∷ vs)) ≡ view_len v + length (pieces_bytes vs)
 length-first v vs = length-append v.bytes (pieces_bytes vs)
@@ -60,9 +46,7 @@ pub ends-append : (b start : ℕ) (ps qs : List Piece) → AreEnds b start ps �
     → AreEnds b start (ps ++ qs)
 ends-append b start [] qs h g = let z : start + 0 ≡ start = omega arith in subst (λ m. AreEnds b m qs) z g
 ends-append b start (p ∷ ps) qs h g =
-    let len = length-first p.view (views_in ps) in
-    let same : start + length (pieces_bytes (views_in (p ∷ ps))) ≡ start + view_len p.view + length (pieces_bytes (views_in ps)) = omega arith in
-    (h.0, ends-append b (start + view_len p.view) ps qs h.1 (subst (λ m. AreEnds b m qs) same g))
+    (h.0, ends-append b (start + view_len p.view) ps qs h.1 (subst (λ m. AreEnds b m qs) (omega (arith, length-first p.view (views_in ps))) g))
 
 pub ends-take : (b start n : ℕ) (ps : List Piece) → AreEnds b start ps → AreEnds b start (take n ps)
 ends-take b start zero ps h = tt
@@ -73,9 +57,7 @@ pub ends-drop : (b start n : ℕ) (ps : List Piece) → AreEnds b start ps → A
 ends-drop b start zero ps h = let z : start + 0 ≡ start = omega arith in subst (λ m. AreEnds b m ps) (sym z) h
 ends-drop b start (suc n) [] h = tt
 ends-drop b start (suc n) (p ∷ ps) h =
-    let len = length-first p.view (take n (views_in ps)) in
-    let same : start + view_len p.view + piece_start (views_in ps) n ≡ start + piece_start (views_in (p ∷ ps)) (suc n) = omega arith in
-    subst (λ m. AreEnds b m (drop n ps)) same (ends-drop b (start + view_len p.view) n ps h.1)
+    subst (λ m. AreEnds b m (drop n ps)) (omega (arith, length-first p.view (take n (views_in ps)))) (ends-drop b (start + view_len p.view) n ps h.1)
 
 -- the i-th end is where the next piece begins
 pub end-at : (b start i : ℕ) (ps : List Piece) → AreEnds b start ps → i < length ps → get_or (ends_from b ps) i 0 ≡ start + piece_start (views_in ps) (suc i)
@@ -113,9 +95,7 @@ starts-rise vs i (suc n) f l =
 -- of full pieces a later one begins further on, and the end lies further on than each
 pub starts-below : (vs : List View) (i j : ℕ) → AreFull vs → i < j → j ≤ length vs → piece_start vs i < piece_start vs j
 starts-below vs i j f l m =
-    let h = starts-rise vs i (j - i - 1) f (omega arith) in
-    let e : i + suc (j - i - 1) ≡ j = omega arith in
-    subst (λ k. piece_start vs i < piece_start vs k) e h
+    subst (λ k. piece_start vs i < piece_start vs k) (omega arith) (starts-rise vs i (j - i - 1) f (omega arith))
 
 pub rising-ends : (b : ℕ) (ps : List Piece) → AreEnds b 0 ps → AreFull (views_in ps) → IsRising (ends_from b ps)
 rising-ends b ps h f i j l m =
@@ -159,9 +139,9 @@ place-first b ps at i start h first is =
 full-push : (vs : List View) (v : View) → AreFull vs → 0 < view_len v → AreFull (vs ++ v ∷ [])
 full-push vs v f p = AreFull-append vs (v ∷ []) f (p, tt)
 
--- the views of pieces with one more are those of the pieces, and after them its own
-pub views-push : (ps : List Piece) (p : Piece) → views_in (ps ++ p ∷ []) ≡ views_in ps ++ p.view ∷ []
-views-push ps p = map-append (λ (q : Piece). q.view) ps (p ∷ [])
+-- where a piece is the last, its view is the last of the views
+pub views-popped : (ps qs : List Piece) (p : Piece) → ps ≡ qs ++ p ∷ [] → views_in ps ≡ views_in qs ++ p.view ∷ []
+views-popped ps qs p is = ap (λ (xs : List Piece). views_in xs) is ∙ map-append (λ (q : Piece). q.view) qs (p ∷ [])
 
 -- a row with one more piece after it, which has bytes and whose end is stored, is a row, where all bytes fit a number
 pub row-push : (b e : ℕ) (ps qs : List Piece) (v : View) → IsRow b ps → 0 < view_len v → length (pieces_bytes (views_in ps)) + view_len v < 2 ^ 64
@@ -169,12 +149,11 @@ pub row-push : (b e : ℕ) (ps qs : List Piece) (v : View) → IsRow b ps → 0 
 row-push b e ps qs v h some fits ends is =
     let l = length (pieces_bytes (views_in ps)) + view_len v in
     let z : 0 + length (pieces_bytes (views_in ps)) + view_len v ≡ l = omega arith in
-    let stored : from_base b e ≡ 0 + length (pieces_bytes (views_in ps)) + view_len v = ap (from_base b) ends ∙ end-stored b l h.based fits ∙ sym z in
     subst (IsRow b) (sym is) (
     record {
       based = h.based;
-      ended = ends-append b 0 ps _ h.ended (record { stored = omega arith; placed = stored }, tt);
-      full = subst AreFull (sym (views-push ps (record { view = v; end = e }))) (full-push (views_in ps) v h.full some);
+      ended = ends-append b 0 ps _ h.ended (record { stored = omega arith; placed = (ap (from_base b) ends ∙ omega arith ∙ sym z) }, tt);
+      full = subst AreFull (sym (views-popped _ ps (record { view = v; end = e }) refl)) (full-push (views_in ps) v h.full some);
     })
 
 -- a row with one more piece at the front, which has bytes and ends at the base, is a row from the base moved down by them, where all bytes fit a number
@@ -183,11 +162,10 @@ pub row-cons : (b c : ℕ) (ps qs : List Piece) (v : View) → IsRow b ps → 0 
 row-cons b c ps qs v h some fits base is =
     let n = view_len v in
     let less : n < 2 ^ 64 = omega arith in
-    let first : from_base ((b + (2 ^ 64 - n)) % 2 ^ 64) b ≡ 0 + n = base-before b n h.based less ∙ (omega arith) in
     subst (λ (xs : List Piece). IsRow c xs) (sym is) (subst (λ m. IsRow m (record { view = v; end = b } ∷ ps)) (sym base) (
     record {
       based = omega arith;
-      ended = (record { stored = h.based; placed = first }, ends-down b 0 n ps h.based less (omega arith) h.ended);
+      ended = (record { stored = h.based; placed = (base-before b n h.based less ∙ (omega arith)) }, ends-down b 0 n ps h.based less (omega arith) h.ended);
       full = (some, h.full);
     }))
 
@@ -196,40 +174,39 @@ pub row-pop : (b : ℕ) (p : Piece) (ps qs : List Piece) → IsRow b qs → qs �
 row-pop b p ps qs h is =
     let g = subst (IsRow b) is h in
     let (end, others) = g.ended in
-    let z : 0 + view_len p.view ≡ view_len p.view = omega arith in
-    let base : p.end ≡ (b + (0 + view_len p.view)) % 2 ^ 64 = base-after b (0 + view_len p.view) p.end g.based end.stored end.placed in
-    let none : 0 + view_len p.view - (0 + view_len p.view) ≡ 0 = omega arith in
     let up = ends-up b (0 + view_len p.view) (0 + view_len p.view) ps g.based (omega arith) others in
     record {
       based = end.stored;
-      ended = subst (λ m. AreEnds m 0 ps) (sym base) (subst (λ m. AreEnds ((b + (0 + view_len p.view)) % 2 ^ 64) m ps) none up);
+      ended = subst (λ m. AreEnds m 0 ps) (sym (omega arith)) (subst (λ m. AreEnds ((b + (0 + view_len p.view)) % 2 ^ 64) m ps) (omega arith) up);
       full = g.full.1;
     }
 
+-- the views of the first pieces are the first views, and those of the pieces after them the others
+pub views-take : (n : ℕ) (ps : List Piece) → views_in (take n ps) ≡ take n (views_in ps)
+views-take zero ps = refl
+views-take (suc n) [] = refl
+views-take (suc n) (p ∷ ps) = ap (λ vs. p.view ∷ vs) (views-take n ps)
+
+-- the views of the pieces after the first ones
+pub views-drop : (n : ℕ) (ps : List Piece) → views_in (drop n ps) ≡ drop n (views_in ps)
+views-drop zero ps = refl
+views-drop (suc n) [] = refl
+views-drop (suc n) (p ∷ ps) = views-drop n ps
+
 -- the first pieces of a row are a row from the same base
 pub row-take : (b n : ℕ) (ps : List Piece) → IsRow b ps → IsRow b (take n ps)
-row-take b n ps h = record { based = h.based; ended = ends-take b 0 n ps h.ended; full = take-full n ps h.full }
-  where
-    take-full : (n : ℕ) (ps : List Piece) → AreFull (views_in ps) → AreFull (views_in (take n ps))
-    take-full zero ps f = tt
-    take-full (suc n) [] f = tt
-    take-full (suc n) (p ∷ ps) f = (f.0, take-full n ps f.1)
+row-take b n ps h =
+    record { based = h.based; ended = ends-take b 0 n ps h.ended; full = subst AreFull (sym (views-take n ps)) (full-run n (views_in ps) h.full) }
 
 -- the pieces of a row from one on are a row, and its base is moved up by the bytes before them
 pub row-drop : (b n start : ℕ) (ps : List Piece) → IsRow b ps → start ≡ piece_start (views_in ps) n → IsRow ((b + start) % 2 ^ 64) (drop n ps)
 row-drop b n start ps h is =
-    let z : 0 + piece_start (views_in ps) n - start ≡ 0 = omega arith in
     record {
       based = omega arith;
-      ended = subst (λ m. AreEnds ((b + start) % 2 ^ 64) m (drop n ps)) z
+      ended = subst (λ m. AreEnds ((b + start) % 2 ^ 64) m (drop n ps)) (omega arith)
           (ends-up b (0 + piece_start (views_in ps) n) start (drop n ps) h.based (omega arith) (ends-drop b 0 n ps h.ended));
-      full = drop-full n ps h.full;
+      full = subst AreFull (sym (views-drop n ps)) (full-behind n (views_in ps) h.full);
     }
-  where
-    drop-full : (n : ℕ) (ps : List Piece) → AreFull (views_in ps) → AreFull (views_in (drop n ps))
-    drop-full zero ps f = f
-    drop-full (suc n) [] f = f
-    drop-full (suc n) (p ∷ ps) f = drop-full n ps f.1
 
 -- a row whose first piece loses fewer bytes than it has is a row, and its base is moved up by them
 pub row-shorten : (b n : ℕ) (ps qs : List Piece) → IsRow b ps → n < view_len (piece_at (views_in ps) 0) → qs ≡ shortened ps n → IsRow ((b + n) % 2 ^ 64) qs
@@ -240,11 +217,10 @@ row-shorten b n (p ∷ ps) qs h l is =
     let here : from_base ((b + n) % 2 ^ 64) p.end ≡ 0 + view_len (view_advanced p.view n) =
     base-up p.end b n h.based (omega (arith, end.placed)) ∙ (omega (arith, end.placed)) in
     let up = ends-up b (0 + view_len p.view) n ps h.based (omega arith) others in
-    let same : 0 + view_len p.view - n ≡ 0 + view_len (view_advanced p.view n) = omega arith in
     subst (λ (xs : List Piece). IsRow ((b + n) % 2 ^ 64) xs) (sym is) (
     record {
       based = omega arith;
-      ended = (record { stored = end.stored; placed = here }, subst (λ m. AreEnds ((b + n) % 2 ^ 64) m ps) same up);
+      ended = (record { stored = end.stored; placed = here }, subst (λ m. AreEnds ((b + n) % 2 ^ 64) m ps) (omega arith) up);
       full = (omega arith, h.full.1);
     })
 
@@ -252,12 +228,11 @@ row-shorten b n (p ∷ ps) qs h l is =
 pub row-search : (b place : ℕ) (ps : List Piece) → IsRow b ps → place < length (pieces_bytes (views_in ps)) → IsSearch (ends_from b ps) place
 row-search b place [] h l = absurd (omega arith)
 row-search b place (p ∷ ps) h l =
-    let n = length-map (p ∷ ps) (λ (q : Piece). from_base b q.end) in
     let last = last-end b (p ∷ ps) (omega arith) h.ended in
     record {
       rising = rising-ends b (p ∷ ps) h.ended h.full;
       some = omega arith;
-      inside = rw n (omega arith);
+      inside = rw (length-map (p ∷ ps) (λ (q : Piece). from_base b q.end)) (omega arith);
     }
 
 -- the end of a piece, less the base
@@ -276,14 +251,11 @@ pub end-of_last : (b n : ℕ) (ps : List Piece) (p : Piece) → IsRow b ps → 0
 end-of_last b n ps p h l e is =
     let k = length-map ps (λ (p : Piece). p.view) in
     let s : suc (n - 1) ≡ n = omega arith in
-    end-of b (n - 1) ps p h (omega arith) is
-    ∙ ap (piece_start (views_in ps)) s
-    ∙ ap (λ (vs : List View). length (pieces_bytes vs)) (take_all n (views_in ps) (omega arith))
+    cc (end-of b (n - 1) ps p h (omega arith) is, take_all n (views_in ps) (omega arith))
 
 -- a number holds where the last piece ends
 pub ends-fit : (b start : ℕ) (ps : List Piece) → start < 2 ^ 64 → AreEnds b start ps → start + length (pieces_bytes (views_in ps)) < 2 ^ 64
 ends-fit b start [] less ends = omega arith
 ends-fit b start (p ∷ ps) less ends =
-    let here : start + view_len p.view < 2 ^ 64 = omega (arith, ends.0.placed) in
-    let rest = ends-fit b (start + view_len p.view) ps here ends.1 in
+    let rest = ends-fit b (start + view_len p.view) ps (omega (arith, ends.0.placed)) ends.1 in
     omega (arith, length-append p.view.bytes (pieces_bytes (views_in ps)))

@@ -1,14 +1,5 @@
 -- Bytes compared piece by piece.
-use Rattle.std.proofs.Common.{◌≡◌, ℕ, ◌+◌, ◌-◌, ◌<◌, ◌≤◌, Bool, true, false, not, nat_eq, List, [], ◌++◌, length, take, drop, refl, sym, ap, ◌∙◌, arith, append-nil, append_assoc, length-append, length-drop}
-use Rattle.std.proofs.lemmas.Bool.{true≢false}
-use Rattle.std.proofs.lemmas.Bool.Decides.{same_from_decides}
-use Rattle.std.proofs.lemmas.List.{append_cancel_left, drop-drop, drop_all, nil_from_length, take-append-drop, take-append-le}
-use Rattle.std.proofs.Math.Seq.{take-append_seam}
-use Rattle.std.specs.Option.{is_some}
-use Rattle.std.specs.Prelude.{Option, None, Some, MatchOption}
-use Rattle.std.specs.Cmp.Lexicographic.{pointwise, bytes_decides}
-use Rattle.iobufs_core.specs.View.{View}
-use Rattle.iobufs.specs.Inside.Pieces.{bytes_behind, piece_at, pieces_bytes, view_len}
+use Rattle.iobufs.proofs.Text.Known.{Bool, List, MatchOption, None, Option, Some, View, [], ap, append-nil, append_assoc, append_cancel_left, arith, bytes_behind, bytes_decides, drop, drop-drop, drop_all, false, is_some, length, length-append, length-drop, nat_eq, nil_from_length, not, piece_at, pieces_bytes, pointwise, refl, same_from_decides, sym, take, take-append-drop, take-append-le, take-append_seam, true, true≢false, view_len, ℕ, ◌++◌, ◌+◌, ◌-◌, ◌<◌, ◌∙◌, ◌≡◌, ◌≤◌}
 use Rattle.iobufs.proofs.Text.CopyLaws.{bytes-from, slice_from}
 
 -- `start` and `bytes` begin with the same compared bytes, and go on with `rest` and `left`
@@ -16,10 +7,6 @@ pub record IsMatched (start bytes left rest : List ℕ) : Type 0 where
   pub done : List ℕ
   pub compared : bytes ≡ done ++ left
   pub stands : start ≡ done ++ rest
-
--- before anything was compared
-pub matched-none : (start bytes : List ℕ) → IsMatched start bytes bytes start
-matched-none start bytes = record { done = []; compared = refl; stands = refl }
 
 -- a chunk more
 pub matched-more : (start bytes left rest chunk behind more : List ℕ) → IsMatched start bytes left rest → left ≡ chunk ++ behind → rest ≡ chunk ++ more
@@ -68,10 +55,8 @@ pub matched-within : (start bytes left rest chunk behind : List ℕ) → IsMatch
     → false ≡ not (pointwise nat_eq left (take (length left) chunk)) → start ≡ bytes ++ (drop (length left) chunk ++ behind)
 matched-within start bytes left rest chunk behind m stands same =
     let n = length left in
-    let front = (bytes_decides left (take n chunk)).0 (unfalse _ same) in
     matched-all start bytes left rest (drop n chunk ++ behind) m
-    (stands ∙ ap (λ xs. xs ++ behind) (sym (take-append-drop n chunk)) ∙ append_assoc (take n chunk) (drop n chunk) behind
-    ∙ ap (λ xs. xs ++ (drop n chunk ++ behind)) (sym front))
+    (cc (take-append-drop n chunk, append_assoc (take n chunk) (drop n chunk) behind, (bytes_decides left (take n chunk)).0 (unfalse _ same)))
 
 -- a chunk that is no longer than what is left to compare, and isn't its beginning
 pub matched-past-not : (start bytes left rest chunk behind : List ℕ) → IsMatched start bytes left rest → rest ≡ chunk ++ behind → length chunk ≤ length left
@@ -93,10 +78,8 @@ matched-past start bytes left rest chunk behind more m stands same is =
 -- if `rest` is empty and `start` is long enough, `start` begins with `bytes`
 pub matched-end : (start bytes left rest : List ℕ) → IsMatched start bytes left rest → rest ≡ [] → length bytes ≤ length start → start ≡ bytes ++ rest
 matched-end start bytes left rest m none enough =
-    let b = length-append m.done left in
-    let s = length-append m.done rest in
     let left_none : left ≡ [] = nil_from_length left
-    (omega (arith, b, s, enough, ap length m.compared, ap length m.stands, ap length none)) in
+    (omega (arith, length-append m.done left, length-append m.done rest, enough, ap length m.compared, ap length m.stands, ap length none)) in
     matched-all start bytes left rest rest m (sym (ap (λ xs. xs ++ rest) left_none))
 
 -- after the last chunk there are no bytes
@@ -114,10 +97,7 @@ chunk-stands vs i o all l inside is =
 -- from inside a piece on, and from further inside on
 pub further-behind : (vs : List View) (i o n : ℕ) (all : List ℕ) → i < length vs → o + n ≤ view_len (piece_at vs i) → all ≡ (piece_at vs i).bytes
     → bytes_behind vs i (o + n) ≡ drop n (take (length all - o) (drop o all)) ++ pieces_bytes (drop (i + 1) vs)
-further-behind vs i o n all l inside is =
-    bytes-from vs i (o + n) l inside
-    ∙ ap (λ xs. xs ++ pieces_bytes (drop (i + 1) vs))
-    (sym (drop-drop n o (piece_at vs i).bytes) ∙ ap (λ xs. drop n (drop o xs)) (sym is) ∙ ap (drop n) (sym (slice_from o all)))
+further-behind vs i o n all l inside is = cc (bytes-from vs i (o + n) l inside, drop-drop n o (piece_at vs i).bytes, slice_from o all)
 
 -- `left` is as long as `rest` if `bytes` is as long as `start`
 pub matched-lengths : (start bytes left rest : List ℕ) → IsMatched start bytes left rest → length bytes ≡ length start → length left ≡ length rest

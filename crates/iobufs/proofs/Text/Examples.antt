@@ -1,7 +1,5 @@
 -- Worked values of texts in pieces, computed by the definitions.
-use Rattle.std.proofs.Common.{◌≡◌, ℕ, List, [], ◌∷◌, refl}
-use Rattle.iobufs_core.specs.View.{View, static_mark, native_mark, default_view}
-use Rattle.iobufs_core.specs.MarkedText.{MarkedText, of_view, default_text, text_left, text_right, text_split_front, text_rest, text_advanced, taken_view, text_glue, text_append, text_prepend, text_coalesced, joined, chunk_count, text_chunks}
+use Rattle.iobufs.proofs.Text.Known.{List, MarkedText, View, [], chunk_count, default_text, default_view, joined, native_mark, of_view, refl, static_mark, taken_view, text_advanced, text_append, text_chunks, text_coalesced, text_glue, text_left, text_prepend, text_rest, text_right, text_split_front, ℕ, ◌∷◌, ◌≡◌}
 
 abbrev ab : List ℕ
 ab = 97 ∷ 98 ∷ []

@@ -1,7 +1,5 @@
 -- A width that each probe halves.
-use Rattle.std.proofs.Common.{◌≡◌, ℕ, ◌+◌, ◌-◌, ◌*◌, ◌^◌, ◌<◌, ◌≤◌, arith, ⊎_elim, ap, subst}
-use Rattle.std.proofs.lemmas.Nat.{pow_below, mul-le, pow-add}
-use Rattle.std.proofs.lemmas.Bool.{cases_lt, cases_order}
+use Rattle.iobufs.proofs.Text.Known.{ap, arith, by_lt, cases_order, mul-le, pow-add, pow_below, subst, ℕ, ⊎_elim, ◌*◌, ◌+◌, ◌-◌, ◌<◌, ◌^◌, ◌≡◌, ◌≤◌}
 
 -- one probe more, over at most half of the width
 product : (x w v n : ℕ) → v + v ≤ w → x * w < n → (x * 2) * v < n
@@ -41,10 +39,7 @@ twice p w n e h = let d = pow-add 2 p 1 in rw d (subst (λ k. n < 2 ^ p * k) e h
 -- where 2 ^ p is at most twice a number below 2 ^ 64, p is below 2 ^ 32 - 1
 pub few_probes : (p n : ℕ) → 2 ^ p ≤ 2 * n → n < 2 ^ 64 → p < 2 ^ 32 - 1
 few_probes p n l m =
-    ⊎_elim
-    (λ (h : p < 66). omega arith)
-    (λ (h : 66 ≤ p). let k = pow_below 65 p (omega arith) in absurd (omega arith))
-    (cases_lt p 66)
+    by_lt p 66 (λ h. omega arith) (λ h. let k = pow_below 65 p (omega arith) in absurd (omega arith))
 
 -- so many probes are no more than the number of digits
 pub few_digits : (p n d : ℕ) → 2 ^ p ≤ 2 * n → n < 2 ^ d → p ≤ d

@@ -1,11 +1,7 @@
 -- Room for the bytes of pieces (`AreViews`), also on either side of a place; with it the text that they make is well formed (`IsMarked`).
-use Rattle.std.proofs.Common.{Bool, true, false, cond, nat_eq, ◌≡◌, ℕ, ◌+◌, ◌-◌, ◌<◌, ◌≤◌, List, [], ◌∷◌, ◌++◌, length, take, map, arith, length-append, length-drop, length-take, suc, zero, ⊎_elim, All}
-use Rattle.std.proofs.lemmas.Bool.{cases_lt}
-use Rattle.iobufs_core.specs.View.{View, Mark, ReachesEnd, IsView, default_view, mark_after, native_mark, static_mark, bytes_mark, view_front, view_advanced}
-use Rattle.iobufs_core.specs.MarkedText.{IsMarked, AreCuts, text_len, moved_up, text_glue}
-use Rattle.iobufs.specs.Inside.Pieces.{view_len, of_pieces, IsPieces, AreViews, left_pieces, right_pieces, rest_pieces, pieces_bytes}
+use Rattle.iobufs.proofs.Text.Known.{All, AreCuts, AreViews, IsMarked, IsPieces, IsView, List, Mark, ReachesEnd, View, [], arith, by_lt, bytes_mark, cond_both, default_view, left_pieces, length, length-append, length-drop, length-take, map, mark_after, moved_up, nat_eq, native_mark, of_pieces, pieces_bytes, rest_pieces, right_pieces, static_mark, suc, take, text_glue, text_len, view_front, view_len, zero, ℕ, ◌++◌, ◌+◌, ◌-◌, ◌∷◌, ◌≡◌, ◌≤◌}
+use Rattle.iobufs.proofs.Text.PieceLaws.{IsPieces-from_full, left_pieces-past, left_pieces-within, len-of_pieces, length-bytes, right_pieces-past, right_pieces-within}
 use Rattle.iobufs.proofs.Text.Sides.{no_sub}
-use Rattle.iobufs.proofs.Text.PieceLaws.{right_pieces-within, right_pieces-past, left_pieces-within, left_pieces-past, length-bytes, len-of_pieces, IsPieces-from_full}
 
 pub AreCuts-up : (n k : ℕ) (m : Mark) (es : List (ℕ × Mark)) (end : ℕ) → AreCuts k m es end → AreCuts (n + k) m (map (moved_up n) es) (n + end)
 AreCuts-up n k m [] end h = let d : n + end - (n + k) ≡ end - k = omega arith in rw d h
@@ -20,11 +16,10 @@ IsMarked-of_pieces v (w ∷ vs) (first, behind) h =
     let y = of_pieces (w ∷ vs) in
     let s = len-of_pieces (w ∷ vs) in
     let n = length-bytes w vs in
-    let ih = IsMarked-of_pieces w vs (IsPieces-from_full w vs behind) (λ k d l. h (suc k) d (omega arith)) in
     let e : length (v.bytes ++ y.bytes) ≡ view_len v + text_len y = length-append v.bytes y.bytes in
     let r : ReachesEnd v.mark (view_len v) = h 0 v (omega arith) in
     let up : AreCuts (view_len v + 0) y.mark (map (moved_up (view_len v)) y.cuts) (view_len v + text_len y) =
-    AreCuts-up (view_len v) 0 y.mark y.cuts (text_len y) ih in
+    AreCuts-up (view_len v) 0 y.mark y.cuts (text_len y) (IsMarked-of_pieces w vs (IsPieces-from_full w vs behind) (λ k d l. h (suc k) d (omega arith))) in
     let z : view_len v + 0 ≡ view_len v = omega arith in
     let end : AreCuts (view_len v) y.mark (map (moved_up (view_len v)) y.cuts) (length (v.bytes ++ y.bytes)) = rw e (rw z at up) in
     (record { rises = omega (arith, first); below = omega (arith, behind.0); room = rw (no_sub (view_len v)) r }, end)
@@ -40,13 +35,8 @@ HasRoom-less static_mark n k l h = tt
 HasRoom-less bytes_mark n k l h = tt
 HasRoom-less (native_mark r) n k l h = omega arith
 
--- a view with room for its bytes has room for those that are left when it is advanced
-pub IsView-advanced : (at : ℕ) (v : View) → IsView v → IsView (view_advanced v at)
-IsView-advanced at v h = rw (length-drop at v.bytes) (HasRoom-on v.mark (view_len v) at h)
-
 pub IsView-front : (at : ℕ) (v : View) → IsView v → IsView (view_front v at)
-IsView-front at v h = let n : length (take at v.bytes) ≤ view_len v =
-    (let t = length-take at v.bytes in omega arith) in HasRoom-less v.mark (view_len v) (length (take at v.bytes)) n h
+IsView-front at v h = HasRoom-less v.mark (view_len v) (length (take at v.bytes)) (omega (arith, length-take at v.bytes)) h
 
 -- where pieces have room for their bytes and so have those after them, all have
 pub AreViews-append : (vs ws : List View) → AreViews vs → AreViews ws → AreViews (vs ++ ws)
@@ -57,31 +47,22 @@ AreViews-append (v ∷ vs) ws f g = (f.0, AreViews-append vs ws f.1 g)
 pub AreViews-right : (at : ℕ) (vs : List View) → AreViews vs → AreViews (right_pieces vs at)
 AreViews-right at [] f = tt
 AreViews-right at (v ∷ vs) f =
-    ⊎_elim
-    (λ (h : at < view_len v). rw (right_pieces-within at v vs h) (IsView-advanced at v f.0, f.1))
-    (λ (h : view_len v ≤ at). rw (right_pieces-past at v vs h) (AreViews-right (at - view_len v) vs f.1))
-    (cases_lt at (view_len v))
+    by_lt at (view_len v) (λ h. rw (right_pieces-within at v vs h) ((rw (length-drop at v.bytes) (HasRoom-on v.mark (view_len v) at f.0)), f.1))
+    (λ h. rw (right_pieces-past at v vs h) (AreViews-right (at - view_len v) vs f.1))
 
 -- where pieces have room for their bytes, so have those that are left without the first bytes
 pub AreViews-rest : (n : ℕ) (vs : List View) → AreViews vs → AreViews (rest_pieces vs n)
-AreViews-rest n vs f = either (nat_eq n (length (pieces_bytes vs))) (default_view ∷ []) (right_pieces vs n) (tt, tt) (AreViews-right n vs f)
-  where
-    either : (b : Bool) (us ws : List View) → AreViews us → AreViews ws → AreViews (cond b us ws)
-    either true us ws f g = f
-    either false us ws f g = g
+AreViews-rest n vs f =
+    cond_both (nat_eq n (length (pieces_bytes vs))) (default_view ∷ []) (right_pieces vs n) AreViews (λ _. (tt, tt)) (λ _. AreViews-right n vs f)
 
 -- where pieces have room for their bytes, so have those up to a place
 pub AreViews-left : (at : ℕ) (vs : List View) → AreViews vs → AreViews (left_pieces vs at)
 AreViews-left at [] f = tt
 AreViews-left at (v ∷ vs) f =
-    ⊎_elim
-    (λ (p : 0 < at).
-    ⊎_elim
-    (λ (h : at < view_len v). rw (left_pieces-within at v vs p h) (IsView-front at v f.0, tt))
-    (λ (h : view_len v ≤ at). rw (left_pieces-past at v vs p h) (f.0, AreViews-left (at - view_len v) vs f.1))
-    (cases_lt at (view_len v)))
-    (λ (p : at ≤ 0). let z : at ≡ 0 = omega arith in rw z tt)
-    (cases_lt 0 at)
+    by_lt 0 at (λ p.
+    by_lt at (view_len v) (λ h. rw (left_pieces-within at v vs p h) (IsView-front at v f.0, tt))
+    (λ h. rw (left_pieces-past at v vs p h) (f.0, AreViews-left (at - view_len v) vs f.1)))
+    (λ p. let z : at ≡ 0 = omega arith in rw z tt)
 
 -- pieces with room for their bytes, one or several of which none is empty, make a well formed text
 pub IsMarked-from_views : (vs : List View) → IsPieces vs → AreViews vs → IsMarked (of_pieces vs)

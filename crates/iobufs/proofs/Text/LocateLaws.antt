@@ -1,10 +1,6 @@
 -- A place among the keys of a text.
-use Rattle.std.proofs.Common.{◌≡◌, ℕ, ◌+◌, ◌-◌, ◌<◌, ◌≤◌, nat_le, List, [], ◌∷◌, length, take, map, filter, zero, suc, refl, sym, ap, ◌∙◌, arith, length-append}
-use Rattle.iobufs_core.specs.View.{View, Mark}
-use Rattle.iobufs_core.specs.MarkedText.{MarkedText, key_upto, moved_up, text_glue}
-use Rattle.iobufs.specs.Located.{keys_upto, greatest_key}
-use Rattle.iobufs.specs.Inside.Pieces.{view_len, piece_at, pieces_bytes, piece_start, of_pieces, IsChunkPlace}
-use Rattle.iobufs.proofs.Text.Sides.{both, FromOn, le_up, upto_none, upto_up, is_le, not_le}
+use Rattle.iobufs.proofs.Text.Known.{IsChunkPlace, List, Mark, MarkedText, View, [], ap, arith, filter, greatest_key, key_upto, keys_upto, le-leb, length, length-append, lt-leb, map, moved_up, nat_le, of_pieces, piece_at, piece_start, pieces_bytes, refl, suc, sym, take, text_glue, view_len, zero, ℕ, ◌+◌, ◌-◌, ◌<◌, ◌∙◌, ◌∷◌, ◌≡◌, ◌≤◌}
+use Rattle.iobufs.proofs.Text.Sides.{FromOn, both, le_up, upto_none, upto_up}
 use Rattle.iobufs.proofs.Text.TakenLaws.{from_on-of_pieces}
 
 -- the number of cuts at an offset or before it
@@ -13,7 +9,7 @@ cuts_upto cuts at = length (filter (λ key. nat_le key at) (map (λ (cut : ℕ �
 
 cuts-none : (at n : ℕ) (cuts : List (ℕ × Mark)) → FromOn n cuts → at < n → cuts_upto cuts at ≡ 0
 cuts-none at n [] h l = refl
-cuts-none at n (cut ∷ cuts) h l = rw (not_le cut.0 at (omega (arith, h.0))) (cuts-none at n cuts h.1 l)
+cuts-none at n (cut ∷ cuts) h l = rw (lt-leb cut.0 at (omega (arith, h.0))) (cuts-none at n cuts h.1 l)
 
 cuts-up : (at n : ℕ) (cuts : List (ℕ × Mark)) → n ≤ at → cuts_upto (map (moved_up n) cuts) at ≡ cuts_upto cuts (at - n)
 cuts-up at n [] l = refl
@@ -21,15 +17,12 @@ cuts-up at n (cut ∷ cuts) l =
     rw (le_up at n cut.0 l) (both length length (nat_le cut.0 (at - n)) _ _ _ _ (ap suc (cuts-up at n cuts l)) (cuts-up at n cuts l))
 
 keys-count : (t : MarkedText) (at : ℕ) → keys_upto t at ≡ 1 + cuts_upto t.cuts at
-keys-count t at = rw (is_le 0 at (omega arith)) (omega arith)
-
-keys-within : (v w : View) (vs : List View) (at : ℕ) → at < view_len v → cuts_upto (of_pieces (v ∷ w ∷ vs)).cuts at ≡ 0
-keys-within v w vs at l = cuts-none at (view_len v) _ (from_on-of_pieces v (w ∷ vs)) l
+keys-count t at = rw (le-leb 0 at (omega arith)) (omega arith)
 
 keys-past : (v w : View) (vs : List View) (at : ℕ) → view_len v ≤ at
     → cuts_upto (of_pieces (v ∷ w ∷ vs)).cuts at ≡ 1 + cuts_upto (of_pieces (w ∷ vs)).cuts (at - view_len v)
 unfolding of_pieces text_glue
-keys-past v w vs at l = rw (is_le (view_len v) at l) (ap suc (cuts-up at (view_len v) (of_pieces (w ∷ vs)).cuts l) ∙ (omega arith))
+keys-past v w vs at l = rw (le-leb (view_len v) at l) (ap suc (cuts-up at (view_len v) (of_pieces (w ∷ vs)).cuts l) ∙ (omega arith))
 
 greatest-within : (v w : View) (vs : List View) (at : ℕ) → at < view_len v → greatest_key (of_pieces (v ∷ w ∷ vs)) at ≡ 0
 greatest-within v w vs at l =
@@ -40,7 +33,7 @@ greatest-cons : (n at : ℕ) (m k : Mark) (cuts : List (ℕ × Mark)) → n ≤ 
     → (key_upto (0, m) ((n, k) ∷ map (moved_up n) cuts) at).0 ≡ n + (key_upto (0, k) cuts (at - n)).0
 greatest-cons n at m k cuts l =
     let z : n + 0 ≡ n = omega arith in
-    rw (is_le n at l) (ap (λ j. (key_upto (j, k) (map (moved_up n) cuts) at).0) (sym z) ∙ ap (λ (key : ℕ × Mark). key.0) (upto_up at n (0, k) cuts l))
+    rw (le-leb n at l) (ap (λ j. (key_upto (j, k) (map (moved_up n) cuts) at).0) (sym z) ∙ ap (λ (key : ℕ × Mark). key.0) (upto_up at n (0, k) cuts l))
 
 greatest-past : (v w : View) (vs : List View) (at : ℕ) → view_len v ≤ at
     → greatest_key (of_pieces (v ∷ w ∷ vs)) at ≡ view_len v + greatest_key (of_pieces (w ∷ vs)) (at - view_len v)
@@ -57,9 +50,8 @@ located [] at i o sum inside = absurd (omega arith)
 located (v ∷ []) at zero o sum inside = one v at o (omega arith)
 located (v ∷ []) at (suc i) o sum inside = absurd (omega arith)
 located (v ∷ w ∷ vs) at zero o sum inside =
-    let k = keys-within v w vs at (omega arith) in
     let g = greatest-within v w vs at (omega arith) in
-    (k, omega arith)
+    ((cuts-none at (view_len v) _ (from_on-of_pieces v (w ∷ vs)) (omega arith)), omega arith)
 located (v ∷ w ∷ vs) at (suc i) o sum inside =
     let n : piece_start (v ∷ w ∷ vs) (suc i) ≡ view_len v + piece_start (w ∷ vs) i = length-append v.bytes (pieces_bytes (take i (w ∷ vs))) in
     let ih = located (w ∷ vs) (at - view_len v) i o (omega arith) inside in
@@ -72,14 +64,9 @@ located (v ∷ w ∷ vs) at (suc i) o sum inside =
 -- the index of the chunk of an offset, plus one, is the number of keys up to the offset
 pub index-located : (vs : List View) (t : MarkedText) (at i o : ℕ) → of_pieces vs ≡ t → IsChunkPlace vs at i o → i + 1 ≡ keys_upto t at
 index-located vs t at i o e place =
-    let h = (located vs at i o place.sum place.inside).0 in
-    let k = keys-count t at in
-    let c = ap (λ (x : MarkedText). cuts_upto x.cuts at) e in
-    omega arith
+    omega (arith, (located vs at i o place.sum place.inside).0, keys-count t at, ap (λ (x : MarkedText). cuts_upto x.cuts at) e)
 
 -- an offset is the greatest key up to it, plus its distance in its chunk
 pub offset-located : (vs : List View) (t : MarkedText) (at i o : ℕ) → of_pieces vs ≡ t → IsChunkPlace vs at i o → greatest_key t at + o ≡ at
 offset-located vs t at i o e place =
-    let h = (located vs at i o place.sum place.inside).1 in
-    let g = ap (λ (x : MarkedText). greatest_key x at) e in
-    omega arith
+    omega (arith, (located vs at i o place.sum place.inside).1, ap (λ (x : MarkedText). greatest_key x at) e)

@@ -1,11 +1,6 @@
 -- Which marked text a list of pieces makes (`of_pieces`): its bytes, mark, cuts and two sides; and the pieces on either side of a place.
-use Rattle.std.proofs.Common.{◌≡◌, ℕ, ◌+◌, ◌-◌, ◌<◌, ◌≤◌, List, [], ◌∷◌, ◌++◌, length, take, drop, refl, sym, ap, ◌∙◌, arith, append-nil, length-append, length-drop, suc, ⊎_elim, length-take-le, nat_eq, take_all, ◌⊎◌, true, false, tests}
-use Rattle.std.proofs.lemmas.List.{length-map}
-use Rattle.std.proofs.lemmas.Bool.{cases_lt, cases_order}
-use Rattle.iobufs_core.specs.View.{View, default_view, view_front, view_advanced}
-use Rattle.iobufs_core.specs.MarkedText.{MarkedText, of_view, default_text, text_len, moved_up, text_left, text_right, text_split_front, text_rest, is_single, text_advanced, text_glue}
-use Rattle.iobufs.specs.Inside.Pieces.{view_len, pieces_bytes, of_pieces, AreFull, IsPieces, left_pieces, rest_pieces, right_pieces}
-use Rattle.iobufs.proofs.Text.Sides.{glue_assoc, right-of_view, left-of_view, is_lt, not_zero, not_lt, right-glue_within, right-glue_past, left-glue_within, left-glue_past, same_eq, not_eq, same_view, mark_after-zero}
+use Rattle.iobufs.proofs.Text.Known.{AreFull, IsPieces, List, MarkedText, View, [], ap, append-nil, arith, by_lt, cases_order, default_text, default_view, drop, eq-eqb, false, is_single, le-ltb, left_pieces, length, length-append, length-drop, length-map, length-take-le, lt-ltb, moved_up, nat_eq, of_pieces, of_view, pieces_bytes, refl, rest_pieces, right_pieces, suc, sym, take, take_all, tests, text_advanced, text_glue, text_left, text_len, text_rest, text_right, text_split_front, true, view_advanced, view_front, view_len, zero, ℕ, ⊎_elim, ◌++◌, ◌+◌, ◌-◌, ◌<◌, ◌∙◌, ◌∷◌, ◌≡◌, ◌≤◌, ◌⊎◌}
+use Rattle.iobufs.proofs.Text.Sides.{glue_assoc, left-glue_past, left-glue_within, left-of_view, mark_after-zero, not_eq, not_zero, right-glue_past, right-glue_within, right-of_view, same_view}
 
 -- a piece before others makes its view's text with theirs after it
 pub of_pieces-cons : (v w : View) (vs : List View) → of_pieces (v ∷ w ∷ vs) ≡ text_glue (of_view v) (of_pieces (w ∷ vs))
@@ -34,16 +29,15 @@ cuts-of_pieces v (w ∷ vs) = ap suc (length-map (of_pieces (w ∷ vs)).cuts (mo
 pub of_pieces-append : (v w : View) (vs ws : List View) → of_pieces ((v ∷ vs) ++ (w ∷ ws)) ≡ text_glue (of_pieces (v ∷ vs)) (of_pieces (w ∷ ws))
 unfolding of_pieces
 of_pieces-append v w [] ws = refl
-of_pieces-append v w (u ∷ us) ws = ap (text_glue (of_view v)) (of_pieces-append u w us ws)
-    ∙ sym (glue_assoc (of_view v) (of_pieces (u ∷ us)) (of_pieces (w ∷ ws)))
+of_pieces-append v w (u ∷ us) ws = cc (of_pieces-append u w us ws, glue_assoc (of_view v) (of_pieces (u ∷ us)) (of_pieces (w ∷ ws)))
 
 -- from a place within the first piece on stand that piece advanced, and the others
 pub right_pieces-within : (at : ℕ) (v : View) (vs : List View) → at < view_len v → right_pieces (v ∷ vs) at ≡ view_advanced v at ∷ vs
-right_pieces-within at v vs l = rw (is_lt at (view_len v) l)
+right_pieces-within at v vs l = rw (lt-ltb at (view_len v) l)
 
 -- from a place after the bytes of the first piece on stands what the others have from there on
 pub right_pieces-past : (at : ℕ) (v : View) (vs : List View) → view_len v ≤ at → right_pieces (v ∷ vs) at ≡ right_pieces vs (at - view_len v)
-right_pieces-past at v vs l = rw (not_lt at (view_len v) l)
+right_pieces-past at v vs l = rw (le-ltb at (view_len v) l)
 
 -- up to place 0 stands no piece
 pub left_pieces-none : (vs : List View) → left_pieces vs 0 ≡ []
@@ -52,17 +46,16 @@ left_pieces-none (v ∷ vs) = refl
 
 -- up to a place within the first piece stands its front
 pub left_pieces-within : (at : ℕ) (v : View) (vs : List View) → 0 < at → at < view_len v → left_pieces (v ∷ vs) at ≡ view_front v at ∷ []
-left_pieces-within at v vs p l = rw (not_zero at p, is_lt at (view_len v) l)
+left_pieces-within at v vs p l = rw (not_zero at p, lt-ltb at (view_len v) l)
 
 -- up to the end of the first piece, or a place after it, stand that piece and what the others have up to there
 pub left_pieces-past : (at : ℕ) (v : View) (vs : List View) → 0 < at → view_len v ≤ at → left_pieces (v ∷ vs) at ≡ v ∷ left_pieces vs (at - view_len v)
-left_pieces-past at v vs p l = rw (not_zero at p, not_lt at (view_len v) l)
+left_pieces-past at v vs p l = rw (not_zero at p, le-ltb at (view_len v) l)
 
 -- up to the end of the first piece, where that has bytes, stands that piece
 pub left_pieces-first : (at : ℕ) (v : View) (vs : List View) → 0 < at → at ≡ view_len v → left_pieces (v ∷ vs) at ≡ v ∷ []
 left_pieces-first at v vs p e =
-    let z : at - view_len v ≡ 0 = omega arith in
-    left_pieces-past at v vs p (omega arith) ∙ ap (λ m. v ∷ left_pieces vs m) z ∙ ap (λ x. v ∷ x) (left_pieces-none vs)
+    left_pieces-past at v vs p (omega arith) ∙ ap (λ m. v ∷ left_pieces vs m) (omega arith) ∙ ap (λ x. v ∷ x) (left_pieces-none vs)
 
 -- the front of a view up to its end, or after it, is the view
 pub front-all : (at : ℕ) (v : View) → view_len v ≤ at → view_front v at ≡ v
@@ -76,18 +69,13 @@ length-bytes v vs = length-append v.bytes (pieces_bytes vs)
 pub right-of_pieces : (at : ℕ) (vs : List View) → at < length (pieces_bytes vs) → text_right (of_pieces vs) at ≡ of_pieces (right_pieces vs at)
 right-of_pieces at [] l = absurd (omega arith)
 right-of_pieces at (v ∷ []) l =
-    let n : length (v.bytes ++ []) ≡ view_len v = ap length (append-nil v.bytes) in
-    let l' : at < view_len v = omega arith in
-    rw (of_pieces-one v, right_pieces-within at v [] l', of_pieces-one (view_advanced v at)) (right-of_view at v)
+    rw (of_pieces-one v, right_pieces-within at v [] (omega (arith, ap length (append-nil v.bytes))), of_pieces-one (view_advanced v at)) (right-of_view at v)
 right-of_pieces at (v ∷ w ∷ vs) l =
-    let n = length-bytes v (w ∷ vs) in
     rw (of_pieces-cons v w vs)
-    (⊎_elim
-    (λ (h : at < view_len v). rw (right_pieces-within at v (w ∷ vs) h, of_pieces-cons (view_advanced v at) w vs)
+    (by_lt at (view_len v) (λ h. rw (right_pieces-within at v (w ∷ vs) h, of_pieces-cons (view_advanced v at) w vs)
     (right-glue_within at v (of_pieces (w ∷ vs)) h))
-    (λ (h : view_len v ≤ at). rw (right_pieces-past at v (w ∷ vs) h)
-    (right-glue_past at v (of_pieces (w ∷ vs)) h ∙ right-of_pieces (at - view_len v) (w ∷ vs) (omega arith)))
-    (cases_lt at (view_len v)))
+    (λ h. rw (right_pieces-past at v (w ∷ vs) h)
+    (right-glue_past at v (of_pieces (w ∷ vs)) h ∙ right-of_pieces (at - view_len v) (w ∷ vs) (omega (arith, length-bytes v (w ∷ vs))))))
 
 -- a first view, and others after it
 pub record HasFirst (vs : List View) : Type 0 where
@@ -97,10 +85,8 @@ pub record HasFirst (vs : List View) : Type 0 where
 
 pub left_pieces-some : (at : ℕ) (v : View) (vs : List View) → 0 < at → HasFirst (left_pieces (v ∷ vs) at)
 left_pieces-some at v vs p =
-    ⊎_elim
-    (λ (h : at < view_len v). record { first = view_front v at; others = []; is = left_pieces-within at v vs p h })
-    (λ (h : view_len v ≤ at). record { first = v; others = left_pieces vs (at - view_len v); is = left_pieces-past at v vs p h })
-    (cases_lt at (view_len v))
+    by_lt at (view_len v) (λ h. record { first = view_front v at; others = []; is = left_pieces-within at v vs p h })
+    (λ h. record { first = v; others = left_pieces vs (at - view_len v); is = left_pieces-past at v vs p h })
 
 pub of_pieces-more : (v : View) (vs : List View) → HasFirst vs → of_pieces (v ∷ vs) ≡ text_glue (of_view v) (of_pieces vs)
 of_pieces-more v vs some = rw some.is (of_pieces-cons v some.first some.others)
@@ -151,30 +137,36 @@ pub AreFull-append : (vs ws : List View) → AreFull vs → AreFull ws → AreFu
 AreFull-append [] ws f g = g
 AreFull-append (v ∷ vs) ws f g = (f.0, AreFull-append vs ws f.1 g)
 
+-- where no piece is empty, none of the first ones is
+pub full-run : (m : ℕ) (vs : List View) → AreFull vs → AreFull (take m vs)
+full-run zero vs full = tt
+full-run (suc m) [] full = tt
+full-run (suc m) (v ∷ vs) full = (full.0, full-run m vs full.1)
+
+-- where no piece is empty, none of those after the first ones is
+pub full-behind : (i : ℕ) (vs : List View) → AreFull vs → AreFull (drop i vs)
+full-behind zero vs full = full
+full-behind (suc i) [] full = tt
+full-behind (suc i) (v ∷ vs) full = full-behind i vs full.1
+
 -- where no piece is empty, none is of those from a place below the end on, and there is one
 pub AreFull-right : (at : ℕ) (vs : List View) → AreFull vs → at < length (pieces_bytes vs) → AreFull (right_pieces vs at) × (0 < length (right_pieces vs at))
 AreFull-right at [] f l = absurd (omega arith)
 AreFull-right at (v ∷ vs) f l =
     let n = length-bytes v vs in
     let m : length (drop at v.bytes) ≡ view_len v - at = length-drop at v.bytes in
-    ⊎_elim
-    (λ (h : at < view_len v). rw (right_pieces-within at v vs h) ((omega arith, f.1), omega arith))
-    (λ (h : view_len v ≤ at). rw (right_pieces-past at v vs h) (AreFull-right (at - view_len v) vs f.1 (omega arith)))
-    (cases_lt at (view_len v))
+    by_lt at (view_len v) (λ h. rw (right_pieces-within at v vs h) ((omega arith, f.1), omega arith))
+    (λ h. rw (right_pieces-past at v vs h) (AreFull-right (at - view_len v) vs f.1 (omega arith)))
 
 -- where no piece is empty, none is of those up to a place
 pub AreFull-left : (at : ℕ) (vs : List View) → AreFull vs → AreFull (left_pieces vs at)
 AreFull-left at [] f = tt
 AreFull-left at (v ∷ vs) f =
-    ⊎_elim
-    (λ (p : 0 < at).
-    ⊎_elim
-    (λ (h : at < view_len v). let m : length (take at v.bytes) ≡ at =
+    by_lt 0 at (λ p.
+    by_lt at (view_len v) (λ h. let m : length (take at v.bytes) ≡ at =
     length-take-le at v.bytes (omega arith) in rw (left_pieces-within at v vs p h) (omega arith, tt))
-    (λ (h : view_len v ≤ at). rw (left_pieces-past at v vs p h) (f.0, AreFull-left (at - view_len v) vs f.1))
-    (cases_lt at (view_len v)))
-    (λ (p : at ≤ 0). let z : at ≡ 0 = omega arith in rw z tt)
-    (cases_lt 0 at)
+    (λ h. rw (left_pieces-past at v vs p h) (f.0, AreFull-left (at - view_len v) vs f.1)))
+    (λ p. let z : at ≡ 0 = omega arith in rw z tt)
 
 -- the text of pieces has the mark of the first
 pub mark-of_pieces : (v : View) (vs : List View) → (of_pieces (v ∷ vs)).mark ≡ v.mark
@@ -184,7 +176,7 @@ mark-of_pieces v (w ∷ vs) = refl
 
 -- a split at the end of a text with bytes leaves the default text
 pub rest-all : (at : ℕ) (t : MarkedText) → 0 < at → at ≡ text_len t → text_rest t at ≡ default_text
-rest-all at t p e = rw (not_zero at p, same_eq at (text_len t) e)
+rest-all at t p e = rw (not_zero at p, eq-eqb at (text_len t) e)
 
 pub rest-inside : (at : ℕ) (t : MarkedText) → 0 < at → at < text_len t → text_rest t at ≡ text_right t at
 rest-inside at t p l = rw (not_zero at p, not_eq at (text_len t) l)
@@ -231,14 +223,11 @@ right_pieces-none (v ∷ vs) f = right_pieces-within 0 v vs f.0 ∙ ap (λ w. w 
 pub advanced-of_view : (n : ℕ) (v : View) → n ≤ view_len v → text_advanced (of_view v) n ≡ of_view (view_advanced v n)
 advanced-of_view n v l =
     ⊎_elim
-    (λ (h : n ≡ view_len v). rw (same_eq n (view_len v) h) (right-of_view n v))
+    (λ (h : n ≡ view_len v). rw (eq-eqb n (view_len v) h) (right-of_view n v))
     (λ (h : (n < view_len v) ⊎ (view_len v < n)).
     ⊎_elim
     (λ (k : n < view_len v). rw (not_eq n (view_len v) k)
-    (⊎_elim
-    (λ (z : 0 < n). rw (not_zero n z) (right-of_view n v))
-    (λ (z : n ≤ 0). let e : n ≡ 0 = omega arith in rw e (ap of_view (sym (advanced_view-none v))))
-    (cases_lt 0 n)))
+    (by_lt 0 n (λ z. rw (not_zero n z) (right-of_view n v)) (λ z. let e : n ≡ 0 = omega arith in rw e (ap of_view (sym (advanced_view-none v))))))
     (λ (k : view_len v < n). absurd (omega arith))
     h)
     (cases_order n (view_len v))
@@ -247,11 +236,6 @@ pub bytes-text_left : (at : ℕ) (t : MarkedText) → (text_left t at).bytes ≡
 unfolding text_left
 bytes-text_left at t = refl
 
+-- the pieces before a place have the bytes before it
 pub bytes-left : (at : ℕ) (vs : List View) → 0 < at → at ≤ length (pieces_bytes vs) → pieces_bytes (left_pieces vs at) ≡ take at (pieces_bytes vs)
-bytes-left at vs p l =
-    sym (bytes-of_pieces (left_pieces vs at)) ∙ ap (λ t. t.bytes) (sym (left-of_pieces at vs p l)) ∙ bytes-text_left at (of_pieces vs)
-    ∙ ap (take at) (bytes-of_pieces vs)
-
--- the pieces up to a place have as many bytes as it says
-pub length-left : (at : ℕ) (vs : List View) → 0 < at → at ≤ length (pieces_bytes vs) → length (pieces_bytes (left_pieces vs at)) ≡ at
-length-left at vs p l = ap length (bytes-left at vs p l) ∙ length-take-le at (pieces_bytes vs) l
+bytes-left at vs p l = cc (bytes-of_pieces (left_pieces vs at), left-of_pieces at vs p l, bytes-text_left at (of_pieces vs), bytes-of_pieces vs)

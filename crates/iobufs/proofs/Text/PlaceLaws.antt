@@ -1,9 +1,7 @@
 -- The pieces on either side of a place, told by the piece that holds it and how far it lies in that.
-use Rattle.std.proofs.Common.{◌≡◌, ℕ, ◌+◌, ◌-◌, ◌^◌, ◌<◌, ◌≤◌, List, [], ◌∷◌, ◌++◌, length, take, drop, refl, sym, ap, ◌∙◌, arith, length-append, suc, zero, get_or}
-use Rattle.iobufs_core.specs.View.{View, default_view, view_front, view_advanced}
-use Rattle.iobufs.specs.Inside.Pieces.{view_len, pieces_bytes, piece_start, piece_at, IsChunkPlace, AreFull, left_pieces, right_pieces}
+use Rattle.iobufs.proofs.Text.Known.{AreFull, IsChunkPlace, List, View, [], ap, arith, default_view, drop, get_or, left_pieces, length, length-append, piece_at, piece_start, pieces_bytes, refl, right_pieces, suc, sym, take, view_advanced, view_front, view_len, zero, ℕ, ◌++◌, ◌+◌, ◌-◌, ◌<◌, ◌^◌, ◌∙◌, ◌∷◌, ◌≡◌, ◌≤◌}
+use Rattle.iobufs.proofs.Text.PieceLaws.{front-all, left_pieces-first, left_pieces-none, left_pieces-past, left_pieces-within, length-bytes, order3, right_pieces-none, right_pieces-past, right_pieces-within}
 use Rattle.iobufs.proofs.Text.Sides.{no_sub}
-use Rattle.iobufs.proofs.Text.PieceLaws.{length-bytes, right_pieces-none, right_pieces-within, right_pieces-past, left_pieces-none, left_pieces-within, left_pieces-past, left_pieces-first, front-all, order3}
 
 -- By the index of the piece that holds a place. `piece_start i vs` is the number of bytes before the i-th piece.
 pub right_pieces-at : (i at : ℕ) (vs : List View) (d : View) → i < length vs → piece_start vs i ≤ at
@@ -24,8 +22,7 @@ left_pieces-at zero at (v ∷ vs) d l p q =
     (λ h. rw (left_pieces-first at v vs (omega arith) h, no_sub at) (ap (λ x. x ∷ []) (sym (front-all at v (omega arith)))))
     (λ h. absurd (omega arith))
 left_pieces-at (suc i) at (v ∷ vs) d l p q =
-    let n : piece_start (v ∷ vs) (suc i) ≡ view_len v + piece_start vs i = length-append v.bytes (pieces_bytes (take i vs)) in
-    let k : at - piece_start (v ∷ vs) (suc i) ≡ at - view_len v - piece_start vs i = omega arith in
+    let k : at - piece_start (v ∷ vs) (suc i) ≡ at - view_len v - piece_start vs i = omega (arith, length-append v.bytes (pieces_bytes (take i vs))) in
     rw (left_pieces-past at v vs (omega arith) (omega arith), k)
     (ap (λ ws. v ∷ ws) (left_pieces-at i (at - view_len v) vs d (omega arith) (omega arith) (omega arith)))
 
@@ -36,16 +33,14 @@ left_pieces-seam (suc i) [] f = refl
 left_pieces-seam (suc i) (v ∷ vs) f =
     let n : piece_start (v ∷ vs) (suc i) ≡ view_len v + piece_start vs i = length-append v.bytes (pieces_bytes (take i vs)) in
     let k : piece_start (v ∷ vs) (suc i) - view_len v ≡ piece_start vs i = omega arith in
-    left_pieces-past (piece_start (v ∷ vs) (suc i)) v vs (omega (arith, f.0)) (omega arith) ∙ ap (λ m. v ∷ left_pieces vs m) k
-    ∙ ap (λ ws. v ∷ ws) (left_pieces-seam i vs f.1)
+    cc (left_pieces-past (piece_start (v ∷ vs) (suc i)) v vs (omega (arith, f.0)) (omega arith), left_pieces-seam i vs f.1)
 
 pub right_pieces-seam : (i : ℕ) (vs : List View) → AreFull vs → right_pieces vs (piece_start vs i) ≡ drop i vs
 right_pieces-seam zero vs f = right_pieces-none vs f
 right_pieces-seam (suc i) [] f = refl
 right_pieces-seam (suc i) (v ∷ vs) f =
     let n : piece_start (v ∷ vs) (suc i) ≡ view_len v + piece_start vs i = length-append v.bytes (pieces_bytes (take i vs)) in
-    let k : piece_start (v ∷ vs) (suc i) - view_len v ≡ piece_start vs i = omega arith in
-    right_pieces-past (piece_start (v ∷ vs) (suc i)) v vs (omega arith) ∙ ap (λ m. right_pieces vs m) k ∙ right_pieces-seam i vs f.1
+    right_pieces-past (piece_start (v ∷ vs) (suc i)) v vs (omega arith) ∙ ap (λ m. right_pieces vs m) (omega arith) ∙ right_pieces-seam i vs f.1
 
 -- the piece of a place is one of the pieces
 pub index-of_place : (vs : List View) (at i o : ℕ) → IsChunkPlace vs at i o → i < length vs
@@ -67,31 +62,21 @@ bytes-fit (v ∷ w ∷ vs) at i o place here many = many (omega arith)
 -- up to a place inside a piece stand the pieces before that one, and its front
 pub left-at_place : (vs : List View) (at i o : ℕ) → IsChunkPlace vs at i o → 0 < o → left_pieces vs at ≡ take i vs ++ view_front (piece_at vs i) o ∷ []
 left-at_place vs at i o h p =
-    let n = index-of_place vs at i o h in
-    let s = h.sum in
-    let l = h.inside in
-    let d : at - piece_start vs i ≡ o = omega arith in
-    left_pieces-at i at vs default_view n (omega arith) (omega arith) ∙ ap (λ m. take i vs ++ view_front (piece_at vs i) m ∷ []) d
+    let d : at - piece_start vs i ≡ o = omega (arith, h.sum, h.inside) in
+    left_pieces-at i at vs default_view (index-of_place vs at i o h) (omega arith) (omega arith) ∙ ap (λ m. take i vs ++ view_front (piece_at vs i) m ∷ []) d
 
 -- from a place in a piece on stand that piece advanced, and those after it
 pub right-at_place : (vs : List View) (at i o : ℕ) → IsChunkPlace vs at i o → right_pieces vs at ≡ view_advanced (piece_at vs i) o ∷ drop (suc i) vs
 right-at_place vs at i o h =
     let n = index-of_place vs at i o h in
-    let s = h.sum in
-    let l = h.inside in
-    let d : at - piece_start vs i ≡ o = omega arith in
-    right_pieces-at i at vs default_view n (omega arith) (omega arith) ∙ ap (λ m. view_advanced (piece_at vs i) m ∷ drop (suc i) vs) d
+    right_pieces-at i at vs default_view n (omega arith) (omega arith) ∙ ap (λ m. view_advanced (piece_at vs i) m ∷ drop (suc i) vs) (omega arith)
 
 -- a place between two pieces
 pub left-at_edge : (vs : List View) (at i o : ℕ) → AreFull vs → IsChunkPlace vs at i o → o ≡ 0 → left_pieces vs at ≡ take i vs
 left-at_edge vs at i o f h z =
-    let s = h.sum in
-    let e : at ≡ piece_start vs i = omega arith in
-    ap (λ m. left_pieces vs m) e ∙ left_pieces-seam i vs f
+    ap (λ m. left_pieces vs m) (omega (arith, h.sum)) ∙ left_pieces-seam i vs f
 
 -- where no piece is empty, from the first byte of one on stand that one and those after it
 pub right-at_edge : (vs : List View) (at i o : ℕ) → AreFull vs → IsChunkPlace vs at i o → o ≡ 0 → right_pieces vs at ≡ drop i vs
 right-at_edge vs at i o f h z =
-    let s = h.sum in
-    let e : at ≡ piece_start vs i = omega arith in
-    ap (λ m. right_pieces vs m) e ∙ right_pieces-seam i vs f
+    ap (λ m. right_pieces vs m) (omega (arith, h.sum)) ∙ right_pieces-seam i vs f

@@ -1,26 +1,11 @@
 -- The chunks that a reader of several chunks sees, and the bytes that it takes.
-use Rattle.std.proofs.Common.{◌≡◌, ◌≢◌, Result, Ok, Err, IfOk, ℕ, ◌+◌, ◌-◌, ◌<◌, ◌≤◌, true, false, Some, List, [], ◌∷◌, ◌++◌, length, take, drop, map, zero, suc, refl, sym, ap, ◌∙◌, arith, tests, add-one, append-nil, length-append, length-drop, length-take-le, take_all, zero-add, get_or, nat_eq, ⊎_elim, subst}
-use Rattle.std.specs.List.{slice_get}
-use Rattle.std.specs.declared.ops.Bound.TheVariants.{Included, Excluded}
-use Rattle.std.proofs.lemmas.Grind.{common_steps}
-use Rattle.std.proofs.lemmas.List.{nil_from_length, take-append-drop, drop-take}
-use Rattle.std.proofs.lemmas.List.Concat.{flat_map-append}
-use Rattle.std.proofs.lemmas.Bool.{cases_lt, false≢true}
-use Rattle.std.proofs.lemmas.Bool.Decides.{nat_tests}
-use Rattle.std.proofs.Math.Seq.{take-append_seam}
-use Rattle.iobufs_core.specs.Chunks.{first_chunk, IsChunkOf}
-use Rattle.iobufs_core.specs.View.{View, default_view, view_front, view_advanced, view_slice, native_mark}
-use Rattle.iobufs_core.specs.Part.{part_frozen}
-use Rattle.iobufs_core.specs.MarkedText.{MarkedText, of_view, text_len, is_single, text_chunks, text_coalesced, text_rest, text_right, taken_view}
-use Rattle.iobufs.specs.Inside.Pieces.{view_len, pieces_bytes, piece_at, piece_start, of_pieces, behind_first, rest_pieces, right_pieces, AreFull, IsPieces, IsChunkPlace, AreViews}
-use Rattle.iobufs.specs.Inside.Kept.{text_of}
-use Rattle.iobufs.specs.declared.bufs.IoBufs.TheInside.{Inside}
-use Rattle.iobufs.proofs.Text.PieceLaws.{bytes-of_pieces, len-of_pieces, right-of_pieces, length-bytes, AreFull-from_pieces, of_pieces-one, front-all, rest-all, rest_pieces-all, rest_pieces-inside, right_pieces-past, right_pieces-none}
-use Rattle.iobufs.proofs.Text.PlaceLaws.{index-of_place, right-at_place}
-use Rattle.iobufs.proofs.Text.TakenLaws.{taken_view-right, taken_view-within, taken_view-across}
+use Rattle.iobufs.proofs.Text.Known.{AreFull, AreViews, Err, Excluded, IfOk, Included, Inside, IsChunkOf, IsChunkPlace, IsPieces, List, MarkedText, Ok, Result, Some, View, [], add-one, ap, append-nil, arith, behind_first, by_lt, common_steps, default_view, drop, drop-take, false, false≢true, first_chunk, flat_map-append, get_or, is_single, length, length-append, length-drop, length-take-le, map, nat_eq, nat_tests, native_mark, nil_from_length, of_pieces, of_view, part_frozen, piece_at, piece_start, pieces_bytes, refl, rest_pieces, right_pieces, slice_get, subst, suc, sym, take, take-append-drop, take-append_seam, take_all, taken_view, tests, text_chunks, text_coalesced, text_len, text_of, text_rest, text_right, true, view_advanced, view_len, view_slice, zero, zero-add, ℕ, ◌++◌, ◌+◌, ◌-◌, ◌<◌, ◌∙◌, ◌∷◌, ◌≡◌, ◌≢◌, ◌≤◌}
 use Rattle.iobufs.proofs.Text.ChunkLaws.{chunks-of_empty}
 use Rattle.iobufs.proofs.Text.CopyLaws.{bytes-from}
-use Rattle.iobufs.proofs.Text.TextLaws.{length-kept, some_views, chunks-kept, single-kept, single-more, rest-kept}
+use Rattle.iobufs.proofs.Text.PieceLaws.{AreFull-from_pieces, bytes-of_pieces, front-all, len-of_pieces, length-bytes, of_pieces-one, rest-all, rest_pieces-all, rest_pieces-inside, right-of_pieces, right_pieces-none, right_pieces-past}
+use Rattle.iobufs.proofs.Text.PlaceLaws.{index-of_place, right-at_place}
+use Rattle.iobufs.proofs.Text.TakenLaws.{taken_view-across, taken_view-right, taken_view-within}
+use Rattle.iobufs.proofs.Text.TextLaws.{chunks-kept, length-kept, rest-kept, single-kept, single-more, some_views}
 
 -- the first piece is the first chunk, and a beginning of the text
 pub first-of : (vs : List View) (t : MarkedText) → of_pieces vs ≡ t → 0 < length vs → (0 < length (pieces_bytes vs) → AreFull vs)
@@ -29,10 +14,8 @@ first-of [] t e l f = absurd (omega arith)
 first-of (v ∷ vs) t e l f =
     let n = length-bytes v vs in
     let s : text_len t ≡ length (pieces_bytes (v ∷ vs)) = sym (ap text_len e) ∙ len-of_pieces (v ∷ vs) in
-    ⊎_elim
-    (λ (h : 0 < length (pieces_bytes (v ∷ vs))). sym (ap first_chunk (chunks-kept (v ∷ vs) t e l (f h))))
-    (λ (h : length (pieces_bytes (v ∷ vs)) ≤ 0). nil_from_length v.bytes (omega arith) ∙ sym (ap first_chunk (chunks-of_empty t (omega arith))))
-    (cases_lt 0 (length (pieces_bytes (v ∷ vs))))
+    by_lt 0 (length (pieces_bytes (v ∷ vs))) (λ h. sym (ap first_chunk (chunks-kept (v ∷ vs) t e l (f h))))
+    (λ h. nil_from_length v.bytes (omega arith) ∙ sym (ap first_chunk (chunks-of_empty t (omega arith))))
 
 -- the bytes of a text's first piece are its first chunk
 pub first-kept : (vs : List View) (t : MarkedText) → of_pieces vs ≡ t → IsPieces vs → (piece_at vs 0).bytes ≡ first_chunk (text_chunks t)
@@ -41,13 +24,9 @@ first-kept vs t e h = first-of vs t e (some_views vs h) (AreFull-from_pieces vs 
 front-of : (vs : List View) → 0 < length vs → (0 < length (pieces_bytes vs) → AreFull vs) → IsChunkOf (piece_at vs 0).bytes (pieces_bytes vs)
 front-of [] l f = absurd (omega arith)
 front-of (v ∷ vs) l f =
-    let n = length-bytes v vs in
     record {
       front = sym (take-append_seam v.bytes (pieces_bytes vs));
-      some = λ z. ⊎_elim
-          (λ (h : 0 < length (pieces_bytes (v ∷ vs))). let g = (f h).0 in absurd (omega arith))
-          (λ (h : length (pieces_bytes (v ∷ vs)) ≤ 0). omega arith)
-          (cases_lt 0 (length (pieces_bytes (v ∷ vs))));
+      some = λ z. by_lt 0 (length (pieces_bytes (v ∷ vs))) (λ h. let g = (f h).0 in absurd (omega (arith, length-bytes v vs))) (λ h. omega arith);
     }
 
 -- the bytes of a text's first piece are a chunk of it
@@ -87,10 +66,6 @@ rest-length vs i =
     ∙ ap length (sym (flat_map-append (λ (v : View). v.bytes) (take i vs) (drop i vs)))
     ∙ ap (λ (ws : List View). length (pieces_bytes ws)) (take-append-drop i vs)
 
--- the first n bytes of a view advanced by o are its slice from o to o + n
-front-advanced : (v : View) (o n : ℕ) → 0 < n → view_front (view_advanced v o) n ≡ view_slice v (Included o) (Excluded (o + n))
-front-advanced v o n p = grind (arith, nat_tests, common_steps, drop-take)
-
 right-place : (vs : List View) (t : MarkedText) (skip i o : ℕ) → of_pieces vs ≡ t → IsChunkPlace vs skip i o → skip < length (pieces_bytes vs)
     → text_right t skip ≡ of_pieces (view_advanced (piece_at vs i) o ∷ drop (suc i) vs)
 right-place vs t skip i o e h l =
@@ -101,9 +76,8 @@ pub taken-within : (vs : List View) (t : MarkedText) (skip n i o : ℕ) → of_p
     → 0 < n → n ≤ view_len (piece_at vs i) - o → view_slice (piece_at vs i) (Included o) (Excluded (o + n)) ≡ taken_view t skip n
 taken-within vs t skip n i o e h l p m =
     let v = view_advanced (piece_at vs i) o in
-    let k : view_len v ≡ view_len (piece_at vs i) - o = length-drop o (piece_at vs i).bytes in
     sym (taken_view-right skip n t ∙ ap (λ (x : MarkedText). taken_view x 0 n) (right-place vs t skip i o e h l)
-    ∙ taken_view-within n v (drop (suc i) vs) p (omega arith) ∙ front-advanced (piece_at vs i) o n p)
+    ∙ taken_view-within n v (drop (suc i) vs) p (omega (arith, length-drop o (piece_at vs i).bytes)) ∙ (grind (arith, nat_tests, common_steps, drop-take)))
 
 -- bytes that span chunks are taken as a copy without spare bytes, frozen
 pub taken-across : (vs : List View) (t : MarkedText) (skip n i o : ℕ) (copy : List ℕ) → of_pieces vs ≡ t → IsChunkPlace vs skip i o
@@ -111,19 +85,17 @@ pub taken-across : (vs : List View) (t : MarkedText) (skip n i o : ℕ) (copy : 
     → part_frozen (record { filled = copy; spare = 0 }) ≡ taken_view t skip n
 taken-across vs t skip n i o copy e h l m c =
     let inside = h.inside in
-    let index = index-of_place vs skip i o h in
     let v = view_advanced (piece_at vs i) o in
     let k : view_len v ≡ view_len (piece_at vs i) - o = length-drop o (piece_at vs i).bytes in
     let whole : drop o (pieces_bytes (drop i vs)) ≡ pieces_bytes (v ∷ drop (suc i) vs) =
-    bytes-from vs i o index (omega arith) ∙ ap (λ j. drop o (piece_at vs i).bytes ++ pieces_bytes (drop j vs)) (add-one i) in
+    bytes-from vs i o (index-of_place vs skip i o h) (omega arith) ∙ ap (λ j. drop o (piece_at vs i).bytes ++ pieces_bytes (drop j vs)) (add-one i) in
     let rest = rest-length vs i in
     let sum = h.sum in
     let left = length-drop o (pieces_bytes (drop i vs)) in
-    let total : n ≤ length (pieces_bytes (v ∷ drop (suc i) vs)) = omega (arith, ap length whole) in
     let size : length copy ≡ n = ap length c ∙ length-take-le n (drop o (pieces_bytes (drop i vs))) (omega arith) in
     frozen copy n size (omega arith) ∙ (λ j. record { bytes = (c ∙ ap (take n) whole) j; mark = native_mark n })
     ∙ sym (taken_view-right skip n t ∙ ap (λ (x : MarkedText). taken_view x 0 n) (right-place vs t skip i o e h (omega arith))
-    ∙ taken_view-across n v (drop (suc i) vs) (omega arith) (omega arith) total)
+    ∙ taken_view-across n v (drop (suc i) vs) (omega arith) (omega arith) (omega (arith, ap length whole)))
   where
     frozen : (copy : List ℕ) (n : ℕ) → length copy ≡ n → 0 < n
         → part_frozen (record { filled = copy; spare = 0 }) ≡ record { bytes = copy; mark = native_mark n }
@@ -144,11 +116,9 @@ pub first-rest : (vs ws : List View) (t : MarkedText) (n : ℕ) → of_pieces vs
     → ws ≡ behind_first vs → of_pieces ws ≡ text_rest t n
 first-rest [] ws t n e f p w is = absurd (omega arith)
 first-rest (v ∷ []) ws t n e f p w is =
-    let all : n ≡ text_len t = w ∙ ap text_len (sym (of_pieces-one v) ∙ e) in
-    ap of_pieces is ∙ of_pieces-one default_view ∙ sym (rest-all n t p all)
+    ap of_pieces is ∙ of_pieces-one default_view ∙ sym (rest-all n t p (w ∙ ap text_len (sym (of_pieces-one v) ∙ e)))
 first-rest (v ∷ u ∷ vs) ws t n e (first, behind) p w is =
-    let none : n - view_len v ≡ 0 = omega arith in
-    let right = right_pieces-past n v (u ∷ vs) (omega arith) ∙ ap (right_pieces (u ∷ vs)) none ∙ right_pieces-none (u ∷ vs) behind in
+    let right = right_pieces-past n v (u ∷ vs) (omega arith) ∙ ap (right_pieces (u ∷ vs)) (omega arith) ∙ right_pieces-none (u ∷ vs) behind in
     let l = length-bytes v (u ∷ vs) in
     let m = length-bytes u vs in
     rest-kept (v ∷ u ∷ vs) ws t n e p (omega (arith, behind.0)) (is ∙ sym right)
@@ -157,12 +127,10 @@ first-rest (v ∷ u ∷ vs) ws t n e (first, behind) p w is =
 pub dropped-rest : (vs ws : List View) (t : MarkedText) (n : ℕ) → of_pieces vs ≡ t → 0 < n → n ≤ length (pieces_bytes vs) → ws ≡ rest_pieces vs n
     → of_pieces ws ≡ text_rest t n
 dropped-rest vs ws t n e p l is =
-    ⊎_elim
-    (λ (h : n < length (pieces_bytes vs)). rest-kept vs ws t n e p h (is ∙ rest_pieces-inside n vs h))
-    (λ (h : length (pieces_bytes vs) ≤ n).
+    by_lt n (length (pieces_bytes vs)) (λ h. rest-kept vs ws t n e p h (is ∙ rest_pieces-inside n vs h))
+    (λ h.
     let whole : n ≡ text_len t = omega (arith, len-of_pieces vs, ap text_len e) in
     ap of_pieces (is ∙ rest_pieces-all n vs (omega arith)) ∙ of_pieces-one default_view ∙ sym (rest-all n t p whole))
-    (cases_lt n (length (pieces_bytes vs)))
 
 -- all bytes are as many as those of the first piece and of the pieces after it
 pub length-behind : (vs : List View) → length (pieces_bytes vs) ≡ view_len (piece_at vs 0) + length (pieces_bytes (behind_first vs))
@@ -170,14 +138,11 @@ length-behind [] = refl
 length-behind (v ∷ []) = ap length (append-nil v.bytes) ∙ (omega arith)
 length-behind (v ∷ w ∷ vs) = length-bytes v (w ∷ vs)
 
-AreViews-behind : (vs : List View) → AreViews vs → AreViews (behind_first vs)
+-- where pieces have room for their bytes, so have those after the first
+pub AreViews-behind : (vs : List View) → AreViews vs → AreViews (behind_first vs)
 AreViews-behind [] h = tt
 AreViews-behind (v ∷ []) h = (tt, tt)
 AreViews-behind (v ∷ w ∷ vs) h = h.1
-
--- where pieces have room for their bytes, so have those after the first
-pub views-behind : (vs ws : List View) → ws ≡ behind_first vs → AreViews vs → AreViews ws
-views-behind vs ws is h = subst AreViews (sym is) (AreViews-behind vs h)
 
 -- a text of one piece
 pub one-piece : (s : Inside) (t : MarkedText) → text_of s ≡ t → IsPieces s.pieces → is_single t ≡ true → length s.pieces ≡ 1
@@ -186,7 +151,7 @@ one-piece s t e k h = is_one (length s.pieces) (sym (single-kept s t e k) ∙ h)
     is_one : (n : ℕ) → nat_eq n 1 ≡ true → n ≡ 1
     is_one n h = grind (arith, tests)
 
-one-as : (vs : List View) → length vs ≡ 1 → vs ≡ piece_at vs 0 ∷ []
+pub one-as : (vs : List View) → length vs ≡ 1 → vs ≡ piece_at vs 0 ∷ []
 one-as [] e = absurd (omega arith)
 one-as (v ∷ []) e = refl
 one-as (v ∷ w ∷ vs) e = absurd (omega arith)
@@ -217,10 +182,6 @@ none-shown now items t max e z = ap (map now) e ∙ sym (ap (take max) (chunks-o
 pub as_view : {E : Type 0} (result : Result View E) (a b : View) → a ≡ b → IfOk result (λ v. v ≡ a) → IfOk result (λ v. v ≡ b)
 as_view result a b e h = subst (λ x. IfOk result (λ v. v ≡ x)) e h
 
--- bytes that a call answers are those that they equal
-pub as_bytes : {E : Type 0} (result : Result (List ℕ) E) (a b : List ℕ) → a ≡ b → IfOk result (λ v. v ≡ a) → IfOk result (λ v. v ≡ b)
-as_bytes result a b e h = subst (λ x. IfOk result (λ v. v ≡ x)) e h
-
 -- a view that a call answers makes the text that it makes by itself
 pub as_text : {E : Type 0} (result : Result View E) (a : View) (t : MarkedText) → of_view a ≡ t → IfOk result (λ v. v ≡ a) → IfOk result (λ v. of_view v ≡ t)
 as_text (Ok v) a t e h = ap of_view h ∙ e
@@ -245,7 +206,3 @@ unfolding of_pieces
 only-view [] t e h = (omega arith, ap (λ (x : MarkedText). record { bytes = x.bytes; mark = x.mark }) (sym e))
 only-view (v ∷ []) t e h = (omega arith, ap (λ (x : MarkedText). record { bytes = x.bytes; mark = x.mark }) (sym e ∙ of_pieces-one v))
 only-view (v ∷ w ∷ vs) t e h = absurd (false≢true (sym (single-more (v ∷ w ∷ vs) t e (omega arith)) ∙ h))
-
--- a text of one piece is that view
-pub single-view : (vs : List View) (t : MarkedText) (v : View) → of_pieces vs ≡ t → length vs ≡ 1 → v ≡ piece_at vs 0 → t ≡ of_view v
-single-view vs t v e one is = sym e ∙ ap of_pieces (one-as vs one) ∙ of_pieces-one (piece_at vs 0) ∙ ap of_view (sym is)

@@ -1,9 +1,6 @@
 -- A text in a row that takes one more piece within the row's room.
-use Rattle.std.proofs.Common.{◌≡◌, ◌<◌, List, [], ◌∷◌, ◌++◌, length, sym, ap, ◌∙◌, arith}
-use Rattle.iobufs_core.specs.View.{View}
-use Rattle.iobufs_core.specs.MarkedText.{MarkedText, text_append, text_len, text_prepend}
-use Rattle.iobufs.specs.Inside.Pieces.{AreFull, of_pieces, pieces_bytes, view_len}
-use Rattle.iobufs.proofs.Text.PieceLaws.{length-bytes, len-of_pieces}
+use Rattle.iobufs.proofs.Text.Known.{AreFull, List, MarkedText, View, [], ap, arith, length, of_pieces, pieces_bytes, sym, text_append, text_len, text_prepend, view_len, ◌++◌, ◌<◌, ◌∙◌, ◌∷◌, ◌≡◌}
+use Rattle.iobufs.proofs.Text.PieceLaws.{len-of_pieces, length-bytes}
 use Rattle.iobufs.proofs.Text.TextLaws.{append-pieces, prepend-pieces}
 
 bytes-several : (vs : List View) → 1 < length vs → AreFull vs → 0 < length (pieces_bytes vs)

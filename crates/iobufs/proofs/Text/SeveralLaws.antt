@@ -1,16 +1,8 @@
 -- How many pieces stand on a side of a place or after a push: at least one, or two or more, and none is empty; and where the last one stands.
-use Rattle.std.proofs.lemmas.List.Concat.{flat_map-append}
-use Rattle.std.proofs.Math.Seq.{take-append_seam}
-use Rattle.std.proofs.lemmas.Bool.{cases_lt}
-use Rattle.std.specs.Result.{OnOk, OnErr}
+use Rattle.iobufs.proofs.Text.Known.{AreFull, Err, Form, IsChunkPlace, IsPieced, List, Ok, OnErr, OnOk, Result, View, [], ap, append-nil, arith, by_lt, flat_map-append, left_pieces, length, length-append, length-drop, length-take-le, map, piece_at, piece_start, pieces_bytes, refl, right_pieces, subst, suc, sym, take-append_seam, view_len, ℕ, ◌++◌, ◌+◌, ◌-◌, ◌<◌, ◌∙◌, ◌∷◌, ◌≡◌, ◌≤◌}
 use Rattle.iobufs.proofs.Text.EndLaws.{start-next, starts-below}
-use Rattle.std.proofs.Common.{Result, Ok, Err, map, refl, append-nil, ⊎_elim, ◌≡◌, ℕ, ◌+◌, ◌-◌, ◌<◌, ◌≤◌, List, [], ◌∷◌, ◌++◌, length, suc, sym, ap, ◌∙◌, arith, subst, length-append, length-drop}
-use Rattle.iobufs_core.specs.View.{View}
-use Rattle.iobufs.specs.Inside.Pieces.{view_len, piece_at, piece_start, pieces_bytes, AreFull, IsChunkPlace, left_pieces, right_pieces}
-use Rattle.iobufs.specs.Inside.Several.{IsPieced}
-use Rattle.iobufs.specs.declared.bufs.pieces.Form.{Form}
-use Rattle.iobufs.proofs.Text.PieceLaws.{order3, length-left, left_pieces-past, length-bytes, AreFull-append, AreFull-right, AreFull-left}
-use Rattle.iobufs.proofs.Text.PlaceLaws.{right-at_place, index-of_place}
+use Rattle.iobufs.proofs.Text.PieceLaws.{AreFull-append, AreFull-left, AreFull-right, bytes-left, left_pieces-past, length-bytes, order3}
+use Rattle.iobufs.proofs.Text.PlaceLaws.{index-of_place, right-at_place}
 
 -- in an arm: what is known, by that arm's pieces
 pub pieced-as : {a b : Form} → a ≡ b → IsPieced a → IsPieced b
@@ -19,10 +11,7 @@ pieced-as is h = subst IsPieced is h
 -- several pieces of which none is empty are so with one more that has bytes
 pub several-push : (vs ws : List View) (w : View) → (1 < length vs) × AreFull vs → 0 < view_len w → ws ≡ vs ++ w ∷ [] → (1 < length ws) × AreFull ws
 several-push vs ws w h p e =
-    let n = length-append vs (w ∷ []) in
-    let m = ap length e in
-    let l = h.0 in
-    (omega arith, subst AreFull (sym e) (AreFull-append vs (w ∷ []) h.1 (p, tt)))
+    (omega (arith, length-append vs (w ∷ []), ap length e, h.0), subst AreFull (sym e) (AreFull-append vs (w ∷ []) h.1 (p, tt)))
 
 -- a place below the end of pieces, under another name of these
 pub below-as : {vs ws : List View} {at : ℕ} → vs ≡ ws → at < length (pieces_bytes vs) → at < length (pieces_bytes ws)
@@ -39,7 +28,7 @@ pub right-full : (vs ws : List View) (at : ℕ) → AreFull vs → at < length (
 right-full vs ws at f l is = subst (λ xs. AreFull xs × (0 < length xs)) (sym is) (AreFull-right at vs f l)
 
 left-some : (vs : List View) (at : ℕ) → 0 < at → at ≤ length (pieces_bytes vs) → 0 < length (left_pieces vs at)
-left-some vs at p l = some (left_pieces vs at) (length-left at vs p l)
+left-some vs at p l = some (left_pieces vs at) (ap length (bytes-left at vs p l) ∙ length-take-le at (pieces_bytes vs) l)
   where
     some : (ws : List View) → length (pieces_bytes ws) ≡ at → 0 < length ws
     some [] e = absurd (omega arith)
@@ -49,9 +38,7 @@ left-some vs at p l = some (left_pieces vs at) (length-left at vs p l)
 pub left-two : (vs ws : List View) (at : ℕ) → AreFull vs → view_len (piece_at vs 0) < at → at < length (pieces_bytes vs) → ws ≡ left_pieces vs at
     → (1 < length ws) × AreFull ws
 left-two vs ws at f past l is =
-    let more = two vs past l in
-    let n = ap (λ (xs : List View). length xs) is in
-    (omega arith, subst AreFull (sym is) (AreFull-left at vs f))
+    (omega (arith, two vs past l, ap (λ (xs : List View). length xs) is), subst AreFull (sym is) (AreFull-left at vs f))
   where
     two : (vs : List View) → view_len (piece_at vs 0) < at → at < length (pieces_bytes vs) → 1 < length (left_pieces vs at)
     two [] past l = absurd (omega arith)
@@ -64,13 +51,7 @@ left-two vs ws at f past l is =
 pub right-two : (vs ws : List View) (at i o : ℕ) → AreFull vs → at < length (pieces_bytes vs) → IsChunkPlace vs at i o → i + 1 < length vs
     → ws ≡ right_pieces vs at → (1 < length ws) × AreFull ws
 right-two vs ws at i o f l place more is =
-    let n = ap (λ (xs : List View). length xs) (is ∙ right-at_place vs at i o place) in
-    let d = length-drop (suc i) vs in
-    (omega arith, (right-full vs ws at f l is).0)
-
--- a place in the first piece
-pub place-in_first : (vs : List View) (at : ℕ) → at < view_len (piece_at vs 0) → IsChunkPlace vs at 0 at
-place-in_first vs at l = record { sum = omega arith; inside = l }
+    (omega (arith, ap (λ (xs : List View). length xs) (is ∙ right-at_place vs at i o place), length-drop (suc i) vs), (right-full vs ws at f l is).0)
 
 -- at the edge of the last piece a place has nothing before it there
 pub edge-last : (vs front : List View) (last : View) (at i o : ℕ) → AreFull vs → vs ≡ front ++ last ∷ []
@@ -81,17 +62,14 @@ edge-last vs front last at i o full is edge place =
     let total = ap (λ (xs : List View). length (pieces_bytes xs)) is ∙ ap length (flat_map-append (λ (v : View). v.bytes) front (last ∷ []))
     ∙ length-append (pieces_bytes front) (last.bytes ++ []) in
     let end = ap length (append-nil last.bytes) in
-    let before : piece_start vs k ≡ length (pieces_bytes front) = ap (λ (xs : List View). piece_start xs k) is
-    ∙ ap (λ (xs : List View). length (pieces_bytes xs)) (take-append_seam front (last ∷ [])) in
-    let index = index-of_place vs at i o place in
+    let before : piece_start vs k ≡ length (pieces_bytes front) = cc (take-append_seam front (last ∷ [])) in
     let sum = place.sum in
     let inside = place.inside in
+    let index = index-of_place vs at i o place in
     let next = start-next vs i index in
     order3 i k
-    (λ h. ⊎_elim
-    (λ (g : suc i < k). let r = starts-below vs (suc i) k full g (omega arith) in absurd (omega arith))
-    (λ (g : k ≤ suc i). let e : suc i ≡ k = omega arith in let r = ap (piece_start vs) e in absurd (omega arith))
-    (cases_lt (suc i) k))
+    (λ h. by_lt (suc i) k (λ g. let r = starts-below vs (suc i) k full g (omega arith) in absurd (omega arith))
+    (λ g. let e : suc i ≡ k = omega arith in let r = ap (piece_start vs) e in absurd (omega arith)))
     (λ h. let r = ap (piece_start vs) h in (omega arith, omega arith))
     (λ h. let r = starts-below vs k i full h (omega arith) in absurd (omega arith))
 
@@ -108,11 +86,8 @@ last-view [] [] chunk e = let n = ap (λ (xs : List (List ℕ)). length xs) e in
 last-view [] (x ∷ xs) chunk e = let n = ap (λ (xs : List (List ℕ)). length xs) e in absurd (omega arith)
 last-view (v ∷ []) [] chunk e = record { before = []; last = v; is = refl; bytes = (let first : v.bytes ≡ chunk = cc in first) }
 last-view (v ∷ []) (x ∷ xs) chunk e =
-    let n = ap (λ (ys : List (List ℕ)). length ys) e in
-    let l = length-append xs (chunk ∷ []) in
-    absurd (omega arith)
+    absurd (omega (arith, ap (λ (ys : List (List ℕ)). length ys) e, length-append xs (chunk ∷ [])))
 last-view (v ∷ w ∷ vs) [] chunk e = let n = ap (λ (xs : List (List ℕ)). length xs) e in absurd (omega arith)
 last-view (v ∷ w ∷ vs) (x ∷ xs) chunk e =
-    let rest : map (λ (u : View). u.bytes) (w ∷ vs) ≡ xs ++ chunk ∷ [] = cc in
-    let ih = last-view (w ∷ vs) xs chunk rest in
+    let ih = last-view (w ∷ vs) xs chunk (cc) in
     record { before = v ∷ ih.before; last = ih.last; is = ap (λ us. v ∷ us) ih.is; bytes = ih.bytes }

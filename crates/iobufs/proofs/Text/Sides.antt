@@ -1,10 +1,5 @@
 -- A text after a view: its sides, and the mark at a place.
-use Rattle.std.proofs.Common.{◌≡◌, ℕ, ◌+◌, ◌-◌, ◌<◌, ◌≤◌, Bool, true, false, cond, nat_lt, nat_le, List, [], ◌∷◌, ◌++◌, length, drop, map, filter, refl, sym, ap, ◌∙◌, arith, tests, append_assoc, length-append, length-drop, nat_eq}
-use Rattle.std.proofs.lemmas.List.{map-append, take-append-le, drop-append-le}
-use Rattle.iobufs_core.specs.View.{View, Mark, mark_after, native_mark, static_mark, bytes_mark, view_front, view_advanced}
-use Rattle.iobufs_core.specs.MarkedText.{MarkedText, of_view, key_upto, mark_past, moved_up, moved_down, text_left, text_right, text_glue}
-use Rattle.iobufs.specs.Laws.Filling.{drop_past, take_past}
-use Rattle.iobufs.specs.Inside.Pieces.{view_len}
+use Rattle.iobufs.proofs.Text.Known.{Bool, List, Mark, MarkedText, View, [], ap, append_assoc, arith, bytes_mark, cond, drop-append-le, drop_past, false, filter, key_upto, le-leb, le-ltb, length-append, length-drop, lt-leb, lt-ltb, map, map-append, mark_after, mark_past, moved_down, moved_up, nat_eq, nat_le, nat_lt, native_mark, of_view, refl, static_mark, sym, take-append-le, take_past, tests, text_glue, text_left, text_right, true, view_advanced, view_front, view_len, ℕ, ◌+◌, ◌-◌, ◌<◌, ◌∙◌, ◌∷◌, ◌≡◌, ◌≤◌}
 
 pub up_up : (m n : ℕ) (es : List (ℕ × Mark)) → map (moved_up m) (map (moved_up n) es) ≡ map (moved_up (m + n)) es
 up_up m n [] = refl
@@ -14,9 +9,6 @@ up_up m n (e ∷ es) = let h = up_up m n es in let k : m + (n + e.0) ≡ m + n +
 pub glue_assoc : (x y z : MarkedText) → text_glue (text_glue x y) z ≡ text_glue x (text_glue y z)
 unfolding text_glue
 glue_assoc x y z =
-    let n : length (x.bytes ++ y.bytes) ≡ length x.bytes + length y.bytes = length-append x.bytes y.bytes in
-    let a : x.bytes ++ y.bytes ++ z.bytes ≡ x.bytes ++ (y.bytes ++ z.bytes) = append_assoc x.bytes y.bytes z.bytes in
-    let u = up_up (length x.bytes) (length y.bytes) z.cuts in
     simp (length-append, append_assoc, map-append, up_up)
 
 -- two functions agree on a conditional if they agree on both of its branches
@@ -65,8 +57,8 @@ pub filter_up : (at n : ℕ) (es : List (ℕ × Mark)) → n ≤ at
     → map (moved_down at) (filter (λ e. nat_lt at e.0) (map (moved_up n) es)) ≡ map (moved_down (at - n)) (filter (λ e. nat_lt (at - n) e.0) es)
 filter_up at n [] l = refl
 filter_up at n (e ∷ es) l =
-    let ih = filter_up at n es l in
     let k : n + e.0 - at ≡ e.0 - (at - n) = omega arith in
+    let ih = filter_up at n es l in
     rw (lt_up at n e.0 l) (both (map (moved_down at)) (map (moved_down (at - n))) (nat_lt (at - n) e.0) _ _ _ _ (cc) ih)
 
 pub filter_up_left : (at n : ℕ) (es : List (ℕ × Mark)) → n ≤ at
@@ -106,40 +98,20 @@ pub left-of_view : (at : ℕ) (v : View) → text_left (of_view v) at ≡ of_vie
 unfolding text_left
 left-of_view at v = refl
 
--- a number that is less passes the test of less
-pub is_lt : (m n : ℕ) → m < n → nat_lt m n ≡ true
-is_lt m n l = grind (arith, tests)
-
 -- a number above 0 isn't equal to 0
 pub not_zero : (n : ℕ) → 0 < n → nat_eq n 0 ≡ false
 not_zero n l = grind (arith, tests)
-
--- a number that isn't less fails the test of less
-pub not_lt : (m n : ℕ) → n ≤ m → nat_lt m n ≡ false
-not_lt m n l = grind (arith, tests)
-
--- a number that is at most another passes the test of at most
-pub is_le : (m n : ℕ) → m ≤ n → nat_le m n ≡ true
-is_le m n l = grind (arith, tests)
-
--- a number above another fails the test of at most
-pub not_le : (m n : ℕ) → n < m → nat_le m n ≡ false
-not_le m n l = grind (arith, tests)
 
 -- a view, with more after it
 pub right-glue_within : (at : ℕ) (v : View) (y : MarkedText) → at < view_len v
     → text_right (text_glue (of_view v) y) at ≡ text_glue (of_view (view_advanced v at)) y
 unfolding text_right text_glue
 right-glue_within at v y l =
-    let n : length (drop at v.bytes) ≡ view_len v - at = length-drop at v.bytes in
     let f = from_on-up (view_len v) y.cuts in
-    let a = above_all at (view_len v) _ f l in
-    let u = upto_none at (view_len v) (0, v.mark) _ f l in
-    let d = down_up at (view_len v) y.cuts (omega arith) in
     same_text _ _
     (drop-append-le at v.bytes y.bytes (omega arith))
-    (rw (not_le (view_len v) at l, u, no_sub at))
-    (rw (is_lt at (view_len v) l, a, d, n))
+    (rw (lt-leb (view_len v) at l, upto_none at (view_len v) (0, v.mark) _ f l, no_sub at))
+    (rw (lt-ltb at (view_len v) l, above_all at (view_len v) _ f l, down_up at (view_len v) y.cuts (omega arith), (length-drop at v.bytes)))
 
 -- from a place after a view's bytes on stands what the text after the view has from there on
 pub right-glue_past : (at : ℕ) (v : View) (y : MarkedText) → view_len v ≤ at → text_right (text_glue (of_view v) y) at ≡ text_right y (at - view_len v)
@@ -149,8 +121,8 @@ right-glue_past at v y l =
     let z : view_len v + 0 ≡ view_len v = omega arith in
     same_text _ _
     (drop_past at v.bytes y.bytes l)
-    (rw (is_le (view_len v) at l) (ap (λ z. mark_past (key_upto (z, y.mark) (map (moved_up (view_len v)) y.cuts) at) at) (sym z) ∙ u))
-    (rw (not_lt at (view_len v) l) (filter_up at (view_len v) y.cuts l))
+    (rw (le-leb (view_len v) at l) (ap (λ z. mark_past (key_upto (z, y.mark) (map (moved_up (view_len v)) y.cuts) at) at) (sym z) ∙ u))
+    (rw (le-ltb at (view_len v) l) (filter_up at (view_len v) y.cuts l))
 
 -- up to a place within a view or at its end stands its front
 pub left-glue_within : (at : ℕ) (v : View) (y : MarkedText) → at ≤ view_len v → text_left (text_glue (of_view v) y) at ≡ of_view (view_front v at)
@@ -159,7 +131,7 @@ left-glue_within at v y l =
     same_text _ _
     (take-append-le at v.bytes y.bytes l)
     refl
-    (rw (not_lt (view_len v) at l) (below_all at (view_len v) _ (from_on-up (view_len v) y.cuts) l))
+    (rw (le-ltb (view_len v) at l) (below_all at (view_len v) _ (from_on-up (view_len v) y.cuts) l))
 
 -- up to a place after a view's end stand the view and what the text after it has up to there
 pub left-glue_past : (at : ℕ) (v : View) (y : MarkedText) → view_len v < at
@@ -170,11 +142,7 @@ left-glue_past at v y l =
     same_text _ _
     (take_past at v.bytes y.bytes l')
     refl
-    (rw (is_lt (view_len v) at l, filter_up_left at (view_len v) y.cuts l'))
-
--- the sides by place
-pub same_eq : (m n : ℕ) → m ≡ n → nat_eq m n ≡ true
-same_eq m n e = grind (arith, tests)
+    (rw (lt-ltb (view_len v) at l, filter_up_left at (view_len v) y.cuts l'))
 
 -- a number that is less fails the test of equality
 pub not_eq : (m n : ℕ) → m < n → nat_eq m n ≡ false

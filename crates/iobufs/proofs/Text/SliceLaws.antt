@@ -1,22 +1,10 @@
 -- A range of a text: the pieces that hold it, cut at both ends.
-use Rattle.std.proofs.Common.{◌≡◌, ℕ, ◌+◌, ◌-◌, ◌<◌, ◌≤◌, List, [], ◌∷◌, ◌++◌, length, take, drop, get_or, zero, suc, refl, sym, ap, ◌∙◌, arith, add-one, subst, append_assoc, length-append, length-drop, ⊎_elim}
-use Rattle.std.proofs.lemmas.Bool.{cases_lt}
-use Rattle.std.proofs.lemmas.Bool.Decides.{nat_tests}
-use Rattle.std.proofs.lemmas.Grind.{common_steps}
-use Rattle.std.proofs.lemmas.List.{get_or-drop, take_more}
-use Rattle.std.proofs.lemmas.List.Concat.{flat_map-append}
-use Rattle.std.proofs.Math.Seq.{take-add, drop-cons}
-use Rattle.iobufs_core.specs.ReadBytes.{bytes-rest}
-use Rattle.iobufs_core.specs.View.{View, default_view, mark_after, static_mark, view_advanced}
-use Rattle.iobufs_core.specs.Chunks.{first_chunk}
-use Rattle.iobufs_core.specs.MarkedText.{MarkedText, taken_view, text_chunks, text_len, text_rest, text_split_front}
-use Rattle.iobufs.specs.Inside.Pieces.{AreFull, AreViews, IsChunkPlace, left_pieces, of_pieces, piece_at, piece_start, pieces_bytes, right_pieces, view_len}
-use Rattle.iobufs.specs.declared.bufs.row.Piece.{Piece}
+use Rattle.iobufs.proofs.Text.Known.{AreFull, AreViews, IsChunkPlace, List, MarkedText, Piece, View, [], add-one, ap, append_assoc, arith, by_lt, bytes-rest, common_steps, default_view, drop, drop-cons, first_chunk, flat_map-append, get_or, get_or-drop, left_pieces, length, length-append, length-drop, mark_after, nat_tests, of_pieces, piece_at, piece_start, pieces_bytes, refl, right_pieces, static_mark, suc, sym, take, take-add, take_more, taken_view, text_chunks, text_len, text_rest, text_split_front, view_advanced, view_len, zero, ℕ, ◌++◌, ◌+◌, ◌-◌, ◌<◌, ◌∙◌, ◌∷◌, ◌≡◌, ◌≤◌}
 use Rattle.iobufs.proofs.Text.EndLaws.{start-next, starts-below}
 use Rattle.iobufs.proofs.Text.PieceLaws.{AreFull-right, left_pieces-none, left_pieces-past, left_pieces-within, len-of_pieces, length-bytes, rest-of_pieces, right_pieces-none, right_pieces-past, right_pieces-within, split_front-of_pieces}
+use Rattle.iobufs.proofs.Text.PlaceLaws.{index-of_place, left_pieces-seam, right-at_place}
 use Rattle.iobufs.proofs.Text.ReadLaws.{first-of}
 use Rattle.iobufs.proofs.Text.TakenLaws.{taken_view-within}
-use Rattle.iobufs.proofs.Text.PlaceLaws.{index-of_place, left_pieces-seam, right-at_place}
 
 -- a clone of the next piece after clones of those from one on
 pub run-more : (ps begun run more : List Piece) (first i : ℕ) (piece clone : Piece) → first + i < length ps → piece ≡ get_or ps (first + i) piece
@@ -24,24 +12,18 @@ pub run-more : (ps begun run more : List Piece) (first i : ℕ) (piece clone : P
 run-more ps begun run more first i piece clone l is same so_far put =
     let behind = drop first ps in
     let here : get_or behind i piece ≡ clone = get_or-drop first ps i piece ∙ sym is ∙ sym same in
-    put ∙ ap (λ xs. xs ++ clone ∷ []) so_far ∙ append_assoc begun (take i behind) (clone ∷ [])
-    ∙ ap (λ p. begun ++ (take i behind ++ p ∷ [])) (sym here)
-    ∙ ap (λ xs. begun ++ xs) (sym (take_more behind i piece (omega (arith, l, length-drop first ps))))
+    cc (append_assoc begun (take i behind) (clone ∷ []), take_more behind i piece (omega (arith, l, length-drop first ps)))
 
 -- up to a place that the first of some pieces reach, these say what stands
 left_pieces-take : (m n : ℕ) (vs : List View) → n ≤ length (pieces_bytes (take m vs)) → left_pieces (take m vs) n ≡ left_pieces vs n
 left_pieces-take zero n vs l = let none : n ≡ 0 = omega (arith, l) in rw none (sym (left_pieces-none vs))
 left_pieces-take (suc m) n [] l = refl
 left_pieces-take (suc m) n (v ∷ vs) l =
-    ⊎_elim
-    (λ (some : 0 < n). ⊎_elim
-    (λ (h : n < view_len v). left_pieces-within n v (take m vs) some h ∙ sym (left_pieces-within n v vs some h))
-    (λ (h : view_len v ≤ n). left_pieces-past n v (take m vs) some h
+    by_lt 0 n (λ some. by_lt n (view_len v) (λ h. left_pieces-within n v (take m vs) some h ∙ sym (left_pieces-within n v vs some h))
+    (λ h. left_pieces-past n v (take m vs) some h
     ∙ ap (λ ws. v ∷ ws) (left_pieces-take m (n - view_len v) vs (omega (arith, l, length-bytes v (take m vs))))
-    ∙ sym (left_pieces-past n v vs some h))
-    (cases_lt n (view_len v)))
-    (λ (h : n ≤ 0). let none : n ≡ 0 = omega (arith, h) in rw none (left_pieces-none (take (suc m) (v ∷ vs)) ∙ sym (left_pieces-none (v ∷ vs))))
-    (cases_lt 0 n)
+    ∙ sym (left_pieces-past n v vs some h)))
+    (λ h. let none : n ≡ 0 = omega (arith, h) in rw none (left_pieces-none (take (suc m) (v ∷ vs)) ∙ sym (left_pieces-none (v ∷ vs))))
 
 -- how many bytes stand before the pieces after a run
 start-run : (vs : List View) (i m : ℕ) → piece_start vs (i + m) ≡ piece_start vs i + length (pieces_bytes (take m (drop i vs)))
@@ -59,8 +41,8 @@ within-run v vs k o n inside l =
     (omega (arith, l, inside, length-bytes v (take k vs), length-bytes (view_advanced v o) (take k vs), length-drop o v.bytes))
 
 -- all bytes of a text that has some are the text
-pub front-all : (t : MarkedText) (n : ℕ) → 0 < n → n ≡ text_len t → text_split_front t n ≡ t
-front-all t n some all = grind (arith, nat_tests, common_steps)
+pub split_front-all : (t : MarkedText) (n : ℕ) → 0 < n → n ≡ text_len t → text_split_front t n ≡ t
+split_front-all t n some all = grind (arith, nat_tests, common_steps)
 
 take-all : (vs : List View) → take (length vs) vs ≡ vs
 take-all [] = refl
@@ -74,25 +56,19 @@ left_pieces-all vs n full all =
 front-of_pieces : (vs : List View) (n : ℕ) → AreFull vs → 0 < n → n ≤ length (pieces_bytes vs)
     → text_split_front (of_pieces vs) n ≡ of_pieces (left_pieces vs n)
 front-of_pieces vs n full some l =
-    ⊎_elim
-    (λ (h : n < length (pieces_bytes vs)). split_front-of_pieces n vs some h)
-    (λ (h : length (pieces_bytes vs) ≤ n). front-all (of_pieces vs) n some (omega (arith, l, h, len-of_pieces vs))
-    ∙ ap of_pieces (sym (left_pieces-all vs n full (omega (arith, l, h)))))
-    (cases_lt n (length (pieces_bytes vs)))
+    by_lt n (length (pieces_bytes vs)) (λ h. split_front-of_pieces n vs some h)
+    (λ h. cc (split_front-all (of_pieces vs) n some (omega (arith, l, h, len-of_pieces vs)), left_pieces-all vs n full (omega (arith, l, h))))
 
 rest-from : (vs : List View) (at : ℕ) → AreFull vs → at < length (pieces_bytes vs) → text_rest (of_pieces vs) at ≡ of_pieces (right_pieces vs at)
 rest-from vs at full l =
-    ⊎_elim
-    (λ (some : 0 < at). rest-of_pieces at vs some l)
-    (λ (h : at ≤ 0). let none : at ≡ 0 = omega (arith, h) in rw none (ap of_pieces (sym (right_pieces-none vs full))))
-    (cases_lt 0 at)
+    by_lt 0 at (λ some. rest-of_pieces at vs some l)
+    (λ h. let none : at ≡ 0 = omega (arith, h) in rw none (ap of_pieces (sym (right_pieces-none vs full))))
 
 length-right : (at : ℕ) (vs : List View) → at < length (pieces_bytes vs) → at + length (pieces_bytes (right_pieces vs at)) ≡ length (pieces_bytes vs)
 length-right at [] l = absurd (omega (arith, l))
 length-right at (v ∷ vs) l =
     let n = length-bytes v vs in
-    ⊎_elim
-    (λ (h : at < view_len v). omega (
+    by_lt at (view_len v) (λ h. omega (
       arith,
       h,
       n,
@@ -100,14 +76,13 @@ length-right at (v ∷ vs) l =
       length-bytes (view_advanced v at) vs,
       length-drop at v.bytes,
     ))
-    (λ (h : view_len v ≤ at). omega (
+    (λ h. omega (
       arith,
       h,
       n,
       ap (λ (ws : List View). length (pieces_bytes ws)) (right_pieces-past at v vs h),
       length-right (at - view_len v) vs (omega (arith, l, h, n)),
     ))
-    (cases_lt at (view_len v))
 
 -- n bytes of full pieces from a place on are what stands up to n after the place
 cut-of_pieces : (vs : List View) (at n : ℕ) → AreFull vs → 0 < n → at + n ≤ length (pieces_bytes vs)
@@ -127,53 +102,44 @@ pub cut-run : (vs run : List View) (t u : MarkedText) (start n i o k : ℕ) → 
     → text_split_front (text_rest u o) n ≡ text_split_front (text_rest t start) n
 cut-run vs run t u start n i o k text run_text full run_full is place some l held =
     let ranged : MarkedText → ℕ → MarkedText = λ x at. text_split_front (text_rest x at) n in
-    let index = index-of_place vs start i o place in
-    let from : run ≡ take (suc k) (piece_at vs i ∷ drop (suc i) vs) =
-    is ∙ ap (take (k + 1)) (drop-cons vs i default_view index) ∙ ap (λ m. take m (piece_at vs i ∷ drop (suc i) vs)) (add-one k) in
+    let from : run ≡ take (suc k) (piece_at vs i ∷ drop (suc i) vs) = cc (drop-cons vs i default_view (index-of_place vs start i o place), add-one k) in
     let pieces : left_pieces (right_pieces run o) n ≡ left_pieces (right_pieces vs start) n =
     ap (λ ws. left_pieces (right_pieces ws o) n) from
     ∙ within-run (piece_at vs i) (drop (suc i) vs) k o n place.inside (omega (arith, held, ap (λ (ws : List View). length (pieces_bytes ws)) from))
     ∙ ap (λ ws. left_pieces ws n) (sym (right-at_place vs start i o place)) in
-    ap (λ x. ranged x o) (sym run_text) ∙ cut-of_pieces run o n run_full some held ∙ ap of_pieces pieces
-    ∙ sym (cut-of_pieces vs start n full some l) ∙ ap (λ x. ranged x start) text
+    cc (cut-of_pieces run o n run_full some held, cut-of_pieces vs start n full some l)
 
 -- of full pieces the one that holds a place stands no further on than that of a place after it
 pub places-rise : (vs : List View) (from to i j o p : ℕ) → AreFull vs → IsChunkPlace vs from i o → IsChunkPlace vs to j p → from ≤ to → i ≤ j
 places-rise vs from to i j o p full here there l =
-    ⊎_elim
-    (λ (h : j < i). let index = index-of_place vs from i o here in
+    by_lt j i (λ h. let index = index-of_place vs from i o here in
     let next = start-next vs j (omega (arith, h, index)) in
-    let start : piece_start vs (suc j) ≤ piece_start vs i = ⊎_elim
-    (λ (m : suc j < i). let below = starts-below vs (suc j) i full m (omega (arith, index)) in omega (arith, below))
-    (λ (m : i ≤ suc j). let same : suc j ≡ i = omega (arith, m, h) in omega (arith, ap (piece_start vs) same))
-    (cases_lt (suc j) i) in
+    let start : piece_start vs (suc j) ≤ piece_start vs i = by_lt (suc j) i
+    (λ m. let below = starts-below vs (suc j) i full m (omega (arith, index)) in omega (arith, below))
+    (λ m. let same : suc j ≡ i = omega (arith, m, h) in omega (arith, ap (piece_start vs) same)) in
     absurd (omega (arith, next, start, here.sum, there.sum, there.inside, l)))
-    (λ (h : i ≤ j). h)
-    (cases_lt j i)
+    (λ h. h)
 
 -- the pieces from that of a place to that of a place after it hold what lies between, with the byte there
-pub held-between : (vs run : List View) (from to i j o p : ℕ) → IsChunkPlace vs from i o → IsChunkPlace vs to j p → i ≤ j → from ≤ to
+pub held-between : (vs run : List View) (from to i j o p : ℕ) → AreFull vs → IsChunkPlace vs from i o → IsChunkPlace vs to j p → from ≤ to
     → run ≡ take (j - i + 1) (drop i vs) → o + (to - from) < length (pieces_bytes run)
-held-between vs run from to i j o p here there rise l is =
+held-between vs run from to i j o p full here there l is =
+    let rise = places-rise vs from to i j o p full here there l in
     let next = start-next vs j (index-of_place vs to j p there) in
-    let sum = start-run vs i (j - i + 1) in
     let last : piece_start vs (i + (j - i + 1)) ≡ piece_start vs (suc j) = (let e : i + (j - i + 1) ≡ suc j = omega (arith, rise) in ap (piece_start vs) e) in
-    omega (arith, next, sum, last, here.sum, there.sum, there.inside, l, ap (λ (ws : List View). length (pieces_bytes ws)) is)
+    omega (arith, next, start-run vs i (j - i + 1), last, here.sum, there.sum, there.inside, l, ap (λ (ws : List View). length (pieces_bytes ws)) is)
 
 -- a piece that holds all bytes from a place to one after it holds that one too
 pub places-meet : (vs : List View) (from to i j o p : ℕ) → AreFull vs → IsChunkPlace vs from i o → IsChunkPlace vs to j p → from ≤ to
     → o + (to - from) < view_len (piece_at vs i) → j - i ≡ 0
 places-meet vs from to i j o p full here there l within =
-    ⊎_elim
-    (λ (h : i < j). let index = index-of_place vs to j p there in
+    by_lt i j (λ h. let index = index-of_place vs to j p there in
     let next = start-next vs i (omega (arith, h, index)) in
-    let start : piece_start vs (suc i) ≤ piece_start vs j = ⊎_elim
-    (λ (m : suc i < j). let below = starts-below vs (suc i) j full m (omega (arith, index)) in omega (arith, below))
-    (λ (m : j ≤ suc i). let same : suc i ≡ j = omega (arith, m, h) in omega (arith, ap (piece_start vs) same))
-    (cases_lt (suc i) j) in
+    let start : piece_start vs (suc i) ≤ piece_start vs j = by_lt (suc i) j
+    (λ m. let below = starts-below vs (suc i) j full m (omega (arith, index)) in omega (arith, below))
+    (λ m. let same : suc i ≡ j = omega (arith, m, h) in omega (arith, ap (piece_start vs) same)) in
     absurd (omega (arith, next, start, here.sum, there.sum, within, l)))
-    (λ (h : j ≤ i). omega (arith, h))
-    (cases_lt i j)
+    (λ h. omega (arith, h))
 
 -- a run of the piece of a place alone
 only-run : (vs run : List View) (i k : ℕ) → i < length vs → run ≡ take (k + 1) (drop i vs) → k ≡ 0 → run ≡ piece_at vs i ∷ []
@@ -187,11 +153,10 @@ pub static-run : (vs run : List View) (t : MarkedText) (from n i o k : ℕ) → 
 static-run vs run t from n i o k full place is none some l static rest =
     let v = piece_at vs i in
     let one = only-run vs run i k (index-of_place vs from i o place) is none in
-    let kept : AreFull (v ∷ []) = (omega (arith, place.inside), tt) in
     let w = view_advanced v o in
     let len : view_len w ≡ view_len v - o = length-drop o v.bytes in
     let text : t ≡ of_pieces (w ∷ []) =
-    rest ∙ ap (λ ws. text_rest (of_pieces ws) o) one ∙ rest-from (v ∷ []) o kept (omega (arith, place.inside, length-bytes v []))
+    rest ∙ ap (λ ws. text_rest (of_pieces ws) o) one ∙ rest-from (v ∷ []) o (omega (arith, place.inside), tt) (omega (arith, place.inside, length-bytes v []))
     ∙ ap of_pieces (right_pieces-within o v [] place.inside) in
     let chunk = ap length (first-of (w ∷ []) t (sym text) (omega arith) (λ h. (omega (arith, len, some, l), tt))) in
     let mark = ap (λ (u : View). u.mark) (ap (λ u. taken_view u 0 n) text ∙ taken_view-within n w [] some (omega (arith, len, l))) in
@@ -200,30 +165,12 @@ static-run vs run t from n i o k full place is none some l static rest =
     advanced-static : (v : View) (o : ℕ) → v.mark ≡ static_mark → mark_after o v.mark ≡ static_mark
     advanced-static v o static = ap (mark_after o) static
 
-full-run : (m : ℕ) (vs : List View) → AreFull vs → AreFull (take m vs)
-full-run zero vs full = tt
-full-run (suc m) [] full = tt
-full-run (suc m) (v ∷ vs) full = (full.0, full-run m vs full.1)
-
-full-behind : (i : ℕ) (vs : List View) → AreFull vs → AreFull (drop i vs)
-full-behind zero vs full = full
-full-behind (suc i) [] full = tt
-full-behind (suc i) (v ∷ vs) full = full-behind i vs full.1
-
--- a run of full pieces is of full pieces
-pub full-between : (vs run : List View) (i m : ℕ) → AreFull vs → run ≡ take m (drop i vs) → AreFull run
-full-between vs run i m full is = subst AreFull (sym is) (full-run m (drop i vs) (full-behind i vs full))
-
-roomy-run : (m : ℕ) (vs : List View) → AreViews vs → AreViews (take m vs)
+pub roomy-run : (m : ℕ) (vs : List View) → AreViews vs → AreViews (take m vs)
 roomy-run zero vs roomy = tt
 roomy-run (suc m) [] roomy = tt
 roomy-run (suc m) (v ∷ vs) roomy = (roomy.0, roomy-run m vs roomy.1)
 
-roomy-behind : (i : ℕ) (vs : List View) → AreViews vs → AreViews (drop i vs)
+pub roomy-behind : (i : ℕ) (vs : List View) → AreViews vs → AreViews (drop i vs)
 roomy-behind zero vs roomy = roomy
 roomy-behind (suc i) [] roomy = tt
 roomy-behind (suc i) (v ∷ vs) roomy = roomy-behind i vs roomy.1
-
--- where pieces have room for their bytes, so has a run of them
-pub views-run : (vs ws : List View) (i m : ℕ) → AreViews vs → ws ≡ take m (drop i vs) → AreViews ws
-views-run vs ws i m roomy is = subst AreViews (sym is) (roomy-run m (drop i vs) (roomy-behind i vs roomy))

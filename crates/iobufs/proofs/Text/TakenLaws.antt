@@ -1,14 +1,7 @@
 -- Bytes taken as one view.
-use Rattle.std.proofs.Common.{◌≡◌, ℕ, ◌+◌, ◌-◌, ◌<◌, ◌≤◌, true, false, cond, nat_lt, nat_le, List, [], ◌∷◌, ◌++◌, length, take, map, filter, refl, sym, ap, ◌∙◌, arith, tests, append-nil, ⊎_elim, nat_eq, ◌&&◌, zero-add}
-use Rattle.std.proofs.lemmas.List.{take-append-le}
-use Rattle.std.proofs.lemmas.Bool.{cases_lt}
-use Rattle.std.proofs.Math.Bool.{and-false}
-use Rattle.std.specs.List.{list_any}
-use Rattle.iobufs_core.specs.View.{View, Mark, default_view, native_mark, view_front}
-use Rattle.iobufs_core.specs.MarkedText.{MarkedText, key_upto, mark_past, moved_down, text_right, taken_view, text_glue}
-use Rattle.iobufs.specs.Inside.Pieces.{view_len, pieces_bytes, of_pieces}
-use Rattle.iobufs.proofs.Text.Sides.{FromOn, from_on-up, upto_none, is_lt, not_zero, not_lt, not_le, same_view, mark_after-zero}
+use Rattle.iobufs.proofs.Text.Known.{List, Mark, MarkedText, View, [], and-false, ap, append-nil, arith, by_lt, cond, default_view, false, filter, key_upto, le-ltb, length, list_any, lt-leb, lt-ltb, map, mark_past, moved_down, nat_eq, nat_lt, native_mark, of_pieces, pieces_bytes, refl, sym, take, take-append-le, taken_view, tests, text_glue, text_right, true, view_front, view_len, zero-add, ℕ, ◌&&◌, ◌++◌, ◌+◌, ◌-◌, ◌<◌, ◌∙◌, ◌∷◌, ◌≡◌, ◌≤◌}
 use Rattle.iobufs.proofs.Text.PieceLaws.{bytes-of_pieces, mark-of_pieces}
+use Rattle.iobufs.proofs.Text.Sides.{FromOn, from_on-up, mark_after-zero, not_zero, same_view, upto_none}
 
 -- a cut is inside the first n bytes of the right side exactly if one is inside the n bytes after the offset
 pub any_down : (skip n : ℕ) (es : List (ℕ × Mark))
@@ -17,22 +10,16 @@ pub any_down : (skip n : ℕ) (es : List (ℕ × Mark))
 any_down skip n [] = refl
 any_down skip n (e ∷ es) =
     let ih = any_down skip n es in
-    ⊎_elim
-    (λ (h : skip < e.0).
-    let a : nat_lt 0 (e.0 - skip) ≡ true = is_lt 0 (e.0 - skip) (omega arith) in
+    by_lt skip e.0 (λ h.
     let b : nat_lt (e.0 - skip) n ≡ nat_lt e.0 (skip + n) = grind (arith, tests) in
-    rw (is_lt skip e.0 h, a, b, ih))
-    (λ (h : e.0 ≤ skip). rw (not_lt skip e.0 h) ih)
-    (cases_lt skip e.0)
+    rw (lt-ltb skip e.0 h, lt-ltb 0 (e.0 - skip) (omega arith), b, ih))
+    (λ h. rw (le-ltb skip e.0 h) ih)
 
 pub upto_zero : (skip : ℕ) (k : ℕ × Mark) (es : List (ℕ × Mark)) → key_upto k (map (moved_down skip) (filter (λ e. nat_lt skip e.0) es)) 0 ≡ k
 upto_zero skip k [] = refl
 upto_zero skip k (e ∷ es) =
     let ih = upto_zero skip k es in
-    ⊎_elim
-    (λ (h : skip < e.0). let a : nat_le (e.0 - skip) 0 ≡ false = not_le (e.0 - skip) 0 (omega arith) in rw (is_lt skip e.0 h, a) ih)
-    (λ (h : e.0 ≤ skip). rw (not_lt skip e.0 h) ih)
-    (cases_lt skip e.0)
+    by_lt skip e.0 (λ h. rw (lt-ltb skip e.0 h, lt-leb (e.0 - skip) 0 (omega arith)) ih) (λ h. rw (le-ltb skip e.0 h) ih)
 
 -- no bytes are taken as the default view
 pub taken_view-none : (skip : ℕ) (t : MarkedText) → taken_view t skip 0 ≡ default_view
@@ -46,16 +33,14 @@ taken_view-right skip n t =
     let m = mark_past (key_upto (0, t.mark) t.cuts skip) skip in
     let any : list_any (λ e. nat_lt 0 e.0 && nat_lt e.0 (0 + n)) (text_right t skip).cuts ≡ list_any (λ e. nat_lt skip e.0 && nat_lt e.0 (skip + n)) t.cuts =
     rw (zero-add n) (any_down skip n t.cuts) in
-    let at_front : mark_past (key_upto (0, m) (text_right t skip).cuts 0) 0 ≡ m =
-    ap (λ (k : ℕ × Mark). mark_past k 0) (upto_zero skip (0, m) t.cuts) ∙ mark_after-zero m in
+    let at_front : mark_past (key_upto (0, m) (text_right t skip).cuts 0) 0 ≡ m = cc (upto_zero skip (0, m) t.cuts, mark_after-zero m) in
     ap (λ v. cond (nat_eq n 0) default_view v)
     (same_view _ _ refl (sym (rw (any, at_front))))
 
 pub any_from_on : (at n : ℕ) (es : List (ℕ × Mark)) → FromOn at es → n ≤ at → list_any (λ e. nat_lt 0 e.0 && nat_lt e.0 n) es ≡ false
 any_from_on at n [] f l = refl
 any_from_on at n (e ∷ es) f l =
-    let ih = any_from_on at n es f.1 l in
-    let h : nat_lt e.0 n ≡ false = not_lt e.0 n (omega arith) in rw (h, and-false (nat_lt 0 e.0)) ih
+    let h : nat_lt e.0 n ≡ false = le-ltb e.0 n (omega arith) in rw (h, and-false (nat_lt 0 e.0)) (any_from_on at n es f.1 l)
 
 -- all cuts between chunks are at the end of the first chunk or after it
 pub from_on-of_pieces : (v : View) (vs : List View) → FromOn (view_len v) (of_pieces (v ∷ vs)).cuts
@@ -79,7 +64,7 @@ pub cut-of_pieces : (v : View) (vs : List View) (n : ℕ) → 0 < view_len v →
     → list_any (λ e. nat_lt 0 e.0 && nat_lt e.0 (0 + n)) (of_pieces (v ∷ vs)).cuts ≡ true
 unfolding of_pieces text_glue
 cut-of_pieces v [] n p l e = let k : length (v.bytes ++ []) ≡ view_len v = ap length (append-nil v.bytes) in absurd (omega arith)
-cut-of_pieces v (w ∷ vs) n p l e = rw (is_lt 0 (view_len v) p, is_lt (view_len v) (0 + n) (omega arith))
+cut-of_pieces v (w ∷ vs) n p l e = rw (lt-ltb 0 (view_len v) p, lt-ltb (view_len v) (0 + n) (omega arith))
 
 -- the first n bytes are taken as native bytes of exact capacity, if the first view contains fewer
 pub taken_view-across : (n : ℕ) (v : View) (vs : List View) → 0 < view_len v → view_len v < n → n ≤ length (pieces_bytes (v ∷ vs))

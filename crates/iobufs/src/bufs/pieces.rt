@@ -243,7 +243,7 @@ impl Pieces {
         }
     }
 
-    // Drops bytes of several chunks: a function of its own, since its locals cost at entry.
+    // Drops bytes of several chunks. In `drop_front`, its locals cost `text64_bytewise` 16 % more instructions.
     #[inline(never)]
     fn drop_pieces(&mut self, n: usize)
         requires some { 0 < n }
@@ -260,7 +260,7 @@ impl Pieces {
         }
     }
 
-    /// What is made of the first piece, which goes; an only one leaves an empty one.
+    /// Makes a value of the first chunk, which goes; an only one leaves an empty one.
     pub(super) fn take_first<T: OwnedBytes>(&mut self, alloc: Global) -> Result<T, BufError>
         ensures made { IfOk result (T.makes (piece_at self.old 0)) }
         ensures left { OnOk result (self.new ≡ behind_first self.old) }
@@ -492,8 +492,6 @@ impl Pieces {
 
 impl Clone for Pieces {
     ghost is_clone = { λ a b. b ≡ a };
-
-    ghost use Rattle.iobufs_core.specs.View.{IsFreelyShared};
 
     ghost is_infallible = { λ pieces. (length pieces ≤ 1) × IsFreelyShared (piece_at pieces 0) };
 

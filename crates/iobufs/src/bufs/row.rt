@@ -244,7 +244,7 @@ impl Row {
         piece.view
     }
 
-    /// What is made of the first piece, which goes.
+    /// Makes a value of the first chunk, which goes.
     pub(super) fn take_first<T: OwnedBytes>(&mut self, alloc: Global) -> Result<T, BufError>
         requires { 0 < length self.old.views }
         ensures made { IfOk result (T.makes (piece_at self.old.views 0)) }

@@ -1,9 +1,14 @@
 // A buffer of fixed capacity, to be written.
-ghost use Rattle.std.specs.Prelude.{◌≡◌, ◌+◌, ◌-◌, ◌<◌, ◌≤◌, ◌==◌, [], ◌∷◌, length, drop, replicate, vec_len, vec_capacity, false, IfOk, IsOk, IsOkUnless, IsTrue, ◌↔◌};
+ghost use Rattle.std.specs.Prelude.{◌≡◌, ◌+◌, ◌-◌, ◌<◌, ◌≤◌, ◌==◌, [], ◌∷◌, length, drop, replicate, vec_len, vec_capacity, false, IfOk, IsOk, IsOkUnless, IsTrue, ◌↔◌, Some, codes, ◌++◌};
 ghost use Rattle.std.specs.Align.{IsLayout};
 ghost use Rattle.iobufs_core.specs.Part.{empty_part, is_bad_layout as bad_layout, part_capacity, part_copied, part_drained, part_overwritten, part_put, part_with_len, part_truncated};
 ghost use Rattle.std.specs.Borrow.{Lends, Array, sem, u8 as byte};
 ghost use Rattle.iobufs_core.specs.contracts.buf.part.IoBufMut.{the_row};
+ghost use Rattle.iobufs_core.specs.ChunkLaws.{joined-one, full-one};
+ghost use Rattle.iobufs_core.specs.Chunks.{full_chunks};
+ghost use Rattle.iobufs_core.specs.PartLaws.{part_copied-filled, put_nothing, put_unchanged, put_composes, put_lessens};
+ghost use Rattle.std.proofs.Common.{rules};
+ghost use Rattle.std.specs.Fmt.{decimal};
 
 use crate::codec::{Buf, BufError, BufMut};
 use bytes::{Bytes, BytesMut};
@@ -300,10 +305,6 @@ impl From<Vec<u8>> for IoBufMut {
 }
 
 impl fmt::Debug for IoBufMut {
-    ghost use Rattle.std.specs.Prelude.{Some, codes, length, ◌++◌};
-    ghost use Rattle.std.specs.Fmt.{decimal};
-    ghost use Rattle.iobufs_core.specs.Part.{part_capacity};
-
     ghost debug_output = { λ p. Some (codes "IoBufMut { len: " ++ decimal (length p.filled) ++ codes ", cap: " ++ decimal (part_capacity p) ++ codes " }") };
 
     fn fmt<W: fmt::Write>(&self, f: &mut fmt::Formatter<W>) -> fmt::Result {
@@ -314,11 +315,6 @@ impl fmt::Debug for IoBufMut {
 }
 
 impl Buf for IoBufMut {
-    ghost use Rattle.iobufs_core.specs.Chunks.{full_chunks};
-    ghost use Rattle.iobufs_core.specs.ChunkLaws.{joined-one, full-one};
-    ghost use Rattle.iobufs_core.specs.PartLaws.{part_copied-filled};
-    ghost use Rattle.std.proofs.Common.{rules};
-
     ghost text = { λ p. p.filled };
 
     ghost advanced = { part_drained };
@@ -381,10 +377,6 @@ impl Buf for IoBufMut {
 }
 
 impl BufMut for IoBufMut {
-    ghost use Rattle.std.specs.Prelude.{◌≡◌, ◌≤◌, length};
-    ghost use Rattle.iobufs_core.specs.Part.{part_put};
-    ghost use Rattle.iobufs_core.specs.PartLaws.{put_nothing, put_unchanged, put_composes, put_lessens};
-
     ghost room = { λ p. p.spare };
 
     ghost filled = { λ a w b. (length w ≤ a.spare) × (b ≡ part_put a w) };

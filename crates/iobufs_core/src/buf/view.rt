@@ -1,7 +1,15 @@
 // A text of one piece that is read and shared.
-ghost use Rattle.std.specs.Prelude.{◌≡◌, ◌≤◌, ◌-◌, ◌==◌, if◌then◌else◌, [], ◌∷◌, length, take, IsTrue, IfOk, OnOk, OnErr, IsOk, IsOkUnless, MatchResult};
-ghost use Rattle.iobufs_core.specs.View.{IsView, default_view, view_advanced, view_front, view_of_bytes, view_rest, view_slice, view_split_front, start_place, end_place, range_fits, static_mark, bytes_mark, native_mark};
+ghost use Rattle.std.specs.Prelude.{◌≡◌, ◌≤◌, ◌-◌, ◌==◌, if◌then◌else◌, [], ◌∷◌, length, take, IsTrue, IfOk, OnOk, OnErr, IsOk, IsOkUnless, MatchResult, nat_eq, Some, codes, ◌++◌};
+ghost use Rattle.iobufs_core.specs.View.{IsView, default_view, view_advanced, view_front, view_of_bytes, view_rest, view_slice, view_split_front, start_place, end_place, range_fits, static_mark, bytes_mark, native_mark, IsFreelyShared};
 ghost use Rattle.iobufs_core.specs.Recovery.{IsAdopted, IsRecovery};
+ghost use Rattle.iobufs_core.specs.ChunkLaws.{joined-one, full-one};
+ghost use Rattle.iobufs_core.specs.Chunks.{full_chunks};
+ghost use Rattle.iobufs_core.specs.ViewLaws.{view_rest-bytes};
+ghost use Rattle.std.proofs.Common.{rules};
+ghost use Rattle.std.specs.Cmp.Lexicographic.{pointwise};
+ghost use Rattle.std.specs.Cmp.Rules.{comparing};
+ghost use Rattle.std.specs.Fmt.{decimal};
+ghost use Rattle.std.specs.Ordering.{on};
 
 use super::IoBufMut;
 use super::native::Native;
@@ -335,8 +343,6 @@ impl From<Bytes> for IoBuf {
 }
 
 impl Clone for IoBuf {
-    ghost use Rattle.iobufs_core.specs.View.{IsFreelyShared};
-
     ghost is_clone = { λ a b. b ≡ a };
 
     ghost is_infallible = { IsFreelyShared };
@@ -352,12 +358,6 @@ impl Clone for IoBuf {
 }
 
 impl PartialEq for IoBuf {
-    ghost use Rattle.std.specs.Cmp.Lexicographic.{pointwise};
-    ghost use Rattle.std.specs.Cmp.Rules.{comparing};
-    ghost use Rattle.std.specs.Ordering.{on};
-    ghost use Rattle.std.specs.Prelude.{nat_eq};
-    ghost use Rattle.std.proofs.Common.{rules};
-
     ghost eq = { on (λ v. v.bytes) (pointwise nat_eq) };
 
     ghost laws = { Prim.search (comparing, rules) };
@@ -368,16 +368,10 @@ impl PartialEq for IoBuf {
 }
 
 impl Eq for IoBuf {
-    ghost use Rattle.std.specs.Cmp.Rules.{comparing};
-    ghost use Rattle.std.proofs.Common.{rules};
-
     ghost laws = { Prim.search (comparing, rules) };
 }
 
 impl fmt::Debug for IoBuf {
-    ghost use Rattle.std.specs.Prelude.{Some, codes, length, ◌++◌};
-    ghost use Rattle.std.specs.Fmt.{decimal};
-
     ghost debug_output = { λ v. Some (codes "IoBuf { len: " ++ decimal (length v.bytes) ++ codes " }") };
 
     fn fmt<W: fmt::Write>(&self, f: &mut fmt::Formatter<W>) -> fmt::Result {
@@ -387,11 +381,6 @@ impl fmt::Debug for IoBuf {
 }
 
 impl Buf for IoBuf {
-    ghost use Rattle.iobufs_core.specs.Chunks.{full_chunks};
-    ghost use Rattle.iobufs_core.specs.ChunkLaws.{joined-one, full-one};
-    ghost use Rattle.iobufs_core.specs.ViewLaws.{view_rest-bytes};
-    ghost use Rattle.std.proofs.Common.{rules};
-
     ghost text = { λ v. v.bytes };
 
     ghost advanced = { view_advanced };

@@ -1,12 +1,11 @@
 // So many bytes, as they are.
 ghost use Rattle.std.specs.Prelude.{[], ◌∷◌};
+ghost use Rattle.iobufs_core.specs.Items.{put_item};
+ghost use Rattle.iobufs_core.specs.WireLaws.{joins-put};
 
 use super::{BufMut, BufsMut, EncodeSize, Error, Write};
 
 impl<const N: usize> EncodeSize for [u8; N] {
-    ghost use Rattle.iobufs_core.specs.Items.{put_item};
-    ghost use Rattle.iobufs_core.specs.WireLaws.{joins-put};
-
     ghost written = { λ bytes. bytes };
 
     ghost items = { λ bytes. put_item bytes ∷ [] };

@@ -1,13 +1,13 @@
 // A `bool` as one byte, and a value that is there or not, after such a byte.
 ghost use Rattle.std.specs.Prelude.{[], ◌∷◌};
+ghost use Rattle.iobufs_core.specs.Items.{put_item};
+ghost use Rattle.iobufs_core.specs.SeveralLaws.{joins-option};
+ghost use Rattle.iobufs_core.specs.Wire.{flag, option_items, option_written};
+ghost use Rattle.iobufs_core.specs.WireLaws.{joins-put};
 
 use super::{BufMut, BufsMut, EncodeSize, Error, Write};
 
 impl EncodeSize for bool {
-    ghost use Rattle.iobufs_core.specs.Items.{put_item};
-    ghost use Rattle.iobufs_core.specs.Wire.{flag};
-    ghost use Rattle.iobufs_core.specs.WireLaws.{joins-put};
-
     ghost written = { λ truth. flag truth ∷ [] };
 
     ghost items = { λ truth. put_item (flag truth ∷ []) ∷ [] };
@@ -35,9 +35,6 @@ impl Write for bool {
 }
 
 impl<T: EncodeSize> EncodeSize for Option<T> {
-    ghost use Rattle.iobufs_core.specs.SeveralLaws.{joins-option};
-    ghost use Rattle.iobufs_core.specs.Wire.{option_items, option_written};
-
     ghost written = { option_written T.written };
 
     ghost items = { option_items T.items };

@@ -2,7 +2,9 @@
 ghost use Rattle.std.specs.Prelude.{◌≡◌, ◌⊎◌, ⊤, ℕ, ◌+◌, ◌≤◌, ◌<◌, List, length, Err, IfOk, IsOk, OnOk, OnErr, IsOkUnless};
 ghost use Rattle.iobufs_core.specs.Chunks.{first_chunk};
 ghost use Rattle.iobufs_core.specs.View.{View, static_mark, bytes_mark, default_view};
-ghost use Rattle.iobufs_core.specs.MarkedText.{MarkedText, taken_view, text_advanced, text_rest, text_chunks};
+ghost use Rattle.iobufs_core.specs.MarkedText.{MarkedText, taken_view, text_advanced, text_rest, text_chunks, of_view};
+ghost use Rattle.iobufs_core.specs.ViewLaws.{advanced-of_view, chunks-of_view, text_rest-of_view};
+ghost use Rattle.std.proofs.Common.{rules};
 
 use super::{Buf, BufError, Error};
 use crate::buf::IoBuf;
@@ -140,8 +142,6 @@ impl OwnedBytes for IoBuf {
         Ok(mem::take(view))
     }
 
-    ghost use Rattle.std.proofs.Common.{rules};
-
     ghost same_bytes = { Prim.search rules };
 }
 
@@ -167,16 +167,10 @@ impl OwnedBytes for Bytes {
         view.take_bytes(alloc)
     }
 
-    ghost use Rattle.std.proofs.Common.{rules};
-
     ghost same_bytes = { Prim.search rules };
 }
 
 impl OwnedBuf for IoBuf {
-    ghost use Rattle.iobufs_core.specs.MarkedText.{of_view};
-    ghost use Rattle.iobufs_core.specs.ViewLaws.{advanced-of_view, chunks-of_view, text_rest-of_view};
-    ghost use Rattle.std.proofs.Common.{rules};
-
     ghost marked = { of_view };
 
     #[tactic(auto, using(crate::specs::ViewLaws::taken_of_view))]

@@ -1,5 +1,6 @@
 // Several values as one: each is written after the one before it. And what is borrowed is written as it is.
 ghost use Rattle.std.specs.Prelude.{◌++◌};
+ghost use Rattle.iobufs_core.specs.SeveralLaws.{joins_two};
 
 use super::{BufMut, BufsMut, EncodeSize, Error, Write};
 
@@ -30,8 +31,6 @@ impl<T: Write> Write for &T {
 }
 
 impl<A: EncodeSize, B: EncodeSize> EncodeSize for (A, B) {
-    ghost use Rattle.iobufs_core.specs.SeveralLaws.{joins_two};
-
     ghost written = { λ p. A.written p.0 ++ B.written p.1 };
 
     ghost items = { λ p. A.items p.0 ++ B.items p.1 };
@@ -46,7 +45,7 @@ impl<A: EncodeSize, B: EncodeSize> EncodeSize for (A, B) {
         self.0.encode_inline_size() + self.1.encode_inline_size()
     }
 
-    ghost joins_items = { λ p. joins_two (A.items p.0) (B.items p.1) (A.written p.0) (B.written p.1) (A.joins_items p.0) (B.joins_items p.1) };
+    ghost joins_items = { λ p. joins_two (A.items p.0) (B.items p.1) _ _ (A.joins_items p.0) (B.joins_items p.1) };
 }
 
 impl<A: Write, B: Write> Write for (A, B) {
@@ -64,8 +63,6 @@ impl<A: Write, B: Write> Write for (A, B) {
 }
 
 impl<A: EncodeSize, B: EncodeSize, C: EncodeSize> EncodeSize for (A, B, C) {
-    ghost use Rattle.iobufs_core.specs.SeveralLaws.{joins_two};
-
     ghost written = { λ p. A.written p.0 ++ (B.written p.1 ++ C.written p.2) };
 
     ghost items = { λ p. A.items p.0 ++ (B.items p.1 ++ C.items p.2) };
@@ -78,11 +75,8 @@ impl<A: EncodeSize, B: EncodeSize, C: EncodeSize> EncodeSize for (A, B, C) {
         (&self.0, (&self.1, &self.2)).encode_inline_size()
     }
 
-    ghost joins_items = { λ p. joins_two (A.items p.0) (B.items p.1 ++ C.items p.2)
-        (A.written p.0) (B.written p.1 ++ C.written p.2) (A.joins_items p.0)
-        (joins_two (B.items p.1) (C.items p.2)
-        (B.written p.1) (C.written p.2) (B.joins_items p.1)
-        (C.joins_items p.2)) };
+    ghost joins_items = { λ p. joins_two (A.items p.0) (B.items p.1 ++ C.items p.2) _ _ (A.joins_items p.0)
+        (joins_two (B.items p.1) (C.items p.2) _ _ (B.joins_items p.1) (C.joins_items p.2)) };
 }
 
 impl<A: Write, B: Write, C: Write> Write for (A, B, C) {
@@ -96,8 +90,6 @@ impl<A: Write, B: Write, C: Write> Write for (A, B, C) {
 }
 
 impl<A: EncodeSize, B: EncodeSize, C: EncodeSize, D: EncodeSize> EncodeSize for (A, B, C, D) {
-    ghost use Rattle.iobufs_core.specs.SeveralLaws.{joins_two};
-
     ghost written = { λ p. A.written p.0 ++ (B.written p.1 ++ (C.written p.2 ++ D.written p.3)) };
 
     ghost items = { λ p. A.items p.0 ++ (B.items p.1 ++ (C.items p.2 ++ D.items p.3)) };
@@ -110,13 +102,9 @@ impl<A: EncodeSize, B: EncodeSize, C: EncodeSize, D: EncodeSize> EncodeSize for 
         (&self.0, (&self.1, (&self.2, &self.3))).encode_inline_size()
     }
 
-    ghost joins_items = { λ p. joins_two (A.items p.0) (B.items p.1 ++ (C.items p.2 ++ D.items p.3))
-        (A.written p.0) (B.written p.1 ++ (C.written p.2 ++ D.written p.3)) (A.joins_items p.0)
-        (joins_two (B.items p.1) (C.items p.2 ++ D.items p.3)
-        (B.written p.1) (C.written p.2 ++ D.written p.3) (B.joins_items p.1)
-        (joins_two (C.items p.2) (D.items p.3)
-        (C.written p.2) (D.written p.3) (C.joins_items p.2)
-        (D.joins_items p.3))) };
+    ghost joins_items = { λ p. joins_two (A.items p.0) (B.items p.1 ++ (C.items p.2 ++ D.items p.3)) _ _ (A.joins_items p.0)
+        (joins_two (B.items p.1) (C.items p.2 ++ D.items p.3) _ _ (B.joins_items p.1)
+        (joins_two (C.items p.2) (D.items p.3) _ _ (C.joins_items p.2) (D.joins_items p.3))) };
 }
 
 impl<A: Write, B: Write, C: Write, D: Write> Write for (A, B, C, D) {
@@ -131,8 +119,6 @@ impl<A: Write, B: Write, C: Write, D: Write> Write for (A, B, C, D) {
 
 impl<A: EncodeSize, B: EncodeSize, C: EncodeSize, D: EncodeSize, E: EncodeSize> EncodeSize
     for (A, B, C, D, E) {
-    ghost use Rattle.iobufs_core.specs.SeveralLaws.{joins_two};
-
     ghost written = { λ p. A.written p.0 ++ (B.written p.1 ++ (C.written p.2 ++ (D.written p.3 ++ E.written p.4))) };
 
     ghost items = { λ p. A.items p.0 ++ (B.items p.1 ++ (C.items p.2 ++ (D.items p.3 ++ E.items p.4))) };
@@ -145,15 +131,10 @@ impl<A: EncodeSize, B: EncodeSize, C: EncodeSize, D: EncodeSize, E: EncodeSize> 
         (&self.0, (&self.1, (&self.2, (&self.3, &self.4)))).encode_inline_size()
     }
 
-    ghost joins_items = { λ p. joins_two (A.items p.0) (B.items p.1 ++ (C.items p.2 ++ (D.items p.3 ++ E.items p.4)))
-        (A.written p.0) (B.written p.1 ++ (C.written p.2 ++ (D.written p.3 ++ E.written p.4))) (A.joins_items p.0)
-        (joins_two (B.items p.1) (C.items p.2 ++ (D.items p.3 ++ E.items p.4))
-        (B.written p.1) (C.written p.2 ++ (D.written p.3 ++ E.written p.4)) (B.joins_items p.1)
-        (joins_two (C.items p.2) (D.items p.3 ++ E.items p.4)
-        (C.written p.2) (D.written p.3 ++ E.written p.4) (C.joins_items p.2)
-        (joins_two (D.items p.3) (E.items p.4)
-        (D.written p.3) (E.written p.4) (D.joins_items p.3)
-        (E.joins_items p.4)))) };
+    ghost joins_items = { λ p. joins_two (A.items p.0) (B.items p.1 ++ (C.items p.2 ++ (D.items p.3 ++ E.items p.4))) _ _ (A.joins_items p.0)
+        (joins_two (B.items p.1) (C.items p.2 ++ (D.items p.3 ++ E.items p.4)) _ _ (B.joins_items p.1)
+        (joins_two (C.items p.2) (D.items p.3 ++ E.items p.4) _ _ (C.joins_items p.2)
+        (joins_two (D.items p.3) (E.items p.4) _ _ (D.joins_items p.3) (E.joins_items p.4)))) };
 }
 
 impl<A: Write, B: Write, C: Write, D: Write, E: Write> Write for (A, B, C, D, E) {
@@ -174,8 +155,6 @@ impl<
     E: EncodeSize,
     F: EncodeSize,
 > EncodeSize for (A, B, C, D, E, F) {
-    ghost use Rattle.iobufs_core.specs.SeveralLaws.{joins_two};
-
     ghost written = { λ p. A.written p.0 ++ (B.written p.1 ++ (C.written p.2 ++ (D.written p.3 ++ (E.written p.4 ++ F.written p.5)))) };
 
     ghost items = { λ p. A.items p.0 ++ (B.items p.1 ++ (C.items p.2 ++ (D.items p.3 ++ (E.items p.4 ++ F.items p.5)))) };
@@ -188,17 +167,11 @@ impl<
         (&self.0, (&self.1, (&self.2, (&self.3, (&self.4, &self.5))))).encode_inline_size()
     }
 
-    ghost joins_items = { λ p. joins_two (A.items p.0) (B.items p.1 ++ (C.items p.2 ++ (D.items p.3 ++ (E.items p.4 ++ F.items p.5))))
-        (A.written p.0) (B.written p.1 ++ (C.written p.2 ++ (D.written p.3 ++ (E.written p.4 ++ F.written p.5)))) (A.joins_items p.0)
-        (joins_two (B.items p.1) (C.items p.2 ++ (D.items p.3 ++ (E.items p.4 ++ F.items p.5)))
-        (B.written p.1) (C.written p.2 ++ (D.written p.3 ++ (E.written p.4 ++ F.written p.5))) (B.joins_items p.1)
-        (joins_two (C.items p.2) (D.items p.3 ++ (E.items p.4 ++ F.items p.5))
-        (C.written p.2) (D.written p.3 ++ (E.written p.4 ++ F.written p.5)) (C.joins_items p.2)
-        (joins_two (D.items p.3) (E.items p.4 ++ F.items p.5)
-        (D.written p.3) (E.written p.4 ++ F.written p.5) (D.joins_items p.3)
-        (joins_two (E.items p.4) (F.items p.5)
-        (E.written p.4) (F.written p.5) (E.joins_items p.4)
-        (F.joins_items p.5))))) };
+    ghost joins_items = { λ p. joins_two (A.items p.0) (B.items p.1 ++ (C.items p.2 ++ (D.items p.3 ++ (E.items p.4 ++ F.items p.5)))) _ _ (A.joins_items p.0)
+        (joins_two (B.items p.1) (C.items p.2 ++ (D.items p.3 ++ (E.items p.4 ++ F.items p.5))) _ _ (B.joins_items p.1)
+        (joins_two (C.items p.2) (D.items p.3 ++ (E.items p.4 ++ F.items p.5)) _ _ (C.joins_items p.2)
+        (joins_two (D.items p.3) (E.items p.4 ++ F.items p.5) _ _ (D.joins_items p.3)
+        (joins_two (E.items p.4) (F.items p.5) _ _ (E.joins_items p.4) (F.joins_items p.5))))) };
 }
 
 impl<A: Write, B: Write, C: Write, D: Write, E: Write, F: Write> Write for (A, B, C, D, E, F) {

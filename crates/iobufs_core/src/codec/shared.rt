@@ -1,10 +1,14 @@
 // A `Bytes` as a value that is written and read after its length.
-ghost use Rattle.std.specs.Prelude.{◌≡◌, ◌⊎◌, ◌^◌, ◌<◌, ◌≤◌, [], ◌∷◌, length, OnOk, OnErr, IfOk, IfErr, IsOk};
+ghost use Rattle.std.specs.Prelude.{◌≡◌, ◌⊎◌, ◌^◌, ◌<◌, ◌≤◌, [], ◌∷◌, length, OnOk, OnErr, IfOk, IfErr, IsOk, true};
 ghost use Rattle.iobufs_core.specs.Dropping.{by_copy, dropped};
 ghost use Rattle.iobufs_core.specs.Items.{IsBegun, items_inline, items_pushed, put_item};
 ghost use Rattle.iobufs_core.specs.MarkedText.{text_advanced, text_rest};
 ghost use Rattle.iobufs_core.specs.Spelling.{spell};
 ghost use Rattle.iobufs_core.specs.Wire.{HasStaticView, IsBytesRead, bytes_items, bytes_written};
+ghost use Rattle.iobufs_core.specs.CodecLaws.{bytes_codec};
+ghost use Rattle.iobufs_core.specs.Ranges.{in_range};
+ghost use Rattle.iobufs_core.specs.ReadLaws.{bytes_alike};
+ghost use Rattle.iobufs_core.specs.WireLaws.{joins-bytes};
 
 use super::length::{put_length, spelled_len};
 use super::wire::read_bytes;
@@ -13,9 +17,6 @@ use bytes::Bytes;
 use std::alloc::Global;
 
 impl EncodeSize for Bytes {
-    ghost use Rattle.iobufs_core.specs.Wire.{bytes_items, bytes_written};
-    ghost use Rattle.iobufs_core.specs.WireLaws.{joins-bytes};
-
     ghost written = { bytes_written };
 
     ghost items = { bytes_items };
@@ -62,14 +63,9 @@ impl Write for Bytes {
 impl Read for Bytes {
     type Cfg = RangeCfg;
 
-    ghost use Rattle.iobufs_core.specs.ReadLaws.{bytes_alike};
-    ghost use Rattle.iobufs_core.specs.Wire.{IsBytesRead, bytes_written};
-
     ghost is_read = { IsBytesRead };
 
     ghost dropping = { λ bytes. by_copy (length (bytes_written bytes)) ∷ [] };
-
-    ghost same = { λ x y. x ≡ y };
 
     /// Cannot fail with `Error::Memory` if the bytes are static.
     fn read_cfg<B: OwnedBuf>(alloc: Global, buf: &mut B, range: &RangeCfg) -> Result<Bytes, Error>
@@ -87,23 +83,7 @@ impl Read for Bytes {
 }
 
 impl Codec for Bytes {
-    ghost use Rattle.std.specs.Prelude.{true};
-    ghost use Rattle.iobufs_core.specs.Ranges.{in_range};
-    ghost use Rattle.iobufs_core.specs.ReadLaws.{bytes_back};
-
     ghost admits = { λ range bytes. (length bytes < 2 ^ 64) × (in_range range (length bytes) ≡ true) };
 
-    ghost gives_back = { λ bytes range text rest answer ok e h. bytes_back bytes range text rest answer ok.0 ok.1 e h };
-
-    ghost use Rattle.iobufs_core.specs.CodecLaws.{bytes_one, bytes_front, one_drop};
-    ghost use Rattle.iobufs_core.specs.Wire.{bytes_written};
-    ghost use Rattle.std.proofs.Common.{ap};
-
-    ghost same_written = { λ x y e. ap bytes_written e };
-
-    ghost no_front = { λ x y _ _ u v p q e. bytes_one x y u v p.0 q.0 e };
-
-    ghost read_written = { λ bytes range text h. bytes_front text range bytes h };
-
-    ghost drops_written = { λ bytes. one_drop (length (bytes_written bytes)) };
+    ghost form = { bytes_codec };
 }

@@ -1,14 +1,18 @@
 // The traits to write and read values, with bytes that are pushed and not copied.
-ghost use Rattle.std.specs.Prelude.{◌≡◌, ◌⊎◌, ℕ, ◌+◌, ◌^◌, ◌<◌, ◌≤◌, List, [], ◌∷◌, ◌++◌, length, take, Result, Ok, SomeIff, OnOk, OnErr, IfOk, IfErr, IsOk, IsErrAnd};
+ghost use Rattle.std.specs.Prelude.{◌≡◌, ◌⊎◌, ℕ, ◌+◌, ◌^◌, ◌<◌, ◌≤◌, List, [], ◌∷◌, ◌++◌, length, take, Result, Ok, SomeIff, OnOk, OnErr, IfOk, IfErr, IsOk, IsErrAnd, true};
 ghost use Rattle.iobufs_core.specs.View.{View, static_mark};
 ghost use Rattle.iobufs_core.specs.MarkedText.{MarkedText, taken_view, text_advanced, text_rest};
 ghost use Rattle.iobufs_core.specs.Spelling.{spell};
-ghost use Rattle.iobufs_core.specs.Wire.{HasStaticView, HasView, IsTaken, IsViewFault, IsViewRead, view_items, view_written};
-ghost use Rattle.iobufs_core.specs.ReadBack.{IsReadAlike, IsReadBack};
-ghost use Rattle.iobufs_core.specs.Dropping.{Dropping, by_advance, by_copy, dropped, dropped_len};
+ghost use Rattle.iobufs_core.specs.Wire.{HasStaticView, HasView, IsTaken, IsViewFault, IsViewRead, view_items, view_written, IsLengthRead};
+ghost use Rattle.iobufs_core.specs.ReadBack.{IsCodec, IsReadAlike};
+ghost use Rattle.iobufs_core.specs.Dropping.{Dropping, by_advance, by_copy, dropped};
 ghost use Rattle.iobufs_core.specs.Items.{PutOrPush, put_item, push_item, items_bytes, items_inline, items_pushed, IsBegun};
 ghost use Rattle.iobufs_core.specs.View.{view_of_bytes};
 ghost use Rattle.iobufs_core.specs.declared.codec.base.Error.{Error as AnyError};
+ghost use Rattle.iobufs_core.specs.CodecLaws.{length_codec, view_codec};
+ghost use Rattle.iobufs_core.specs.Ranges.{in_range};
+ghost use Rattle.iobufs_core.specs.ReadLaws.{length_alike, views_alike};
+ghost use Rattle.iobufs_core.specs.WireLaws.{joins-put, joins-view};
 
 use super::length::{length_in, put_length, spelled_len};
 use super::{Buf, BufError, BufMut, Error, OwnedBuf, OwnedBytes, RangeCfg, Refused};
@@ -109,7 +113,7 @@ pub trait Read: Sized {
     ghost dropping: { Self → List Dropping };
 
     // Two values are equal, wherever their bytes are kept.
-    ghost same: { Self → Self → Type 0 };
+    ghost same: { Self → Self → Type 0 } = { λ x y. x ≡ y };
 
     /// Reads a value from the front (`Read::read_cfg`). If it fails, `buf` is unchanged.
     fn read_cfg<B: OwnedBuf>(alloc: Global, buf: &mut B, cfg: &Self::Cfg) -> Result<Self, Error>
@@ -128,26 +132,10 @@ pub trait Codec: Write + Read {
     // Which values a configuration admits.
     ghost admits: { Self.Cfg → Self → Type 0 };
 
-    ghost gives_back: { (value : Self) (cfg : Self.Cfg) (text : MarkedText) (rest : List ℕ) (answer : Result Self AnyError) → admits cfg value
-        → text.bytes ≡ Self.written value ++ rest → Self.is_read text cfg answer → IsReadBack Self.same value answer };
-
-    // Equal values have the same encoding, and no encoding is a prefix of another value's.
-    ghost same_written: { (x y : Self) → Self.same x y → Self.written x ≡ Self.written y };
-
-    ghost no_front: { (x y : Self) (cfg other : Self.Cfg) (u v : List ℕ) → admits cfg x → admits other y → Self.written x ++ u ≡ Self.written y ++ v
-        → Self.same x y };
-
-    // A value that is read is admitted, and the bytes begin with its encoding. The read drops as many bytes.
-    ghost read_written: { (value : Self) (cfg : Self.Cfg) (text : MarkedText) → Self.is_read text cfg (Ok value)
-        → admits cfg value × (take (length (Self.written value)) text.bytes ≡ Self.written value) };
-
-    ghost drops_written: { (value : Self) → dropped_len (Self.dropping value) ≡ length (Self.written value) };
+    ghost form: { IsCodec Self Self.Cfg Self.written Self.is_read Self.dropping Self.same admits };
 }
 
 impl EncodeSize for usize {
-    ghost use Rattle.iobufs_core.specs.Spelling.{spell};
-    ghost use Rattle.iobufs_core.specs.WireLaws.{joins-put};
-
     ghost written = { spell };
 
     ghost items = { λ n. put_item (spell n) ∷ [] };
@@ -177,15 +165,9 @@ impl Write for usize {
 impl Read for usize {
     type Cfg = RangeCfg;
 
-    ghost use Rattle.iobufs_core.specs.Spelling.{spell};
-    ghost use Rattle.iobufs_core.specs.ReadLaws.{length_alike};
-    ghost use Rattle.iobufs_core.specs.Wire.{IsLengthRead};
-
     ghost is_read = { λ text range answer. IsLengthRead text.bytes range answer };
 
     ghost dropping = { λ n. by_advance (length (spell n)) ∷ [] };
-
-    ghost same = { λ m n. m ≡ n };
 
     fn read_cfg<B: OwnedBuf>(
         _alloc: Global,
@@ -201,31 +183,12 @@ impl Read for usize {
 }
 
 impl Codec for usize {
-    ghost use Rattle.std.specs.Prelude.{true};
-    ghost use Rattle.iobufs_core.specs.Ranges.{in_range};
-    ghost use Rattle.iobufs_core.specs.ReadLaws.{length_back};
-
     ghost admits = { λ range n. (n < 2 ^ 64) × (in_range range n ≡ true) };
 
-    ghost gives_back = { λ n range text rest answer ok e h. length_back n range text.bytes rest answer ok.0 ok.1 e h };
-
-    ghost use Rattle.iobufs_core.specs.CodecLaws.{length_front, one_drop};
-    ghost use Rattle.iobufs_core.specs.Spelled.{spell_begins};
-    ghost use Rattle.std.proofs.Common.{ap};
-
-    ghost same_written = { λ m n e. ap spell e };
-
-    ghost no_front = { λ m n _ _ u v p q e. spell_begins m n u v p.0 q.0 e };
-
-    ghost read_written = { λ n range text h. length_front text.bytes range n h };
-
-    ghost drops_written = { λ n. one_drop (length (spell n)) };
+    ghost form = { length_codec };
 }
 
 impl EncodeSize for IoBuf {
-    ghost use Rattle.iobufs_core.specs.Wire.{view_items, view_written};
-    ghost use Rattle.iobufs_core.specs.WireLaws.{joins-view};
-
     ghost written = { view_written };
 
     ghost items = { view_items };
@@ -271,9 +234,6 @@ impl Write for IoBuf {
 impl Read for IoBuf {
     type Cfg = RangeCfg;
 
-    ghost use Rattle.iobufs_core.specs.ReadLaws.{views_alike};
-    ghost use Rattle.iobufs_core.specs.Wire.{IsViewRead, view_written};
-
     ghost is_read = { IsViewRead };
 
     ghost dropping = { λ view. by_copy (length (view_written view)) ∷ [] };
@@ -296,24 +256,9 @@ impl Read for IoBuf {
 }
 
 impl Codec for IoBuf {
-    ghost use Rattle.std.specs.Prelude.{true};
-    ghost use Rattle.iobufs_core.specs.Ranges.{in_range};
-    ghost use Rattle.iobufs_core.specs.ReadLaws.{view_back};
-
     ghost admits = { λ range view. (length view.bytes < 2 ^ 64) × (in_range range (length view.bytes) ≡ true) };
 
-    ghost gives_back = { λ view range text rest answer ok e h. view_back view range text rest answer ok.0 ok.1 e h };
-
-    ghost use Rattle.iobufs_core.specs.CodecLaws.{bytes_one, same_view, view_in_front, one_drop};
-    ghost use Rattle.iobufs_core.specs.Wire.{view_written};
-
-    ghost same_written = { same_view };
-
-    ghost no_front = { λ x y _ _ u v p q e. bytes_one x.bytes y.bytes u v p.0 q.0 e };
-
-    ghost read_written = { λ view range text h. view_in_front text range view h };
-
-    ghost drops_written = { λ view. one_drop (length (view_written view)) };
+    ghost form = { view_codec };
 }
 
 /// Reads the bytes after a length, as a type made of a view.

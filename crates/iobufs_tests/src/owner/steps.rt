@@ -1,4 +1,4 @@
-// What no stored session of the program says: it reserves entries before each step, and gives no list of steps.
+// The machine where no stored session of the program goes: it reserves entries before each step, and gives no list of steps.
 use crate::same::assert_same;
 use iobufs_owner::format::FORMAT_64;
 use iobufs_owner::owner::Act::{self, Begin, Go};

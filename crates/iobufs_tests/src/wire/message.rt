@@ -1,6 +1,13 @@
 // A message of three values, written and peeked as the tuple of its parts.
 ghost use Rattle.std.specs.Prelude.{◌≡◌, ◌++◌, [], ◌∷◌};
 ghost use Rattle.std.specs.Int.{w32, to_be_bytes};
+ghost use Rattle.iobufs_core.specs.Items.{put_item};
+ghost use Rattle.iobufs_core.specs.NumberLaws.{form_8, form_32};
+ghost use Rattle.iobufs_core.specs.SeveralLaws.{joins_two};
+ghost use Rattle.iobufs_core.specs.Wire.{view_items, view_written};
+ghost use Rattle.iobufs_core.specs.WireLaws.{joins-put, joins-view};
+ghost use Rattle.iobufs_values.specs.Forms.{bytes_form, form_as, number_form, pair_form};
+ghost use Rattle.std.proofs.Common.{ap, refl};
 
 use iobufs_core::buf::IoBuf;
 use iobufs_core::codec::{BufMut, BufsMut, EncodeSize, Error, Peek, RangeCfg, Write};
@@ -16,11 +23,6 @@ pub struct Message {
 }
 
 impl EncodeSize for Message {
-    ghost use Rattle.iobufs_core.specs.Items.{put_item};
-    ghost use Rattle.iobufs_core.specs.SeveralLaws.{joins_two};
-    ghost use Rattle.iobufs_core.specs.Wire.{view_items, view_written};
-    ghost use Rattle.iobufs_core.specs.WireLaws.{joins-put, joins-view};
-
     ghost written = { λ m. to_be_bytes w32 m.number ++ ((m.kind ∷ []) ++ view_written m.body) };
 
     ghost items = { λ m. (put_item (to_be_bytes w32 m.number) ∷ []) ++ ((put_item (m.kind ∷ []) ∷ []) ++ view_items m.body) };
@@ -51,10 +53,6 @@ impl Write for Message {
 impl Look for Message {
     type Cfg = ((), (), RangeCfg);
 
-    ghost use Rattle.iobufs_core.specs.NumberLaws.{form_8, form_32};
-    ghost use Rattle.iobufs_values.specs.Forms.{bytes_form, form_as, number_form, pair_form};
-    ghost use Rattle.std.proofs.Common.{ap, refl};
-
     ghost is_found = { λ text skip cfg m. ⟦<(u32, u8, IoBuf) as Look>⟧.is_found text skip cfg (m.number, m.kind, m.body) };
 
     ghost is_fault = { ⟦<(u32, u8, IoBuf) as Look>⟧.is_fault };
@@ -77,6 +75,4 @@ impl Look for Message {
         (λ m. to_be_bytes w32 m.number ++ ((m.kind ∷ []) ++ view_written m.body)) (λ m. refl)
         (pair_form (number_form _ (to_be_bytes w32) 4 form_32) (pair_form (number_form _ (λ n. n ∷ []) 1 form_8)
         (bytes_form (λ view. view.bytes) (λ view made. made ≡ view) (λ view made is. ap (λ v. v.bytes) is)))) };
-
-    ghost use Rattle.iobufs_core.specs.Wire.{view_written};
 }

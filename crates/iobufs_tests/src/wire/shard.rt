@@ -3,6 +3,7 @@ ghost use Rattle.std.specs.Prelude.{[], ◌∷◌, ◌++◌};
 ghost use Rattle.std.specs.Int.{w16, w32, to_be_bytes};
 ghost use Rattle.iobufs_core.specs.Items.{put_item};
 ghost use Rattle.iobufs_core.specs.Wire.{view_items, view_written};
+ghost use Rattle.std.proofs.Common.{rules, append-nil, append_assoc};
 
 use iobufs_core::buf::IoBuf;
 use iobufs_core::codec::{BufMut, BufsMut, EncodeSize, Error, Write};
@@ -15,8 +16,6 @@ pub struct Shard {
 }
 
 impl EncodeSize for Shard {
-    ghost use Rattle.std.proofs.Common.{rules, append-nil, append_assoc};
-
     ghost written = { λ s. to_be_bytes w16 s.id ++ view_written s.body ++ to_be_bytes w32 s.sum };
 
     ghost items = { λ s. put_item (to_be_bytes w16 s.id) ∷ view_items s.body ++ put_item (to_be_bytes w32 s.sum) ∷ [] };

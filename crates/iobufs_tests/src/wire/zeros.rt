@@ -1,6 +1,7 @@
 // Zero bytes in two runs, all inline.
 ghost use Rattle.std.specs.Prelude.{[], ◌∷◌, ◌++◌, replicate};
 ghost use Rattle.iobufs_core.specs.Items.{put_item};
+ghost use Rattle.std.proofs.Common.{rules, append-nil};
 
 use iobufs_core::codec::{BufMut, BufsMut, EncodeSize, Error, Write};
 
@@ -11,8 +12,6 @@ pub struct Zeros {
 }
 
 impl EncodeSize for Zeros {
-    ghost use Rattle.std.proofs.Common.{rules, append-nil};
-
     ghost written = { λ z. replicate z.a 0 ++ replicate z.b 0 };
 
     ghost items = { λ z. put_item (replicate z.a 0) ∷ put_item (replicate z.b 0) ∷ [] };

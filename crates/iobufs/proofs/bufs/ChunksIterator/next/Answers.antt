@@ -1,7 +1,4 @@
-use Rattle.std.proofs.Common.{◌≡◌, ◌∷◌, ◌∙◌, ap, sym, drop, drop-cons, add-one, suc, Some}
-use Rattle.std.proofs.lemmas.Option.{get_or_from_slice_get, slice_get_within}
-use Rattle.std.specs.List.{slice_get}
-use Rattle.iobufs_core.specs.MarkedText.{text_chunks}
+use Rattle.iobufs.proofs.Text.{Some, add-one, ap, drop, drop-cons, get_or_from_slice_get, slice_get, slice_get_within, suc, sym, text_chunks, ◌∙◌, ◌∷◌, ◌≡◌}
 use Rattle.iobufs.proofs.bufs.ChunksIterator.next.Goals as goal
 
 pub returns-clause-steps : goal.returns-clause-steps

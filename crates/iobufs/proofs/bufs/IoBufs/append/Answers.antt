@@ -1,10 +1,4 @@
-use Rattle.std.proofs.Common.{◌≡◌, ap, sym, subst, ◌∙◌, arith}
-use Rattle.iobufs.specs.Inside.Pieces.{AreViews, of_pieces}
-use Rattle.iobufs.specs.Inside.Several.{views}
-use Rattle.iobufs.specs.declared.bufs.IoBufs.TheInside.{Inside}
-use Rattle.iobufs.proofs.Text.RoomLaws.{behind-row, length-row}
-use Rattle.iobufs.proofs.Text.SeveralLaws.{pieced-as, several-push}
-use Rattle.iobufs.proofs.Text.TextLaws.{views-push}
+use Rattle.iobufs.proofs.Text.{AreViews, AreViews-append, Inside, ap, arith, behind-row, length-row, of_pieces, pieced-as, several-push, subst, sym, views, ◌∙◌, ◌≡◌}
 use Rattle.iobufs.proofs.bufs.IoBufs.append.Goals as goal
 
 pub invariant_of-self-inside : goal.invariant_of-self-inside
@@ -15,7 +9,8 @@ invariant_of-self-inside c =
 pub invariant_of-self : goal.invariant_of-self
 invariant_of-self c =
     let seen : c.in-Many.row.views ≡ c.self.inside.pieces = ap views (sym c.in-Many.is) ∙ ap (λ (s : Inside). s.pieces) c.self-inside.view_is in
-    views-push c.in-Many.row.views _ c.args.piece c.push_back_reserved.ensures.pushed (subst AreViews (sym seen) c.self.invariant) c.len-more.ensures.room
+    subst AreViews (sym c.push_back_reserved.ensures.pushed)
+    (AreViews-append c.in-Many.row.views _ (subst AreViews (sym seen) c.self.invariant) (c.len-more.ensures.room, tt))
 
 pub returns-then-has_room-clause-done : goal.returns-then-has_room-clause-done
 returns-then-has_room-clause-done c =

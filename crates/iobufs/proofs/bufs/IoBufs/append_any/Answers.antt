@@ -1,10 +1,8 @@
-use Rattle.std.proofs.Common.{ap, ◌∙◌, arith}
-use Rattle.iobufs.specs.Inside.Pieces.{of_pieces}
-use Rattle.iobufs.proofs.Text.TextLaws.{length-kept, append-pieces, views-push}
+use Rattle.iobufs.proofs.Text.{AreViews, AreViews-append, ap, append-pieces, arith, length-kept, of_pieces, subst, sym, ◌∙◌}
 use Rattle.iobufs.proofs.bufs.IoBufs.append_any.Goals as goal
 
 pub invariant_of-self-2 : goal.invariant_of-self-2
-invariant_of-self-2 c = views-push _ _ c.args.piece c.in_default.ensures.done c.self.invariant c.len-more.ensures.room
+invariant_of-self-2 c = subst AreViews (sym c.in_default.ensures.done) (AreViews-append _ _ c.self.invariant (c.len-more.ensures.room, tt))
 
 pub returns-clause-done : goal.returns-clause-done
 returns-clause-done c = ap of_pieces c.in_default.ensures.done ∙ append-pieces _ _ _ c.self.view_is (omega arith) (omega arith)

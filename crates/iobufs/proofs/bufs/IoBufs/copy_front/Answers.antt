@@ -1,5 +1,4 @@
-use Rattle.std.proofs.Common.{arith, ap, ◌∙◌, take}
-use Rattle.iobufs.proofs.Text.TextLaws.{length-kept, bytes-kept}
+use Rattle.iobufs.proofs.Text.{ap, arith, bytes-kept, length-kept, take, ◌∙◌}
 use Rattle.iobufs.proofs.bufs.IoBufs.copy_front.Goals as goal
 
 pub copy_front-requires : goal.copy_front-requires

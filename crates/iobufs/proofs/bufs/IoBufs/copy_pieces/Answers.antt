@@ -1,5 +1,4 @@
-use Rattle.std.proofs.Common.{ap, ◌∙◌, arith, length, take}
-use Rattle.iobufs.proofs.Text.TextLaws.{bytes-kept}
+use Rattle.iobufs.proofs.Text.{ap, arith, bytes-kept, length, take, ◌∙◌}
 use Rattle.iobufs.proofs.bufs.IoBufs.copy_pieces.Goals as goal
 
 pub copy_from-requires-clause-inside : goal.copy_from-requires-clause-inside

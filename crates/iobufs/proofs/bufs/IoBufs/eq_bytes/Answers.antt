@@ -1,8 +1,4 @@
-use Rattle.std.proofs.Common.{◌≤◌, arith, ◌∙◌, refl}
-use Rattle.iobufs.specs.Inside.Pieces.{bytes_behind, piece_at, view_len}
-use Rattle.iobufs.specs.declared.bufs.search.Located.{Located}
-use Rattle.iobufs.proofs.Text.EqualLaws.{found-same, of_texts}
-use Rattle.iobufs.proofs.Text.TextLaws.{bytes-kept, length-kept}
+use Rattle.iobufs.proofs.Text.{Located, arith, bytes-kept, bytes_behind, found-same, length-kept, of_texts, piece_at, refl, view_len, ◌∙◌, ◌≤◌}
 use Rattle.iobufs.proofs.bufs.IoBufs.eq_bytes.Goals as goal
 
 pub matched-requires-clause-inside : goal.matched-requires-clause-inside

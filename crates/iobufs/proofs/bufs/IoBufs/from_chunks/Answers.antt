@@ -1,9 +1,4 @@
-use Rattle.std.proofs.Common.{◌<◌, ◌^◌, length, refl, subst}
-use Rattle.std.proofs.lemmas.Bool.{false≢true}
-use Rattle.std.proofs.Math.Nat.{pos_of_ne-zero}
-use Rattle.std.proofs.lemmas.Result.{err_from_is_err_and}
-use Rattle.iobufs_core.specs.MarkedText.{MarkedText, text_len}
-use Rattle.iobufs.proofs.Text.RunLaws.{run_to_end, run_to_item, joined-more, fits-more, refused-at}
+use Rattle.iobufs.proofs.Text.{MarkedText, ap, err_from_is_err_and, false≢true, fits-more, joined-push, length, pos_of_ne-zero, refl, refused-at, run_to_end, run_to_item, subst, sym, text_append, text_len, ◌<◌, ◌^◌, ◌∙◌}
 use Rattle.iobufs.proofs.bufs.IoBufs.from_chunks.Goals as goal
 
 pub loop-chunk-preserved : goal.loop-chunk-preserved
@@ -11,7 +6,7 @@ loop-chunk-preserved g c =
     let l = c.loop-chunk in
     let added = c.in_ok-append.ensures.done in
     record {
-      so_far = joined-more l.yielded c.in-Some.chunk l.text _ l.invariant.so_far added;
+      so_far = added ∙ ap (λ (x : MarkedText). text_append x c.in-Some.chunk) l.invariant.so_far ∙ sym (joined-push l.yielded c.in-Some.chunk);
       fits = fits-more l.text _ c.in-Some.chunk added c.in_ok-append.ensures.too_long;
     }
 

@@ -1,5 +1,4 @@
-use Rattle.std.proofs.Common.{◌≡◌, ◌<◌, ◌^◌}
-use Rattle.iobufs_core.specs.MarkedText.{joined, text_len}
+use Rattle.iobufs.proofs.Text.{joined, text_len, ◌<◌, ◌^◌, ◌≡◌}
 use Rattle.iobufs.proofs.bufs.IoBufs.from_chunks.Given as goal
 
 abbrev pub invariant-loop-chunk : goal.invariant-loop-chunk

@@ -1,11 +1,4 @@
-use Rattle.std.proofs.Common.{◌≡◌, ◌-◌, ap, ◌∙◌, sym, arith, length, take_all}
-use Rattle.iobufs_core.proofs.LayoutLaws.{good_layout}
-use Rattle.iobufs_core.specs.MarkedText.{of_view}
-use Rattle.iobufs_core.specs.Part.{Part, part_frozen, part_put}
-use Rattle.iobufs.specs.Inside.Pieces.{pieces_bytes}
-use Rattle.iobufs.proofs.Text.CopyLaws.{only-cause}
-use Rattle.iobufs.proofs.Text.TextLaws.{length-kept}
-use Rattle.iobufs.proofs.Text.ReadLaws.{coalesced-copy, several-len, as_text}
+use Rattle.iobufs.proofs.Text.{Part, ap, arith, as_text, coalesced-copy, good_layout, length, length-kept, of_view, only-cause, part_frozen, part_put, pieces_bytes, several-len, sym, take_all, ◌-◌, ◌∙◌, ◌≡◌}
 use Rattle.iobufs.proofs.bufs.IoBufs.gathered.Goals as goal
 
 pub returns-in_err-copy-clause-memory : goal.returns-in_err-copy-clause-memory
@@ -14,8 +7,7 @@ returns-in_err-copy-clause-memory c = λ l. only-cause c.from_residual.result _ 
 
 pub copy_to-requires : goal.copy_to-requires
 copy_to-requires c =
-    let n = length-kept c.self.inside _ c.self.view_is in
-    omega (arith, ap (λ (p : Part). p.spare) c.in_ok-copy.ensures.ok, c.len.ensures.value)
+    omega (arith, length-kept c.self.inside _ c.self.view_is, ap (λ (p : Part). p.spare) c.in_ok-copy.ensures.ok, c.len.ensures.value)
 
 pub returns-clause-ok : goal.returns-clause-ok
 returns-clause-ok c =

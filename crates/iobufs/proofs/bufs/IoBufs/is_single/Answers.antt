@@ -1,5 +1,4 @@
-use Rattle.std.proofs.Common.{sym, ap, ◌∙◌, nat_eq}
-use Rattle.iobufs.proofs.Text.TextLaws.{single-kept}
+use Rattle.iobufs.proofs.Text.{ap, nat_eq, single-kept, sym, ◌∙◌}
 use Rattle.iobufs.proofs.bufs.IoBufs.is_single.Goals as goal
 
 pub returns : goal.returns

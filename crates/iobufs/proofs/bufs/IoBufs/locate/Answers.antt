@@ -1,7 +1,4 @@
-use Rattle.std.proofs.Common.{arith}
-use Rattle.iobufs.proofs.Text.Halves.{few_digits}
-use Rattle.iobufs.proofs.Text.LocateLaws.{index-located, offset-located}
-use Rattle.iobufs.proofs.Text.TextLaws.{count-pieces, length-kept}
+use Rattle.iobufs.proofs.Text.{arith, count-pieces, few_digits, index-located, length-kept, offset-located}
 use Rattle.iobufs.proofs.bufs.IoBufs.locate.Goals as goal
 
 pub locate-requires : goal.locate-requires

@@ -1,7 +1,4 @@
-use Rattle.std.proofs.Common.{ap, ◌∙◌, arith, drop, take}
-use Rattle.iobufs.proofs.Text.CopyLaws.{from-place}
-use Rattle.iobufs.proofs.Text.ReadLaws.{rest-length}
-use Rattle.iobufs.proofs.Text.TextLaws.{bytes-kept, length-kept}
+use Rattle.iobufs.proofs.Text.{ap, arith, bytes-kept, drop, from-place, length-kept, rest-length, take, ◌∙◌}
 use Rattle.iobufs.proofs.bufs.IoBufs.peek_behind.Goals as goal
 
 pub locate-place-requires : goal.locate-place-requires

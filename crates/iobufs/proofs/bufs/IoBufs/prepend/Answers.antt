@@ -1,9 +1,4 @@
-use Rattle.std.proofs.Common.{◌≡◌, ap, sym, ◌∙◌, arith}
-use Rattle.iobufs.specs.Inside.Pieces.{of_pieces}
-use Rattle.iobufs.specs.Inside.Several.{views}
-use Rattle.iobufs.specs.declared.bufs.IoBufs.TheInside.{Inside}
-use Rattle.iobufs.proofs.Text.RoomLaws.{ahead-row, length-row}
-use Rattle.iobufs.proofs.Text.SeveralLaws.{pieced-as}
+use Rattle.iobufs.proofs.Text.{Inside, ahead-row, ap, arith, length-row, of_pieces, pieced-as, sym, views, ◌∙◌, ◌≡◌}
 use Rattle.iobufs.proofs.bufs.IoBufs.prepend.Goals as goal
 
 pub returns-then-has_room-clause-done : goal.returns-then-has_room-clause-done

@@ -1,10 +1,8 @@
-use Rattle.std.proofs.Common.{ap, ◌∙◌, arith}
-use Rattle.iobufs.specs.Inside.Pieces.{of_pieces}
-use Rattle.iobufs.proofs.Text.TextLaws.{length-kept, prepend-pieces, views-cons}
+use Rattle.iobufs.proofs.Text.{AreViews, ap, arith, length-kept, of_pieces, prepend-pieces, subst, sym, ◌∙◌}
 use Rattle.iobufs.proofs.bufs.IoBufs.prepend_any.Goals as goal
 
 pub invariant_of-self-2 : goal.invariant_of-self-2
-invariant_of-self-2 c = views-cons _ _ c.args.piece c.in_default.ensures.done c.self.invariant c.len-ahead.ensures.room
+invariant_of-self-2 c = subst AreViews (sym c.in_default.ensures.done) (c.len-ahead.ensures.room, c.self.invariant)
 
 pub returns-clause-done : goal.returns-clause-done
 returns-clause-done c = ap of_pieces c.in_default.ensures.done ∙ prepend-pieces _ _ _ c.self.view_is (omega arith) (omega arith)

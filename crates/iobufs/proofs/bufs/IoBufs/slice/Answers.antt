@@ -1,11 +1,4 @@
-use Rattle.std.proofs.Common.{◌≡◌, ◌+◌, ◌-◌, ◌<◌, ◌≤◌, ◌∙◌, arith, ap, inl, length, refl, sym, ⊎_elim}
-use Rattle.std.proofs.lemmas.Bool.{cases_lt, false≢true}
-use Rattle.iobufs_core.specs.MarkedText.{MarkedText, text_len, text_rest, text_split_front}
-use Rattle.iobufs.specs.Inside.Pieces.{of_pieces, piece_at, pieces_bytes, view_len}
-use Rattle.iobufs.proofs.Text.PieceLaws.{len-of_pieces}
-use Rattle.iobufs.proofs.Text.SliceLaws.{cut-run, front-all, full-between, held-between, views-run, places-meet, places-rise, rest-len, static-run}
-use Rattle.iobufs.proofs.Text.StaticLaws.{across-native, static-within}
-use Rattle.iobufs.proofs.Text.TextLaws.{length-kept}
+use Rattle.iobufs.proofs.Text.{AreFull, AreViews, IsChunkPlace, List, MarkedText, View, across-native, ap, arith, by_lt, cut-run, false≢true, full-behind, full-run, held-between, inl, len-of_pieces, length, length-kept, of_pieces, piece_at, pieces_bytes, places-meet, places-rise, refl, rest-len, roomy-behind, roomy-run, split_front-all, static-run, static-within, static_mark, subst, sym, taken_view, text_len, text_rest, text_split_front, view_len, ℕ, ◌+◌, ◌-◌, ◌<◌, ◌∙◌, ◌≡◌, ◌≤◌}
 use Rattle.iobufs.proofs.bufs.IoBufs.slice.Goals as goal
 
 pub locate-first-requires : goal.locate-first-requires
@@ -16,87 +9,64 @@ locate-last-requires c = omega (arith, c.requires.order, c.requires.inside, c.if
 
 pub overflow_sub-behind : goal.overflow_sub-behind
 overflow_sub-behind c =
-    let full = c.locate-first.ensures.full in
-    places-rise _ _ _ _ _ _ _ full c.locate-first.ensures.place c.locate-last.ensures.place (omega (arith, c.requires.order, c.if-start-end.false))
+    places-rise _ _ _ _ _ _ _ c.locate-first.ensures.full c.locate-first.ensures.place c.locate-last.ensures.place
+    (omega (arith, c.requires.order, c.if-start-end.false))
 
 pub invariant_of-text : goal.invariant_of-text
-invariant_of-text c =
-    views-run c.self.inside.pieces c.in_ok-pieces.pieces c.locate-first.result.index _ c.self.invariant c.in_ok-pieces.ensures.run
+invariant_of-text c = subst AreViews (sym c.in_ok-pieces.ensures.run) (roomy-run _ _ (roomy-behind c.locate-first.result.index _ c.self.invariant))
 
 pub drop_front-requires : goal.drop_front-requires
 drop_front-requires c =
-    let full = c.locate-first.ensures.full in
-    let l : c.args.range.start ≤ c.args.range.end - 1 = omega (arith, c.requires.order, c.if-start-end.false) in
-    let first = c.locate-first.ensures.place in
-    let last = c.locate-last.ensures.place in
-    let held = held-between _ _ _ _ _ _ _ _ first last (places-rise _ _ _ _ _ _ _ full first last l) l c.in_ok-pieces.ensures.run in
+    let held = held-between _ _ _ _ _ _ _ _ c.locate-first.ensures.full c.locate-first.ensures.place c.locate-last.ensures.place
+    (omega (arith, c.requires.order, c.if-start-end.false)) c.in_ok-pieces.ensures.run in
     omega (arith, held, len-of_pieces c.in_ok-pieces.pieces)
 
 pub returns-clause-ok : goal.returns-clause-ok
 returns-clause-ok c =
     let from = c.args.range.start in
     let n = c.args.range.end - from in
-    let s = c.self.inside in
     let run = c.in_ok-pieces.pieces in
+    let is = c.in_ok-pieces.ensures.run in
     let o = c.locate-first.result.offset in
     let full = c.locate-first.ensures.full in
-    let l : from ≤ c.args.range.end - 1 = omega (arith, c.requires.order, c.if-start-end.false) in
-    let first = c.locate-first.ensures.place in
-    let last = c.locate-last.ensures.place in
-    let held = held-between _ _ _ _ _ _ _ _ first last (places-rise _ _ _ _ _ _ _ full first last l) l c.in_ok-pieces.ensures.run in
+    let held = held-between _ _ _ _ _ _ _ _ full c.locate-first.ensures.place c.locate-last.ensures.place
+    (omega (arith, c.requires.order, c.if-start-end.false)) is in
     let some : 0 < n = omega (arith, c.requires.order, c.if-start-end.false) in
     let cut : text_split_front (text_rest (of_pieces run) o) n ≡ text_split_front (text_rest c.args.self.now from) n =
-    cut-run s.pieces run _ _ from n _ o _ c.self.view_is refl full (full-between _ _ _ _ full c.in_ok-pieces.ensures.run)
-    c.in_ok-pieces.ensures.run first some
-    (omega (arith, c.requires.order, c.requires.inside, length-kept s _ c.self.view_is)) (omega (arith, held, some)) in
+    cut-run c.self.inside.pieces run _ _ from n _ o _ c.self.view_is refl full (subst AreFull (sym is) (full-run _ _ (full-behind _ _ full)))
+    is c.locate-first.ensures.place some
+    (omega (arith, c.requires.order, c.requires.inside, length-kept c.self.inside _ c.self.view_is)) (omega (arith, held, some)) in
     let same = ap (λ (t : MarkedText). text_len t) c.drop_front.ensures in
     let len = rest-len (of_pieces run) o (omega (arith, held, len-of_pieces run)) in
-    ⊎_elim
-    (λ (h : n < text_len c.drop_front.new.self). c.in_ok-truncate.ensures.kept h ∙ ap (λ (t : MarkedText). text_split_front t n) c.drop_front.ensures ∙ cut)
-    (λ (h : text_len c.drop_front.new.self ≤ n). (c.truncate.ensures.longer h).0 ∙ c.drop_front.ensures
-    ∙ sym (front-all (text_rest (of_pieces run) o) n some (omega (arith, same, len, held, h, len-of_pieces run))) ∙ cut)
-    (cases_lt n (text_len c.drop_front.new.self))
+    by_lt n (text_len c.drop_front.new.self) (λ h. c.in_ok-truncate.ensures.kept h ∙ ap (λ (t : MarkedText). text_split_front t n) c.drop_front.ensures ∙ cut)
+    (λ h. (c.truncate.ensures.longer h).0 ∙ c.drop_front.ensures
+    ∙ sym (split_front-all (text_rest (of_pieces run) o) n some (omega (arith, same, len, held, h, len-of_pieces run))) ∙ cut)
+
+-- a range that is static lies in one piece, which is static
+static-range : (vs : List View) (t : MarkedText) (from to i j o p : ℕ) → of_pieces vs ≡ t → AreFull vs → IsChunkPlace vs from i o → IsChunkPlace vs (to - 1) j p
+    → from < to → to ≤ length (pieces_bytes vs) → (taken_view t from (to - from)).mark ≡ static_mark
+    → ((piece_at vs i).mark ≡ static_mark) × (o + (to - from) ≤ view_len (piece_at vs i)) × (j - i ≡ 0)
+static-range vs t from to i j o p e full first last l inside static =
+    by_lt (view_len (piece_at vs i) - o) (to - from) (λ h. absurd (across-native vs t from (to - from) i o e first (omega arith) h static))
+    (λ h. let within : o + (to - from) ≤ view_len (piece_at vs i) = omega (arith, h, first.inside) in (
+      static-within vs t from (to - from) i o e first (omega arith) (omega arith) h static,
+      within,
+      places-meet vs from (to - 1) i j o p full first last (omega arith) (omega (arith, within)),
+    ))
 
 pub returns-in_err-pieces-clause-static_text : goal.returns-in_err-pieces-clause-static_text
 returns-in_err-pieces-clause-static_text c = λ static.
-    let from = c.args.range.start in
-    let n = c.args.range.end - from in
-    let s = c.self.inside in
-    let vs = s.pieces in
-    let i = c.locate-first.result.index in
-    let o = c.locate-first.result.offset in
-    let first = c.locate-first.ensures.place in
-    let len = length-kept s _ c.self.view_is in
-    let full = c.locate-first.ensures.full in
-    let some : 0 < n = omega (arith, c.requires.order, c.if-start-end.false) in
-    let l : from ≤ c.args.range.end - 1 = omega (arith, c.requires.order, c.if-start-end.false) in
-    let inside : from + n ≤ length (pieces_bytes vs) = omega (arith, c.requires.order, c.requires.inside, len) in
-    ⊎_elim
-    (λ (h : view_len (piece_at vs i) - o < n). absurd (across-native vs _ from n i o c.self.view_is first inside h static))
-    (λ (h : n ≤ view_len (piece_at vs i) - o). let piece = static-within vs _ from n i o c.self.view_is first (omega (arith, inside, some)) some h static in
-    let alone = places-meet vs _ _ _ _ _ _ full first c.locate-last.ensures.place l (omega (arith, h, some, first.inside)) in
-    absurd (false≢true (c.in_err-pieces.ensures.free alone (inl piece))))
-    (cases_lt (view_len (piece_at vs i) - o) n)
+    let (piece, inside, alone) = static-range _ _ c.args.range.start c.args.range.end _ _ _ _ c.self.view_is c.locate-first.ensures.full
+    c.locate-first.ensures.place c.locate-last.ensures.place (omega (arith, c.requires.order, c.if-start-end.false))
+    (omega (arith, c.requires.inside, length-kept c.self.inside _ c.self.view_is)) static in
+    absurd (false≢true (c.in_err-pieces.ensures.free alone (inl piece)))
 
 pub returns-in_err-truncate-clause-static_text : goal.returns-in_err-truncate-clause-static_text
 returns-in_err-truncate-clause-static_text c = λ static.
-    let from = c.args.range.start in
-    let n = c.args.range.end - from in
-    let s = c.self.inside in
-    let vs = s.pieces in
-    let i = c.locate-first.result.index in
-    let o = c.locate-first.result.offset in
     let first = c.locate-first.ensures.place in
-    let len = length-kept s _ c.self.view_is in
     let full = c.locate-first.ensures.full in
-    let some : 0 < n = omega (arith, c.requires.order, c.if-start-end.false) in
-    let l : from ≤ c.args.range.end - 1 = omega (arith, c.requires.order, c.if-start-end.false) in
-    let inside : from + n ≤ length (pieces_bytes vs) = omega (arith, c.requires.order, c.requires.inside, len) in
-    ⊎_elim
-    (λ (h : view_len (piece_at vs i) - o < n). absurd (across-native vs _ from n i o c.self.view_is first inside h static))
-    (λ (h : n ≤ view_len (piece_at vs i) - o). let piece = static-within vs _ from n i o c.self.view_is first (omega (arith, inside, some)) some h static in
-    let alone = places-meet vs _ _ _ _ _ _ full first c.locate-last.ensures.place l (omega (arith, h, some, first.inside)) in
-    let left = static-run vs _ c.drop_front.new.self from n i o _ full first c.in_ok-pieces.ensures.run alone some (omega (arith, h, some, first.inside)) piece
-    c.drop_front.ensures in
-    absurd (false≢true (c.in_err-truncate.ensures.static_text left.0 left.1)))
-    (cases_lt (view_len (piece_at vs i) - o) n)
+    let (piece, inside, alone) = static-range _ _ c.args.range.start c.args.range.end _ _ _ _ c.self.view_is full first c.locate-last.ensures.place
+    (omega (arith, c.requires.order, c.if-start-end.false)) (omega (arith, c.requires.inside, length-kept c.self.inside _ c.self.view_is)) static in
+    let left = static-run _ _ c.drop_front.new.self c.args.range.start (c.args.range.end - c.args.range.start) _ _ _ full first
+    c.in_ok-pieces.ensures.run alone (omega (arith, c.requires.order, c.if-start-end.false)) inside piece c.drop_front.ensures in
+    absurd (false≢true (c.in_err-truncate.ensures.static_text left.0 left.1))

@@ -1,8 +1,4 @@
-use Rattle.std.proofs.Common.{ap, length, subst, sym, ◌∙◌}
-use Rattle.std.proofs.lemmas.Bool.{false≢true}
-use Rattle.iobufs_core.specs.View.{View}
-use Rattle.iobufs_core.specs.MarkedText.{taken_view}
-use Rattle.iobufs.proofs.Text.TakenLaws.{taken_view-none}
+use Rattle.iobufs.proofs.Text.{View, ap, false≢true, length, subst, sym, taken_view, taken_view-none, ◌∙◌}
 use Rattle.iobufs.proofs.bufs.IoBufs.take_behind.Goals as goal
 
 pub returns-in_err-made-clause-nothing : goal.returns-in_err-made-clause-nothing

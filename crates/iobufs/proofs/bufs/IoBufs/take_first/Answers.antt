@@ -1,11 +1,8 @@
-use Rattle.std.proofs.Common.{arith, sym, subst, ap, ◌∙◌, length}
-use Rattle.std.proofs.lemmas.Bool.{false≢true}
-use Rattle.iobufs.proofs.Text.ReadLaws.{first-kept, first-rest, first-whole, views-behind, length-behind}
-use Rattle.iobufs.proofs.Text.TextLaws.{length-kept, full-kept}
+use Rattle.iobufs.proofs.Text.{AreViews, AreViews-behind, ap, arith, false≢true, first-kept, first-rest, first-whole, full-kept, length, length-behind, length-kept, subst, sym, ◌∙◌}
 use Rattle.iobufs.proofs.bufs.IoBufs.take_first.Goals as goal
 
 pub invariant_of-self-2 : goal.invariant_of-self-2
-invariant_of-self-2 g c = views-behind _ _ c.in_ok-made.ensures.left c.self.invariant
+invariant_of-self-2 g c = subst AreViews (sym c.in_ok-made.ensures.left) (AreViews-behind _ c.self.invariant)
 
 pub returns-clause-ok : goal.returns-clause-ok
 returns-clause-ok g c =

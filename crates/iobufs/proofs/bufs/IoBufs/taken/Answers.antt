@@ -1,14 +1,4 @@
-use Rattle.std.proofs.Common.{◌+◌, ◌^◌, ◌<◌, Ok, Err, Result, sym, ap, ◌∙◌, arith, length, refl}
-use Rattle.std.specs.Result.{OnOk}
-use Rattle.std.specs.declared.ops.Bound.TheVariants.{Included, Excluded}
-use Rattle.iobufs_core.specs.View.{View, view_slice}
-use Rattle.iobufs_core.specs.MarkedText.{taken_view}
-use Rattle.iobufs.specs.Inside.Pieces.{piece_at, view_len}
-use Rattle.iobufs.proofs.Text.PlaceLaws.{bytes-fit}
-use Rattle.iobufs.proofs.Text.ReadLaws.{taken-within, taken-across, rest-length, as_view}
-use Rattle.iobufs.proofs.Text.StaticLaws.{static-within, across-native}
-use Rattle.iobufs.proofs.Text.TakenLaws.{taken_view-none}
-use Rattle.iobufs.proofs.Text.TextLaws.{length-kept}
+use Rattle.iobufs.proofs.Text.{Err, Excluded, Included, Ok, OnOk, Result, View, across-native, ap, arith, as_view, bytes-fit, length, length-kept, refl, rest-length, static-within, sym, taken-across, taken-within, taken_view, taken_view-none, view_slice, ◌+◌, ◌∙◌}
 use Rattle.iobufs.proofs.bufs.IoBufs.taken.Goals as goal
 
 pub returns-then-n-eq0-clause-ok : goal.returns-then-n-eq0-clause-ok
@@ -35,17 +25,15 @@ copied-requires-clause-inside c =
 pub returns-in-Ok-clause-ok : goal.returns-in-Ok-clause-ok
 returns-in-Ok-clause-ok c =
     let n = length-kept c.self.inside _ c.self.view_is in
-    let across = taken-across _ c.args.self.now c.args.skip c.args.n _ _ _ c.self.view_is c.locate-place.ensures.place
-    (omega (arith, c.requires, c.if-n-eq0.false)) (omega (arith, ap (λ (v : View). length v.bytes) c.piece-piece.ensures)) refl in
-    c.in-Ok.ensures.ok ∙ across
+    c.in-Ok.ensures.ok ∙ taken-across _ c.args.self.now c.args.skip c.args.n _ _ _ c.self.view_is c.locate-place.ensures.place
+    (omega (arith, c.requires, c.if-n-eq0.false)) (omega (arith, ap (λ (v : View). length v.bytes) c.piece-piece.ensures)) refl
 
 pub returns-then-n-len-clause-static_text : goal.returns-then-n-len-clause-static_text
 returns-then-n-len-clause-static_text c = λ static.
     let n = length-kept c.self.inside _ c.self.view_is in
-    let o = c.locate-place.result.offset in
-    let piece = static-within _ c.args.self.now c.args.skip c.args.n _ o c.self.view_is c.locate-place.ensures.place
-    (omega (arith, c.requires, c.if-n-eq0.false)) (omega arith) (omega (arith, ap (λ (v : View). length v.bytes) c.piece-piece.ensures)) static in
-    c.slice.ensures.static_text (ap (λ (v : View). v.mark) c.piece-piece.ensures ∙ piece)
+    c.slice.ensures.static_text (ap (λ (v : View). v.mark) c.piece-piece.ensures
+    ∙ static-within _ c.args.self.now c.args.skip c.args.n _ c.locate-place.result.offset c.self.view_is c.locate-place.ensures.place
+    (omega (arith, c.requires, c.if-n-eq0.false)) (omega arith) (omega (arith, ap (λ (v : View). length v.bytes) c.piece-piece.ensures)) static)
 
 pub returns-in-Err-clause-static_text : goal.returns-in-Err-clause-static_text
 returns-in-Err-clause-static_text c = λ static.
@@ -57,20 +45,14 @@ whichever : {P E : Type 0} (result : Result View E) → P → OnOk result P
 whichever (Ok view) true_anyway = true_anyway
 whichever (Err cause) true_anyway = tt
 
--- a number holds where the bytes that are taken end
 pub returns-then-n-len-clause-fits : goal.returns-then-n-len-clause-fits
 returns-then-n-len-clause-fits c =
-    let n = length-kept c.self.inside _ c.self.view_is in
-    let here : view_len (piece_at c.self.inside.pieces c.locate-place.result.index) < 2 ^ 64 =
-    omega (arith, ap (λ (v : View). length v.bytes) c.piece-piece.ensures) in
-    let all = bytes-fit _ _ _ _ c.locate-place.ensures.place here c.locate-place.ensures.fits in
-    let fits : c.args.skip + c.args.n < 2 ^ 64 = omega (arith, c.requires) in
-    whichever c.slice.result fits
+    let place = c.locate-place.ensures in
+    let all = bytes-fit _ _ _ _ place.place (omega (arith, ap (λ (v : View). length v.bytes) c.piece-piece.ensures)) place.fits in
+    whichever c.slice.result (omega (arith, c.requires, length-kept c.self.inside _ c.self.view_is))
 
 pub returns-in-Ok-clause-fits : goal.returns-in-Ok-clause-fits
 returns-in-Ok-clause-fits c =
-    let n = length-kept c.self.inside _ c.self.view_is in
-    let here : view_len (piece_at c.self.inside.pieces c.locate-place.result.index) < 2 ^ 64 =
-    omega (arith, ap (λ (v : View). length v.bytes) c.piece-piece.ensures) in
-    let all = bytes-fit _ _ _ _ c.locate-place.ensures.place here c.locate-place.ensures.fits in
-    omega (arith, c.requires)
+    let place = c.locate-place.ensures in
+    let all = bytes-fit _ _ _ _ place.place (omega (arith, ap (λ (v : View). length v.bytes) c.piece-piece.ensures)) place.fits in
+    omega (arith, c.requires, length-kept c.self.inside _ c.self.view_is)

@@ -1,11 +1,9 @@
-use Rattle.std.proofs.Common.{arith, ap, ◌∙◌, take, take_all}
-use Rattle.iobufs.proofs.Text.TextLaws.{length-kept, bytes-kept}
+use Rattle.iobufs.proofs.Text.{ap, arith, bytes-kept, length-kept, take, take_all, ◌∙◌}
 use Rattle.iobufs.proofs.bufs.IoBufs.to_vec.Goals as goal
 
 pub copy_front-requires : goal.copy_front-requires
 copy_front-requires c =
-    let n = length-kept c.self.inside _ c.self.view_is in
-    omega (arith, c.len-len.ensures.value)
+    omega (arith, length-kept c.self.inside _ c.self.view_is, c.len-len.ensures.value)
 
 pub returns-clause-ok : goal.returns-clause-ok
 returns-clause-ok c =

@@ -1,19 +1,9 @@
-use Rattle.std.proofs.Common.{◌≡◌, ◌<◌, List, [], ◌∷◌, length, refl, ap, arith, sym, ◌∙◌}
-use Rattle.iobufs_core.specs.MarkedText.{MarkedText, text_advanced, text_rest}
-use Rattle.iobufs_core.specs.View.{View}
-use Rattle.iobufs.specs.Inside.Pieces.{of_pieces, pieces_bytes}
-use Rattle.iobufs.specs.Inside.Several.{views}
-use Rattle.iobufs.specs.declared.bufs.IoBufs.TheInside.{Inside}
-use Rattle.iobufs.specs.Inside.Kept.{text_of}
-use Rattle.iobufs.proofs.Text.PieceLaws.{length-bytes}
-use Rattle.iobufs.proofs.Text.SeveralLaws.{pieced-as}
-use Rattle.iobufs.proofs.Text.TextLaws.{advanced-one, length-kept, single-more}
+use Rattle.iobufs.proofs.Text.{Inside, List, MarkedText, View, [], advanced-one, ap, arith, length, length-bytes, length-kept, of_pieces, pieced-as, pieces_bytes, refl, single-more, sym, text_advanced, text_of, text_rest, views, ◌<◌, ◌∙◌, ◌∷◌, ◌≡◌}
 use Rattle.iobufs.proofs.bufs.IoBufsBuf.advance.Goals as goal
 
 pub advance-requires : goal.advance-requires
 advance-requires c =
-    let seen : c.in-One.piece ∷ [] ≡ c.self.inside.pieces = ap views (sym c.in-One.is) ∙ ap (λ (s : Inside). s.pieces) c.self-inside.view_is in
-    let one = ap (λ (vs : List View). length (pieces_bytes vs)) seen in
+    let one = ap (λ (vs : List View). length (pieces_bytes vs)) (ap views (sym c.in-One.is) ∙ ap (λ (s : Inside). s.pieces) c.self-inside.view_is) in
     omega (arith, c.requires, one, length-kept c.self.inside _ c.self.view_is, length-bytes c.in-One.piece [])
 
 pub returns-in-One : goal.returns-in-One
@@ -30,6 +20,5 @@ returns c =
     let row = c.in_default.field-0 in
     let seen : row.views ≡ c.self.inside.pieces = ap views (sym c.in_default.is) ∙ ap (λ (s : Inside). s.pieces) c.self-inside.view_is in
     let several : 1 < length row.views = (pieced-as c.in_default.is c.self-inside.invariant).0 in
-    let more = single-more row.views text (ap of_pieces seen ∙ c.self.view_is) several in
-    let rest : text_rest text c.args.n ≡ text_advanced text c.args.n = rw more refl in
+    let rest : text_rest text c.args.n ≡ text_advanced text c.args.n = rw (single-more row.views text (ap of_pieces seen ∙ c.self.view_is) several) refl in
     c.drop_front.ensures ∙ ap (λ (t : MarkedText). text_rest t c.args.n) (ap text_of c.self-inside.view_is ∙ c.self.view_is) ∙ rest

@@ -1,6 +1,4 @@
-use Rattle.std.proofs.Common.{ap, ◌∙◌}
-use Rattle.iobufs_core.specs.View.{View}
-use Rattle.iobufs.proofs.Text.ReadLaws.{first-kept, front-chunk}
+use Rattle.iobufs.proofs.Text.{View, ap, first-kept, front-chunk, ◌∙◌}
 use Rattle.iobufs.proofs.bufs.IoBufsBuf.chunk.Goals as goal
 
 pub returns-clause-first : goal.returns-clause-first

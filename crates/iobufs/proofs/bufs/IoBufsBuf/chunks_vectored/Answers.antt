@@ -1,12 +1,9 @@
-use Rattle.std.proofs.Common.{sym, ap, ◌∙◌, arith, take}
-use Rattle.iobufs.proofs.Text.ReadLaws.{none-shown}
-use Rattle.iobufs.proofs.Text.TextLaws.{chunks-kept, length-kept, full-kept, some_views}
+use Rattle.iobufs.proofs.Text.{ap, arith, chunks-kept, full-kept, length-kept, none-shown, some_views, sym, take, ◌∙◌}
 use Rattle.iobufs.proofs.bufs.IoBufsBuf.chunks_vectored.Goals as goal
 
 pub returns-clause-ok : goal.returns-clause-ok
 returns-clause-ok c =
-    let n = length-kept c.self.inside _ c.self.view_is in
-    let full = full-kept c.self.inside _ c.self.view_is c.in_ok-chunks.ensures.pieces (omega arith) in
+    let full = full-kept c.self.inside _ c.self.view_is c.in_ok-chunks.ensures.pieces (omega (arith, length-kept c.self.inside _ c.self.view_is)) in
     c.in_ok-chunks.ensures.ok ∙ ap (take c.args.max) (sym (chunks-kept _ _ c.self.view_is (some_views _ c.in_ok-chunks.ensures.pieces) full))
 
 pub returns-then-len-eq0-clause-ok : goal.returns-then-len-eq0-clause-ok

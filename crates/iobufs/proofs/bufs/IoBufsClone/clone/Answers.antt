@@ -1,7 +1,4 @@
-use Rattle.std.proofs.Common.{subst}
-use Rattle.std.proofs.lemmas.Result.{err_from_is_err_and}
-use Rattle.iobufs_core.specs.View.{IsFreelyShared}
-use Rattle.iobufs.proofs.Text.ReadLaws.{only-view}
+use Rattle.iobufs.proofs.Text.{IsFreelyShared, err_from_is_err_and, only-view, subst}
 use Rattle.iobufs.proofs.bufs.IoBufsClone.clone.Goals as goal
 
 pub returns-in_err-pieces : goal.returns-in_err-pieces

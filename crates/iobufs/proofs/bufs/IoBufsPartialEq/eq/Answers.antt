@@ -1,15 +1,9 @@
-use Rattle.std.proofs.Common.{◌≡◌, ◌≤◌, ◌+◌, ◌++◌, List, ap, ◌∙◌, arith, drop, length, length-append, sym}
-use Rattle.std.proofs.lemmas.List.{drop_all}
-use Rattle.iobufs_core.specs.View.{View}
-use Rattle.iobufs.specs.Inside.Pieces.{pieces_bytes}
-use Rattle.iobufs.proofs.Text.CopyLaws.{bytes-from}
-use Rattle.iobufs.proofs.Text.EqualLaws.{differ-at, matched-lengths, matched-more, matched-none, of_texts, same-to_end}
-use Rattle.iobufs.proofs.Text.TextLaws.{bytes-kept, length-kept}
+use Rattle.iobufs.proofs.Text.{List, View, [], ap, arith, bytes-from, bytes-kept, differ-at, drop, drop_all, length, length-append, length-kept, matched-lengths, matched-more, of_texts, pieces_bytes, refl, same-to_end, sym, ◌++◌, ◌+◌, ◌∙◌, ◌≡◌, ◌≤◌}
 use Rattle.iobufs.proofs.bufs.IoBufsPartialEq.eq.Goals as goal
 
 pub loop-index-init : goal.loop-index-init
 loop-index-init c =
-    record { offset = omega arith; matched = matched-none (pieces_bytes c.other.inside.pieces) (pieces_bytes c.self.inside.pieces) }
+    record { offset = omega arith; matched = (record { done = []; compared = refl; stands = refl }) }
 
 pub matched-requires-clause-offset : goal.matched-requires-clause-offset
 matched-requires-clause-offset c = c.loop-index.invariant.offset
@@ -18,10 +12,9 @@ pub matched-requires-clause-inside : goal.matched-requires-clause-inside
 matched-requires-clause-inside c =
     let ours = c.self.inside.pieces in
     let i = c.loop-index.index in
-    let same = length-kept c.self.inside _ c.self.view_is in
     let others = length-kept c.other.inside _ c.other.view_is in
     let len : length (pieces_bytes ours) ≡ length (pieces_bytes c.other.inside.pieces) =
-    omega (arith, same, others, c.if-len.false, c.len.ensures.value, c.len-2.ensures.value) in
+    omega (arith, length-kept c.self.inside _ c.self.view_is, others, c.if-len.false, c.len.ensures.value, c.len-2.ensures.value) in
     let left = matched-lengths _ _ _ _ c.loop-index.invariant.matched len in
     let is = c.as_ref.ensures ∙ ap (λ (v : View). v.bytes) c.piece.ensures in
     let parts = bytes-from ours i 0 (omega arith) (omega arith) ∙ ap (λ xs. xs ++ pieces_bytes (drop (i + 1) ours)) (sym is) in
@@ -47,11 +40,9 @@ loop-index-preserved c =
 pub returns : goal.returns
 returns c =
     let ours = c.self.inside.pieces in
-    let same = length-kept c.self.inside _ c.self.view_is in
     let others = length-kept c.other.inside _ c.other.view_is in
     let len : length (pieces_bytes ours) ≡ length (pieces_bytes c.other.inside.pieces) =
-    omega (arith, same, others, c.if-len.false, c.len.ensures.value, c.len-2.ensures.value) in
+    omega (arith, length-kept c.self.inside _ c.self.view_is, others, c.if-len.false, c.len.ensures.value, c.len-2.ensures.value) in
     let last : length ours ≤ c.loop-index.index = omega (arith, c.loop-index-test.false, c.count-index-end.ensures) in
-    let none = ap (λ (ws : List View). pieces_bytes ws) (drop_all c.loop-index.index ours last) in
     of_texts _ _ _ _ _ (bytes-kept c.self.inside _ c.self.view_is) (bytes-kept c.other.inside _ c.other.view_is)
-    (same-to_end _ _ _ _ c.loop-index.invariant.matched len none)
+    (same-to_end _ _ _ _ c.loop-index.invariant.matched len (ap (λ (ws : List View). pieces_bytes ws) (drop_all c.loop-index.index ours last)))

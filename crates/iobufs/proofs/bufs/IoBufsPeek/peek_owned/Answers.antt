@@ -1,7 +1,4 @@
-use Rattle.std.proofs.Common.{ap, length, ◌∙◌}
-use Rattle.iobufs_core.specs.View.{View}
-use Rattle.iobufs_core.specs.MarkedText.{taken_view}
-use Rattle.iobufs.proofs.Text.TakenLaws.{taken_view-none}
+use Rattle.iobufs.proofs.Text.{View, ap, length, taken_view, taken_view-none, ◌∙◌}
 use Rattle.iobufs.proofs.bufs.IoBufsPeek.peek_owned.Goals as goal
 
 pub returns-clause-nothing : goal.returns-clause-nothing

@@ -1,4 +1,4 @@
-use Rattle.std.proofs.Common.{◌≡◌, ◌+◌, ◌++◌, take, drop, deque_len, deque_capacity}
+use Rattle.iobufs.proofs.Text.{deque_capacity, deque_len, drop, take, ◌++◌, ◌+◌, ◌≡◌}
 use Rattle.iobufs.proofs.bufs.row.move_front.Given as goal
 
 abbrev pub invariant-loop : goal.invariant-loop

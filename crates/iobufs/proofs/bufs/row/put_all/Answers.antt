@@ -1,8 +1,4 @@
-use Rattle.std.proofs.Common.{◌++◌, ap, ◌∙◌, arith, length, length-append}
-use Rattle.iobufs_core.specs.Part.{Part}
-use Rattle.iobufs.specs.Inside.Ends.{views_in}
-use Rattle.iobufs.specs.Inside.Pieces.{pieces_bytes}
-use Rattle.iobufs.proofs.Text.CopyLaws.{put-step, put-fits, next-piece}
+use Rattle.iobufs.proofs.Text.{Part, ap, arith, length, length-append, next-piece, pieces_bytes, put-fits, put-step, views_in, ◌++◌, ◌∙◌}
 use Rattle.iobufs.proofs.bufs.row.put_all.Goals as goal
 
 pub put_slice-requires : goal.put_slice-requires

@@ -1,6 +1,4 @@
-use Rattle.std.proofs.Common.{◌≡◌, ◌+◌, ◌++◌, length, drop}
-use Rattle.iobufs.specs.Inside.Ends.{views_in}
-use Rattle.iobufs.specs.Inside.Pieces.{pieces_bytes}
+use Rattle.iobufs.proofs.Text.{drop, length, pieces_bytes, views_in, ◌++◌, ◌+◌, ◌≡◌}
 use Rattle.iobufs.proofs.bufs.row.put_all.Given as goal
 
 -- the filled bytes and the chunks to come, in order, are the bytes filled before the loop and all chunks

@@ -1,10 +1,4 @@
-use Rattle.std.proofs.Common.{of_calls, ◌++◌, [], ◌∷◌, List, ℕ, map, take, refl, sym, ap, ◌∙◌, subst, arith}
-use Rattle.std.proofs.lemmas.Fn.{called_at}
-use Rattle.std.proofs.lemmas.List.{map_more, take_all}
-use Rattle.std.specs.Fn.{CalledAt}
-use Rattle.std.specs.List.{FoldsTo}
-use Rattle.iobufs.specs.declared.bufs.row.Piece.{Piece}
-use Rattle.iobufs.proofs.Text.VisitLaws.{one_more}
+use Rattle.iobufs.proofs.Text.{CalledAt, FoldsTo, List, Piece, [], ap, arith, called_at, folds-on, map, map_more, of_calls, refl, subst, sym, take, take_all, ℕ, ◌++◌, ◌∙◌, ◌∷◌}
 use Rattle.iobufs.proofs.bufs.row.show.Goals as goal
 
 pub loop-piece-init : goal.loop-piece-init
@@ -15,10 +9,9 @@ loop-piece-preserved g c =
     let R : g.row.F.Denot → List ℕ → g.row.F.Denot → Type 0 = λ before chunk after. CalledAt g.F.FnMut before chunk tt after in
     let l = c.loop-piece in
     let bytes : Piece → List ℕ = λ (p : Piece). p.view.bytes in
-    let item = c.piece-item.result in
-    let more = map_more bytes c.args.pieces.now l.piece-index item c.loop-piece-test.true in
+    let more = map_more bytes c.args.pieces.now l.piece-index c.piece-item.result c.loop-piece-test.true in
     let turn = ap (λ (y : List ℕ). map bytes (take l.piece-index c.args.pieces.now) ++ y ∷ []) (c.as_ref.ensures ∙ ap bytes c.piece-item.is) in
-    let on = one_more R _ (map bytes (take l.piece-index c.args.pieces.now)) _ c.as_ref.result.now _ l.invariant.1 (called_at g.F.FnMut c.visit.ensures refl) in
+    let on = folds-on R _ (map bytes (take l.piece-index c.args.pieces.now)) _ c.as_ref.result.now _ l.invariant.1 (called_at g.F.FnMut c.visit.ensures refl) in
     (search of_calls, subst (λ xs. FoldsTo R c.args.visit xs c.visit.new.self) (turn ∙ sym more) on)
 
 pub returns-clause-callable : goal.returns-clause-callable

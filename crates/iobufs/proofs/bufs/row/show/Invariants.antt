@@ -1,8 +1,4 @@
-use Rattle.std.proofs.Common.{map, take}
-use denote.Param.Always.{always_mut}
-use Rattle.std.specs.Fn.{CalledAt}
-use Rattle.std.specs.List.{FoldsTo}
-use Rattle.iobufs.specs.declared.bufs.row.Piece.{Piece}
+use Rattle.iobufs.proofs.Text.{CalledAt, FoldsTo, Piece, always_mut, map, take}
 use Rattle.iobufs.proofs.bufs.row.show.Given as goal
 
 -- the closure was called on the pieces so far

@@ -1,22 +1,15 @@
-use Rattle.std.proofs.Common.{◌≡◌, ℕ, ◌+◌, ◌-◌, ◌*◌, ◌^◌, ◌<◌, ◌≤◌, ◌∙◌, List, length, get_or, arith, ⊎_elim, ap, sym, ◌/◌, subst}
-use Rattle.std.proofs.lemmas.Bool.{cases_lt, ltb-false}
-use Rattle.iobufs.specs.Search.{IsRising}
-use Rattle.iobufs.proofs.Text.Halves.{halved, one_more, no_less, twice, few_digits, few_probes}
+use Rattle.iobufs.proofs.Text.{IsRising, List, ap, arith, by_lt, few_digits, few_probes, get_or, halved, length, ltb-false, no_less, one_more, subst, sym, twice, ℕ, ◌*◌, ◌+◌, ◌-◌, ◌/◌, ◌<◌, ◌^◌, ◌∙◌, ◌≡◌, ◌≤◌}
 use Rattle.iobufs.proofs.bufs.search.find_end.Goals as goal
 
 pub past-requires-clause-more : goal.past-requires-clause-more
 past-requires-clause-more g c =
     let i = c.loop-first.invariant in
-    let n = ap length i.same_ends in
-    few_probes _ _ i.few (omega (arith, n, c.count-last.ensures.count))
+    few_probes _ _ i.few (omega (arith, ap length i.same_ends, c.count-last.ensures.count))
 
 -- ends up to one that isn't past a place aren't either
 upto : (xs : List ℕ) (place m : ℕ) → IsRising xs → m < length xs → get_or xs m 0 ≤ place → (j : ℕ) → j < m + 1 → get_or xs j 0 ≤ place
 upto xs place m rising l h j k =
-    ⊎_elim
-    (λ (e : j < m). let r = rising j m e l in omega arith)
-    (λ (e : m ≤ j). let same : j ≡ m = omega arith in rw same h)
-    (cases_lt j m)
+    by_lt j m (λ e. let r = rising j m e l in omega arith) (λ e. let same : j ≡ m = omega arith in rw same h)
 
 pub loop-first-preserved-then-past : goal.loop-first-preserved-then-past
 loop-first-preserved-then-past g c =
@@ -38,14 +31,13 @@ pub loop-first-preserved : goal.loop-first-preserved
 loop-first-preserved g c =
     let i = c.loop-first.invariant in
     let p = c.past.ensures in
-    let m = c.loop-first.first + (c.loop-first.last - c.loop-first.first) / 2 in
     let rising = subst IsRising (sym i.same_ends) c.count-last.ensures.rising in
     let low = ltb-false _ _ (sym p.answer ∙ c.if-past.false) in
     rw (p.same_ends, p.same_place) (record {
       ordered = omega arith;
       inside = i.inside;
       past = i.past;
-      before = upto _ _ m rising (omega (arith, i.inside)) low;
+      before = upto _ _ (c.loop-first.first + (c.loop-first.last - c.loop-first.first) / 2) rising (omega (arith, i.inside)) low;
       same_ends = i.same_ends;
       same_place = i.same_place;
       work = halved _ _ (c.loop-first.last - c.loop-first.first) _ _ p.probed (omega arith) i.work;

@@ -1,4 +1,4 @@
-use Rattle.std.proofs.Common.{◌+◌, ◌-◌, ◌≡◌, ℕ, ◌*◌, ◌^◌, ◌<◌, ◌≤◌, length, get_or}
+use Rattle.iobufs.proofs.Text.{get_or, length, ℕ, ◌*◌, ◌+◌, ◌-◌, ◌<◌, ◌^◌, ◌≡◌, ◌≤◌}
 use Rattle.iobufs.proofs.bufs.search.find_end.Given as goal
 
 abbrev pub invariant-loop-first : goal.invariant-loop-first

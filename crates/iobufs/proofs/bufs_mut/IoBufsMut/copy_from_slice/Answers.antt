@@ -1,9 +1,5 @@
-use Rattle.std.proofs.Common.{ap, arith, sym, ◌∙◌}
-use Rattle.std.proofs.lemmas.Grind.{common_steps}
-use Rattle.iobufs.specs.Inside.PartShape.{shape_parts}
-use Rattle.iobufs.specs.Parts.{kept_parts, parts_overwritten}
-use Rattle.iobufs.specs.contracts.bufs_mut.IoBufsMut.{the_view}
-use Rattle.iobufs.proofs.Parts.FewLaws.{kept-overwritten}
+use Rattle.iobufs.proofs.Text.{ap, arith, common_steps, kept_parts, parts_overwritten, shape_parts, sym, the_view, ◌∙◌}
+use Rattle.iobufs.proofs.Parts.{kept-overwritten}
 use Rattle.iobufs.proofs.bufs_mut.IoBufsMut.copy_from_slice.Goals as goal
 use Rattle.iobufs.proofs.bufs_mut.IoBufsMut.copy_from_slice.Goals.{in-One, in-Few, in-Many}
 

@@ -1,12 +1,5 @@
-use Rattle.std.proofs.Common.{◌<◌, ◌++◌, ◌∷◌, [], ◌≤◌, List, length, ⊎_elim, arith, refl, subst, sym, ◌∙◌, ap}
-use Rattle.std.proofs.lemmas.Bool.{cases_lt, false≢true}
-use Rattle.std.proofs.lemmas.Result.{err_from_is_err_and}
-use Rattle.std.proofs.lemmas.List.Sums.{sum_by_push}
-use Rattle.iobufs_core.specs.Part.{Part, part_capacity}
-use Rattle.iobufs.specs.PartLimits.{IsRowRefusedAt}
-use Rattle.iobufs.specs.Parts.{kept_parts, parts_capacity}
-use Rattle.iobufs.proofs.Parts.PartRuns.{able-some, capacity-kept, kept-more, refused-long, refused-short}
-use Rattle.iobufs.proofs.Text.RunLaws.{run_to_end, run_to_item}
+use Rattle.iobufs.proofs.Text.{IsRowRefusedAt, List, Part, [], ap, arith, by_lt, err_from_is_err_and, false≢true, kept_parts, length, part_capacity, parts_capacity, refl, run_to_end, run_to_item, subst, sum_by_push, sym, ◌++◌, ◌∙◌, ◌∷◌, ◌≤◌}
+use Rattle.iobufs.proofs.Parts.{able-some, capacity-kept, kept-more, refused-long, refused-short}
 use Rattle.iobufs.proofs.bufs_mut.IoBufsMut.from_parts.Goals as goal
 
 pub returns-then-capacity-left-clause-err : goal.returns-then-capacity-left-clause-err
@@ -21,8 +14,7 @@ returns-then-capacity-left-clause-err g c =
 pub with_part-requires-clause-fits : goal.with_part-requires-clause-fits
 with_part-requires-clause-fits g c =
     let l = c.loop-part in
-    let kept = ap parts_capacity l.invariant.kept ∙ capacity-kept l.yielded in
-    omega (arith, kept, l.invariant.sum, c.capacity-capacity.ensures, c.if-capacity-left.false)
+    omega (arith, ap parts_capacity l.invariant.kept ∙ capacity-kept l.yielded, l.invariant.sum, c.capacity-capacity.ensures, c.if-capacity-left.false)
 
 pub returns-in_err-shape-clause-err : goal.returns-in_err-shape-clause-err
 returns-in_err-shape-clause-err g c =
@@ -30,10 +22,8 @@ returns-in_err-shape-clause-err g c =
     let part = c.in-Some.part in
     let count = ap (λ (ps : List Part). length ps) l.invariant.kept in
     let three : 3 ≤ length (kept_parts l.yielded) =
-    ⊎_elim (λ (less : length (kept_parts l.yielded) < 3). absurd (false≢true (c.in_err-shape.ensures.few (omega (arith, count, less)))))
-    (λ (more : 3 ≤ length (kept_parts l.yielded)). more) (cases_lt (length (kept_parts l.yielded)) 3) in
+    by_lt (length (kept_parts l.yielded)) 3 (λ less. absurd (false≢true (c.in_err-shape.ensures.few (omega (arith, count, less))))) (λ more. more) in
     let some = able-some l.yielded (omega (arith, three)) in
-    let sum = ap parts_capacity l.invariant.kept ∙ capacity-kept l.yielded in
     let (error, told, cause) = err_from_is_err_and c.from_residual.result c.from_residual.ensures.1 in
     rw (told, cause) (
       run_to_item g.I.Iterator.next_gives _ l.yielded l.yielded_by part c.in-Some.ensures.steps,
@@ -46,9 +36,8 @@ pub loop-part-preserved-then-capacity-gt0 : goal.loop-part-preserved-then-capaci
 loop-part-preserved-then-capacity-gt0 g c =
     let l = c.loop-part in
     let part = c.in-Some.part in
-    let sum = sum_by_push part_capacity l.yielded part in
     record {
-      sum = omega arith;
+      sum = omega (arith, sum_by_push part_capacity l.yielded part);
       built = c.in_ok-shape.ensures.built;
       kept = c.in_ok-shape.ensures.parts ∙ ap (λ ps. kept_parts (ps ++ part ∷ [])) l.invariant.kept ∙ kept-more l.yielded part (omega arith);
     }

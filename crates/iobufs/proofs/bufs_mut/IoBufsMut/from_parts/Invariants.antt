@@ -1,6 +1,4 @@
-use Rattle.std.proofs.Common.{◌≡◌, ◌+◌, ◌^◌}
-use Rattle.iobufs.specs.Parts.{kept_parts, parts_capacity}
-use Rattle.iobufs.specs.Inside.PartShape.{IsShape, shape_parts}
+use Rattle.iobufs.proofs.Text.{IsShape, kept_parts, parts_capacity, shape_parts, ◌+◌, ◌^◌, ◌≡◌}
 use Rattle.iobufs.proofs.bufs_mut.IoBufsMut.from_parts.Given as goal
 
 abbrev pub invariant-loop-part : goal.invariant-loop-part

@@ -1,10 +1,5 @@
-use Rattle.std.proofs.Common.{ap, arith, replicate, sym, ◌∙◌}
-use Rattle.std.proofs.lemmas.Grind.{common_steps}
-use Rattle.std.proofs.lemmas.List.{length-replicate}
-use Rattle.iobufs.specs.Inside.PartShape.{shape_parts}
-use Rattle.iobufs.specs.Parts.{kept_parts, parts_fill}
-use Rattle.iobufs.specs.contracts.bufs_mut.IoBufsMut.{the_view}
-use Rattle.iobufs.proofs.Parts.FewLaws.{kept-fill}
+use Rattle.iobufs.proofs.Text.{ap, arith, common_steps, kept_parts, length-replicate, parts_fill, replicate, shape_parts, sym, the_view, ◌∙◌}
+use Rattle.iobufs.proofs.Parts.{kept-fill}
 use Rattle.iobufs.proofs.bufs_mut.IoBufsMutBufMut.put_bytes.Goals as goal
 use Rattle.iobufs.proofs.bufs_mut.IoBufsMutBufMut.put_bytes.Goals.{in-One, in-Few, in-Many}
 

@@ -1,5 +1,4 @@
-use Rattle.std.proofs.Common.{◌≡◌, ◌++◌, take, drop, deque_len, length}
-use Rattle.iobufs.specs.Parts.{parts_filled, parts_overwritten}
+use Rattle.iobufs.proofs.Text.{deque_len, drop, length, parts_filled, parts_overwritten, take, ◌++◌, ◌≡◌}
 use Rattle.iobufs.proofs.bufs_mut.several.copy_from_slice.Given as goal
 
 abbrev pub invariant-loop-i : goal.invariant-loop-i

@@ -1,6 +1,5 @@
-use Rattle.std.proofs.Common.{◌≡◌, ◌+◌, suc, arith, subst, sym, ◌∙◌}
-use Rattle.iobufs.specs.Inside.PartOrder.{HaveNoSpare}
-use Rattle.iobufs.proofs.Parts.FullLaws.{full-next}
+use Rattle.iobufs.proofs.Text.{HaveNoSpare, arith, subst, suc, sym, ◌+◌, ◌∙◌, ◌≡◌}
+use Rattle.iobufs.proofs.Parts.{full-next}
 use Rattle.iobufs.proofs.bufs_mut.several.count_full.Goals as goal
 
 pub loop-full-preserved : goal.loop-full-preserved

@@ -1,5 +1,4 @@
-use Rattle.std.proofs.Common.{◌-◌, deque_len}
-use Rattle.iobufs.specs.Inside.PartOrder.{HaveNoSpare}
+use Rattle.iobufs.proofs.Text.{HaveNoSpare, deque_len, ◌-◌}
 use Rattle.iobufs.proofs.bufs_mut.several.count_full.Given as goal
 
 abbrev pub invariant-loop-full : goal.invariant-loop-full

@@ -1,7 +1,5 @@
-use Rattle.std.proofs.Common.{◌-◌, deque_len}
-use Rattle.iobufs.specs.Inside.PartOrder.{in_order}
-use Rattle.iobufs.specs.Parts.{parts_drained}
-use Rattle.iobufs.proofs.Parts.DrainTurns.{IsDraining}
+use Rattle.iobufs.proofs.Text.{deque_len, in_order, parts_drained, ◌-◌}
+use Rattle.iobufs.proofs.Parts.{IsDraining}
 use Rattle.iobufs.proofs.bufs_mut.several.drain.Given as goal
 
 abbrev pub invariant-loop-rest : goal.invariant-loop-rest

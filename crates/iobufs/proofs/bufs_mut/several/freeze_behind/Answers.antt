@@ -1,26 +1,17 @@
-use Rattle.std.proofs.Common.{◌≡◌, List, [], ◌∷◌, ◌++◌, fold, length, length-append, map, arith, ap, sym, subst, ◌∙◌}
-use Rattle.std.proofs.lemmas.List.Sums.{sum_by-cons}
-use Rattle.iobufs_core.specs.MarkedText.{MarkedText, text_append}
-use Rattle.iobufs_core.specs.Part.{part_capacity, part_frozen}
-use Rattle.iobufs_core.specs.View.{View}
-use Rattle.iobufs.specs.Parts.{parts_capacity}
-use Rattle.iobufs.specs.Inside.Pieces.{AreFull, AreViews, of_pieces, pieces_bytes}
-use Rattle.iobufs.proofs.Building.AddLaws.{add-full, add-length, add-text, add-views}
-use Rattle.iobufs.proofs.Parts.Frozen.{frozen-len}
-use Rattle.iobufs.proofs.Text.PieceLaws.{of_pieces-one}
-use Rattle.iobufs.proofs.Text.Sides.{not_zero}
+use Rattle.iobufs.proofs.Text.{AreFull, AreViews, List, MarkedText, View, [], ap, arith, fold, length, length-append, map, not_zero, of_pieces, of_pieces-one, part_capacity, part_frozen, parts_capacity, pieces_bytes, subst, sum_by-cons, sym, text_append, ◌++◌, ◌∙◌, ◌∷◌, ◌≡◌}
+use Rattle.iobufs.proofs.Building.{add-full, add-length, add-text, add-views}
+use Rattle.iobufs.proofs.Parts.{frozen-len}
 use Rattle.iobufs.proofs.bufs_mut.several.freeze_behind.Goals as goal
 
 pub loop-part-init : goal.loop-part-init
 loop-part-init c =
     let first = c.args.first in
-    let parts = c.args.parts in
     let views : c.add_after-len.new.self.views ≡ first ∷ [] = c.add_after-len.ensures.added
     ∙ rw (not_zero (length first.bytes) c.requires.some) (ap (λ (vs : List View). vs ++ first ∷ []) c.in_ok-row.ensures.views) in
     let bytes = ap (λ (vs : List View). length (pieces_bytes vs)) views in
     let count = ap (λ (vs : List View). length vs) views in
     record {
-      so_far = ap (λ (text : MarkedText). fold text_append text (map part_frozen parts.items)) (ap of_pieces views ∙ of_pieces-one first);
+      so_far = ap (λ (text : MarkedText). fold text_append text (map part_frozen c.args.parts.items)) (ap of_pieces views ∙ of_pieces-one first);
       total = omega (arith, bytes, length-append first.bytes [], c.add_after-len.ensures.len);
       fits = omega (arith, bytes, length-append first.bytes [], c.requires.fits);
       room = omega (arith, count, c.add_after-len.ensures.same_room, c.in_ok-row.ensures.room, c.len.ensures);
@@ -41,16 +32,14 @@ loop-part-preserved c =
     let views = c.add_after-len-in-Some.new.self.views in
     let added = c.add_after-len-in-Some.ensures.added in
     let more = add-length l.row.views views piece added in
-    let capacity = ap parts_capacity items in
-    let count = ap length items in
     let len = ap (λ (v : View). length v.bytes) frozen in
     record {
       so_far = ap (λ (text : MarkedText). fold text_append text (map part_frozen rest))
           (add-text l.row.views views piece added inv.full ∙ ap (text_append (of_pieces l.row.views)) frozen)
           ∙ ap (λ parts. fold text_append (of_pieces l.row.views) (map part_frozen parts)) (sym items) ∙ inv.so_far;
       total = omega (arith, inv.total, more.bytes, c.add_after-len-in-Some.ensures.len);
-      fits = omega (arith, inv.fits, more.bytes, len, capacity, sum_by-cons part_capacity part rest, frozen-len part);
-      room = omega (arith, inv.room, more.at_most, count, c.add_after-len-in-Some.ensures.same_room);
+      fits = omega (arith, inv.fits, more.bytes, len, ap parts_capacity items, sum_by-cons part_capacity part rest, frozen-len part);
+      room = omega (arith, inv.room, more.at_most, ap length items, c.add_after-len-in-Some.ensures.same_room);
       full = add-full l.row.views views piece added inv.full;
       roomy = add-views l.row.views views piece added inv.roomy c.add_after-len-in-Some.ensures.view;
       some = omega (arith, inv.some, more.at_least);

@@ -1,8 +1,4 @@
-use Rattle.std.proofs.Common.{◌≡◌, ◌+◌, ◌^◌, ◌<◌, ◌≤◌, fold, length, map, deque_len}
-use Rattle.iobufs_core.specs.MarkedText.{of_view, text_append}
-use Rattle.iobufs_core.specs.Part.{part_frozen}
-use Rattle.iobufs.specs.Parts.{parts_capacity}
-use Rattle.iobufs.specs.Inside.Pieces.{AreFull, AreViews, of_pieces, pieces_bytes}
+use Rattle.iobufs.proofs.Text.{AreFull, AreViews, deque_len, fold, length, map, of_pieces, of_view, part_frozen, parts_capacity, pieces_bytes, text_append, ◌+◌, ◌<◌, ◌^◌, ◌≡◌, ◌≤◌}
 use Rattle.iobufs.proofs.bufs_mut.several.freeze_behind.Given as goal
 
 -- the parts that are left make the same text of what there is, and fit

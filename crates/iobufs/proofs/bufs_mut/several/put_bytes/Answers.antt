@@ -1,6 +1,5 @@
-use Rattle.std.proofs.Common.{◌<◌, ◌≤◌, ◌≡◌, length, replicate, arith, ◌∙◌, min, sym, rules}
-use Rattle.std.proofs.lemmas.List.{take-replicate, drop-replicate, length-replicate}
-use Rattle.iobufs.proofs.Parts.PartTurns.{fill-turn, fill-done}
+use Rattle.iobufs.proofs.Text.{arith, drop-replicate, length-replicate, min, replicate, rules, sym, take-replicate, ◌∙◌, ◌≡◌}
+use Rattle.iobufs.proofs.Parts.{fill-done, fill-turn}
 use Rattle.iobufs.proofs.bufs_mut.several.put_bytes.Goals as goal
 
 pub returns-then-rest-eq0 : goal.returns-then-rest-eq0
@@ -15,12 +14,9 @@ loop-i-preserved c =
     let part = c.index_mut-part in
     let n = c.min-n.result in
     let value = c.args.value in
-    let inside : l.i < length l.parts.items = omega arith in
-    let share : n ≤ l.rest = omega (arith, c.min-n.ensures) in
-    let all : length (replicate l.rest value) ≡ l.rest = length-replicate l.rest value in
     record {
       same_len = l.invariant.same_len;
-      so_far = fill-turn _ l.parts.items l.i part.result.now c.put_bytes.new.self (replicate l.rest value) _ (replicate n value) n inside
-          part.ensures.value c.put_bytes.ensures.1 (sym (take-replicate n l.rest value share)) (sym (drop-replicate n l.rest value))
-          (c.min-n.ensures ∙ (λ i. min (sym all i) (c.remaining_mut.ensures i))) l.invariant.so_far;
+      so_far = fill-turn _ l.parts.items l.i part.result.now c.put_bytes.new.self (replicate l.rest value) _ (replicate n value) n (omega arith)
+          part.ensures.value c.put_bytes.ensures.1 (sym (take-replicate n l.rest value (omega (arith, c.min-n.ensures)))) (sym (drop-replicate n l.rest value))
+          (c.min-n.ensures ∙ (λ i. min (sym (length-replicate l.rest value) i) (c.remaining_mut.ensures i))) l.invariant.so_far;
     }

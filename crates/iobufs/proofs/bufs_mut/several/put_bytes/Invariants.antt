@@ -1,5 +1,4 @@
-use Rattle.std.proofs.Common.{◌≡◌, ◌++◌, take, drop, deque_len, replicate}
-use Rattle.iobufs.specs.Parts.{parts_fill}
+use Rattle.iobufs.proofs.Text.{deque_len, drop, parts_fill, replicate, take, ◌++◌, ◌≡◌}
 use Rattle.iobufs.proofs.bufs_mut.several.put_bytes.Given as goal
 
 abbrev pub invariant-loop-i : goal.invariant-loop-i

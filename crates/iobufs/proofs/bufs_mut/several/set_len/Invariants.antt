@@ -1,5 +1,4 @@
-use Rattle.std.proofs.Common.{◌≡◌, ◌++◌, take, drop, deque_len}
-use Rattle.iobufs.specs.Parts.{parts_with_len}
+use Rattle.iobufs.proofs.Text.{deque_len, drop, parts_with_len, take, ◌++◌, ◌≡◌}
 use Rattle.iobufs.proofs.bufs_mut.several.set_len.Given as goal
 
 abbrev pub invariant-loop-i : goal.invariant-loop-i

@@ -1,8 +1,5 @@
-use Rattle.std.proofs.Common.{◌<◌, ◌≤◌, length, arith, sym}
-use Rattle.std.proofs.lemmas.Bool.{lt-ltb, le-ltb}
-use Rattle.std.proofs.lemmas.List.{get_or_read}
-use Rattle.iobufs_core.specs.Part.{empty_part}
-use Rattle.iobufs.proofs.Parts.OrderLaws.{first-set}
+use Rattle.iobufs.proofs.Text.{arith, empty_part, get_or_read, le-ltb, length, lt-ltb, sym}
+use Rattle.iobufs.proofs.Parts.{first-set}
 use Rattle.iobufs.proofs.bufs_mut.several.shorten.Goals as goal
 
 pub returns-then-n-len-clause-drained : goal.returns-then-n-len-clause-drained
@@ -13,13 +10,11 @@ returns-then-n-len-clause-drained c =
 pub returns-then-n-len-clause-tells : goal.returns-then-n-len-clause-tells
 returns-then-n-len-clause-tells c =
     let part = c.index_mut-part in
-    let less : c.args.n < length part.result.now.filled = omega arith in
     let first = get_or_read c.args.row.now.items 0 part.result.now (omega (arith, c.requires)) part.ensures.value (empty_part 0) in
-    rw (← first) (sym (lt-ltb c.args.n (length part.result.now.filled) less))
+    rw (← first) (sym (lt-ltb c.args.n (length part.result.now.filled) (omega arith)))
 
 pub returns-clause-tells : goal.returns-clause-tells
 returns-clause-tells c =
     let part = c.index_mut-part in
-    let most : length part.result.now.filled ≤ c.args.n = omega arith in
     let first = get_or_read c.args.row.now.items 0 part.result.now (omega (arith, c.requires)) part.ensures.value (empty_part 0) in
-    rw (← first) (sym (le-ltb c.args.n (length part.result.now.filled) most))
+    rw (← first) (sym (le-ltb c.args.n (length part.result.now.filled) (omega arith)))

@@ -1,13 +1,5 @@
-use Rattle.std.proofs.Common.{ap, arith, length, ◌∙◌}
-use Rattle.std.proofs.lemmas.Bool.{false≢true}
-use Rattle.iobufs_core.specs.Items.{items_inline}
-use Rattle.iobufs_core.specs.View.{View}
-use Rattle.iobufs_core.specs.MarkedText.{joined}
-use Rattle.iobufs.specs.Building.{Building, building_items, finished}
-use Rattle.iobufs.specs.Inside.Gaps.{filled}
-use Rattle.iobufs.proofs.Building.AddLaws.{of_pieces-joined}
-use Rattle.iobufs.proofs.Building.BuildLaws.{inline-building}
-use Rattle.iobufs.proofs.Building.FinishLaws.{finished-views, frozen-bytes}
+use Rattle.iobufs.proofs.Text.{Building, View, ap, arith, building_items, false≢true, filled, finished, items_inline, joined, length, ◌∙◌}
+use Rattle.iobufs.proofs.Building.{finished-views, frozen-bytes, inline-building, of_pieces-joined}
 use Rattle.iobufs.proofs.builder.Builder.finish.Goals as goal
 
 pub returns-clause-ok : goal.returns-clause-ok
@@ -25,9 +17,8 @@ pub returns-in_err-rest-clause-no_inline : goal.returns-in_err-rest-clause-no_in
 returns-in_err-rest-clause-no_inline c = λ none.
     let b = c.self.inside in
     let inv = c.self.invariant in
-    let all = inline-building b.inline b.pushes.segments b.placed inv.counted inv.within in
     let same = ap (λ (w : Building). items_inline (building_items w)) c.self.view_is in
-    absurd (false≢true (c.in_err-rest.ensures.nothing (omega (arith, none, all, same))))
+    absurd (false≢true (c.in_err-rest.ensures.nothing (omega (arith, none, inline-building b.inline b.pushes.segments b.placed inv.counted inv.within, same))))
 
 pub returns-in_err-fill-clause-no_inline : goal.returns-in_err-fill-clause-no_inline
 returns-in_err-fill-clause-no_inline c = λ none.

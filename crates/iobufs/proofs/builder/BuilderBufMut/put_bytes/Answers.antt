@@ -1,7 +1,5 @@
-use Rattle.std.proofs.Common.{◌≤◌, replicate, subst, sym}
-use Rattle.std.proofs.lemmas.List.{length-replicate}
-use Rattle.iobufs.specs.Building.{building_room}
-use Rattle.iobufs.proofs.Building.BuildLaws.{put-kept}
+use Rattle.iobufs.proofs.Text.{building_room, length-replicate, replicate, subst, sym, ◌≤◌}
+use Rattle.iobufs.proofs.Building.{put-kept}
 use Rattle.iobufs.proofs.builder.BuilderBufMut.put_bytes.Goals as goal
 
 pub returns : goal.returns

@@ -1,4 +1,4 @@
-use Rattle.iobufs.proofs.Building.BuildLaws.{put-kept}
+use Rattle.iobufs.proofs.Building.{put-kept}
 use Rattle.iobufs.proofs.builder.BuilderBufMut.put_slice.Goals as goal
 
 pub returns : goal.returns

@@ -1,4 +1,4 @@
-use Rattle.iobufs.proofs.Building.BuildLaws.{IsBuilding-kept}
+use Rattle.iobufs.proofs.Building.{IsBuilding-kept}
 use Rattle.iobufs.proofs.builder.BuilderBufMut.remaining_mut.Goals as goal
 
 pub returns-clause-building : goal.returns-clause-building

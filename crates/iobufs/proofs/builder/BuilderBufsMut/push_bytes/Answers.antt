@@ -1,21 +1,15 @@
-use Rattle.std.proofs.Common.{◌≡◌, ◌≤◌, ◌<◌, ◌-◌, List, ◌++◌, length, arith, refl, ap, ◌∙◌}
-use Rattle.iobufs_core.specs.View.{View}
-use Rattle.iobufs.specs.Building.{building_push, room_for_pushes}
-use Rattle.iobufs.specs.Inside.Gaps.{segments_pushed}
-use Rattle.iobufs.specs.Inside.RowValues.{Segment}
-use Rattle.iobufs.proofs.Building.BuildLaws.{bytes-len, push-kept, pushes-kept}
+use Rattle.iobufs.proofs.Text.{List, Segment, View, ap, arith, building_push, length, refl, room_for_pushes, segments_pushed, ◌++◌, ◌-◌, ◌<◌, ◌∙◌, ◌≡◌, ◌≤◌}
+use Rattle.iobufs.proofs.Building.{bytes-len, push-kept, pushes-kept}
 use Rattle.iobufs.proofs.builder.BuilderBufsMut.push_bytes.Goals as goal
 
 pub returns-in-Err-clause-too_long : goal.returns-in-Err-clause-too_long
 returns-in-Err-clause-too_long c =
-    let b = c.self.inside in
-    let limit = pushes-kept b.inline b.pushes.segments b.placed b.pushable _ c.self.invariant.limited c.self.view_is in
+    let limit = pushes-kept c.self.inside.inline c.self.inside.pushes.segments _ c.self.inside.pushable _ c.self.invariant.limited c.self.view_is in
     λ (long : room_for_pushes c.args.self.now < length c.args.bytes). c.in-Err.ensures.too_long (omega arith)
 
 pub returns-in-Err-clause-memory : goal.returns-in-Err-clause-memory
 returns-in-Err-clause-memory c =
-    let b = c.self.inside in
-    let limit = pushes-kept b.inline b.pushes.segments b.placed b.pushable _ c.self.invariant.limited c.self.view_is in
+    let limit = pushes-kept c.self.inside.inline c.self.inside.pushes.segments _ c.self.inside.pushable _ c.self.invariant.limited c.self.view_is in
     λ (fits : length c.args.bytes ≤ room_for_pushes c.args.self.now). c.in-Err.ensures.memory (omega arith)
 
 pub returns-clause-ok : goal.returns-clause-ok
@@ -35,6 +29,5 @@ returns-clause-ok c =
 
 pub returns-clause-too_long : goal.returns-clause-too_long
 returns-clause-too_long c =
-    let b = c.self.inside in
-    let limit = pushes-kept b.inline b.pushes.segments b.placed b.pushable _ c.self.invariant.limited c.self.view_is in
+    let limit = pushes-kept c.self.inside.inline c.self.inside.pushes.segments _ c.self.inside.pushable _ c.self.invariant.limited c.self.view_is in
     λ (long : room_for_pushes c.args.self.now < length c.args.bytes). c.in_default.ensures.too_long (omega arith)

@@ -1,10 +1,5 @@
-use Rattle.std.proofs.Common.{◌≡◌, ◌^◌, ◌<◌, arith, length, ap, sym, subst, ◌∙◌, ⊎_elim}
-use Rattle.std.proofs.lemmas.Bool.{false≢true}
-use Rattle.iobufs_core.specs.Items.{items_bytes, items_inline}
-use Rattle.iobufs_core.specs.MarkedText.{MarkedText}
-use Rattle.iobufs.specs.Building.{Building, building_items, building_after, empty_building, finished}
-use Rattle.iobufs.proofs.Text.CopyLaws.{only-cause}
-use Rattle.iobufs.proofs.Building.FinishLaws.{encoded-bytes, items-len, nothing-built, pushes-fit}
+use Rattle.iobufs.proofs.Text.{Building, MarkedText, ap, arith, building_after, building_items, bytes-built, empty_building, false≢true, finished, items_bytes, items_inline, length, only-cause, subst, sym, ⊎_elim, ◌<◌, ◌^◌, ◌∙◌, ◌≡◌}
+use Rattle.iobufs.proofs.Building.{finished-bytes, items-len, nothing-built, pushes-fit}
 use Rattle.iobufs.proofs.builder.EncodeExt.encode_iobufs.Goals as goal
 
 pub returns-in_err-write_bufs-clause-memory : goal.returns-in_err-write_bufs-clause-memory
@@ -23,7 +18,7 @@ returns-clause-bytes g c =
     let (inline, pushed, built) = c.in_ok-write_bufs.ensures.ok in
     ap (λ (text : MarkedText). text.bytes) (c.in_ok-finish.ensures.ok
     ∙ ap finished (built ∙ ap (λ (b : Building). building_after b items) (c.in_ok-builder.ensures.ok ∙ ap empty_building c.encode_inline_size.ensures)))
-    ∙ encoded-bytes (items_inline items) items
+    ∙ finished-bytes (building_after (empty_building (items_inline items)) items) ∙ bytes-built (empty_building (items_inline items)) items
     ∙ g.met.Self.EncodeSize.joins_items c.args.self.now
 
 pub returns-in_err-builder-clause-nothing : goal.returns-in_err-builder-clause-nothing
@@ -35,10 +30,9 @@ returns-in_err-builder-clause-nothing g c =
 
 pub returns-in_err-write_bufs-clause-nothing : goal.returns-in_err-write_bufs-clause-nothing
 returns-in_err-write_bufs-clause-nothing g c =
-    let items = g.Self.EncodeSize.items c.args.self.now in
     λ (none : length (g.Self.EncodeSize.written c.args.self.now) ≡ 0).
     let bytes = ap length (g.met.Self.EncodeSize.joins_items c.args.self.now) in
-    absurd (false≢true (c.in_err-write_bufs.ensures.no_push (omega (arith, none, bytes, items-len items))))
+    absurd (false≢true (c.in_err-write_bufs.ensures.no_push (omega (arith, none, bytes, items-len (g.Self.EncodeSize.items c.args.self.now)))))
 
 pub returns-in_err-finish-clause-nothing : goal.returns-in_err-finish-clause-nothing
 returns-in_err-finish-clause-nothing g c =

@@ -1,6 +1,4 @@
-use Rattle.std.proofs.Common.{ap, ◌∙◌, arith}
-use Rattle.iobufs_core.specs.View.{View}
-use Rattle.iobufs.proofs.Text.CopyLaws.{chunks-step}
+use Rattle.iobufs.proofs.Text.{View, ap, arith, chunks-step, ◌∙◌}
 use Rattle.iobufs.proofs.bufs.pieces.Pieces.chunks.Goals as goal
 
 pub loop-index-preserved : goal.loop-index-preserved

@@ -1,4 +1,4 @@
-use Rattle.std.proofs.Common.{◌≡◌, map, take}
+use Rattle.iobufs.proofs.Text.{map, take, ◌≡◌}
 use Rattle.iobufs.proofs.bufs.pieces.Pieces.chunks.Given as goal
 
 abbrev pub invariant-loop-index : goal.invariant-loop-index

@@ -1,31 +1,25 @@
-use Rattle.std.proofs.Common.{◌-◌, ap, ◌∙◌, arith, drop, take, length, length-append, length-take-le, min, refl}
-use Rattle.iobufs_core.specs.View.{View}
-use Rattle.iobufs_core.specs.Part.{Part}
-use Rattle.iobufs_core.proofs.LayoutLaws.{good_layout}
-use Rattle.iobufs.proofs.Text.CopyLaws.{only-cause, copied-step, slice_from}
+use Rattle.iobufs.proofs.Text.{Part, View, ap, arith, copied-step, drop, good_layout, length, length-append, length-take-le, min, only-cause, refl, slice_from, take, ◌-◌, ◌∙◌}
 use Rattle.iobufs.proofs.bufs.pieces.Pieces.copied.Goals as goal
 
 pub loop-offset-preserved : goal.loop-offset-preserved
 loop-offset-preserved c =
     let copy = c.loop-offset.copy in
-    let more = c.put_slice.new.self in
     let o = c.loop-offset.offset in
     let all = c.as_ref.result.now in
     let some = take (length all - o) (drop o all) in
     let bytes = c.as_ref.ensures ∙ ap (λ (v : View). v.bytes) c.piece.ensures in
     let put = ap (λ (p : Part). p.filled) c.put_slice.ensures.1 in
-    let spare = ap (λ (p : Part). p.spare) c.put_slice.ensures.1 in
     let room = c.loop-offset.invariant.room in
     let count = c.min-some.ensures ∙ ap (λ n. min (length some) (c.args.n - n)) c.len-in-loop-offset.ensures in
     let step =
-    copied-step c.args.self.now c.loop-offset.index o c.args.n (length copy.filled) c.min-some.result copy.filled more.filled some _
+    copied-step c.args.self.now c.loop-offset.index o c.args.n (length copy.filled) c.min-some.result copy.filled c.put_slice.new.self.filled some _
     (omega arith) c.loop-offset.invariant.offset (slice_from o all ∙ ap (drop o) bytes) (omega arith) refl c.loop-offset.invariant.left
     c.loop-offset.invariant.so_far count put in
     let longer = ap length put ∙ length-append copy.filled (take c.min-some.result some) in
     let short = length-take-le c.min-some.result some (omega (arith, count)) in
     record {
       offset = omega arith;
-      room = omega (arith, spare);
+      room = omega (arith, ap (λ (p : Part). p.spare) c.put_slice.ensures.1);
       left = omega (arith, step.left);
       so_far = step.so_far;
     }

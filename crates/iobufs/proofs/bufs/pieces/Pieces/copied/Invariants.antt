@@ -1,5 +1,4 @@
-use Rattle.std.proofs.Common.{◌≡◌, ◌+◌, ◌-◌, ◌≤◌, ◌++◌, length, take, drop}
-use Rattle.iobufs.specs.Inside.Pieces.{piece_at, pieces_bytes}
+use Rattle.iobufs.proofs.Text.{drop, length, piece_at, pieces_bytes, take, ◌++◌, ◌+◌, ◌-◌, ◌≡◌, ◌≤◌}
 use Rattle.iobufs.proofs.bufs.pieces.Pieces.copied.Given as goal
 
 abbrev pub invariant-loop-offset : goal.invariant-loop-offset

@@ -1,9 +1,4 @@
-use Rattle.std.proofs.Common.{◌≡◌, ◌+◌, ◌-◌, ◌++◌, ap, ◌∙◌, arith, drop, length, length-take-le, take, sym}
-use Rattle.std.proofs.lemmas.Slice.{take-put_mid}
-use borrow.Rule.Slice.PartMut.{put_mid, same_len_mid}
-use Rattle.iobufs_core.specs.View.{View}
-use Rattle.iobufs.specs.Inside.Pieces.{pieces_bytes}
-use Rattle.iobufs.proofs.Text.CopyLaws.{filled-step, slice_from}
+use Rattle.iobufs.proofs.Text.{View, ap, arith, drop, filled-step, length, length-take-le, pieces_bytes, put_mid, same_len_mid, slice_from, sym, take, take-put_mid, ◌++◌, ◌+◌, ◌-◌, ◌∙◌, ◌≡◌}
 use Rattle.iobufs.proofs.bufs.pieces.Pieces.copy_from.Goals as goal
 
 pub loop-filled-preserved : goal.loop-filled-preserved

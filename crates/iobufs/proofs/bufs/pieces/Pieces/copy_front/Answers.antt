@@ -1,6 +1,4 @@
-use Rattle.std.proofs.Common.{◌-◌, ap, ◌∙◌, arith, length, min, refl}
-use Rattle.iobufs_core.specs.View.{View}
-use Rattle.iobufs.proofs.Text.CopyLaws.{copied-step}
+use Rattle.iobufs.proofs.Text.{View, ap, arith, copied-step, length, min, refl, ◌-◌, ◌∙◌}
 use Rattle.iobufs.proofs.bufs.pieces.Pieces.copy_front.Goals as goal
 
 pub loop-bytes-preserved : goal.loop-bytes-preserved

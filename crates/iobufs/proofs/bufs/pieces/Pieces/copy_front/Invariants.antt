@@ -1,5 +1,4 @@
-use Rattle.std.proofs.Common.{◌≡◌, ◌-◌, ◌≤◌, ◌++◌, length, take, drop}
-use Rattle.iobufs.specs.Inside.Pieces.{pieces_bytes}
+use Rattle.iobufs.proofs.Text.{drop, length, pieces_bytes, take, ◌++◌, ◌-◌, ◌≡◌, ◌≤◌}
 use Rattle.iobufs.proofs.bufs.pieces.Pieces.copy_front.Given as goal
 
 abbrev pub invariant-loop-bytes : goal.invariant-loop-bytes

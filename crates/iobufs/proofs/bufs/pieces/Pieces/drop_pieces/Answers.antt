@@ -1,5 +1,4 @@
-use Rattle.std.proofs.Common.{arith}
-use Rattle.iobufs.proofs.Text.SeveralLaws.{pieced-as, right-full}
+use Rattle.iobufs.proofs.Text.{arith, pieced-as, right-full}
 use Rattle.iobufs.proofs.bufs.pieces.Pieces.drop_pieces.Goals as goal
 
 pub settle-requires : goal.settle-requires

@@ -1,8 +1,4 @@
-use Rattle.std.proofs.Common.{◌+◌, ◌≤◌, ◌++◌, ap, ◌∙◌, arith, length, length-drop, sym}
-use Rattle.iobufs_core.specs.View.{View}
-use Rattle.iobufs.specs.Inside.Pieces.{piece_at, view_len}
-use Rattle.iobufs.proofs.Text.CopyLaws.{slice_from}
-use Rattle.iobufs.proofs.Text.EqualLaws.{chunk-stands, further-behind, matched-differs, matched-end, matched-past, matched-past-not, matched-within, none-behind}
+use Rattle.iobufs.proofs.Text.{View, ap, arith, chunk-stands, further-behind, length, length-drop, matched-differs, matched-end, matched-past, matched-past-not, matched-within, none-behind, piece_at, slice_from, sym, view_len, ◌++◌, ◌+◌, ◌∙◌, ◌≤◌}
 use Rattle.iobufs.proofs.bufs.pieces.Pieces.matched.Goals as goal
 
 pub returns-then-ne : goal.returns-then-ne
@@ -18,11 +14,10 @@ returns-then-left-chunk c =
     let vs = c.args.self.now in
     let all = c.as_ref.result.now in
     let is = c.as_ref.ensures ∙ ap (λ (v : View). v.bytes) c.piece.ensures in
-    let stands = chunk-stands vs l.index l.offset all (omega arith) l.invariant.offset is in
     let inside : l.offset + length l.left.now ≤ view_len (piece_at vs l.index) =
     omega (arith, c.if-left-chunk.true, ap length (slice_from l.offset all), length-drop l.offset all, ap length is) in (
       inside,
-      matched-within _ _ _ _ _ _ l.invariant.matched stands c.if-ne.ensures
+      matched-within _ _ _ _ _ _ l.invariant.matched (chunk-stands vs l.index l.offset all (omega arith) l.invariant.offset is) c.if-ne.ensures
           ∙ ap (λ xs. c.args.bytes.now ++ xs) (sym (further-behind vs l.index l.offset (length l.left.now) all (omega arith) inside is)),
     )
 

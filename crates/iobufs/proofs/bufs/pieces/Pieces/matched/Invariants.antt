@@ -1,6 +1,4 @@
-use Rattle.std.proofs.Common.{◌≤◌, ◌-◌}
-use Rattle.iobufs.specs.Inside.Pieces.{bytes_behind, piece_at, view_len}
-use Rattle.iobufs.proofs.Text.EqualLaws.{IsMatched}
+use Rattle.iobufs.proofs.Text.{IsMatched, bytes_behind, piece_at, view_len, ◌-◌, ◌≤◌}
 use Rattle.iobufs.proofs.bufs.pieces.Pieces.matched.Given as goal
 
 abbrev pub invariant-loop-index : goal.invariant-loop-index

@@ -1,5 +1,4 @@
-use Rattle.std.proofs.Common.{refl}
-use Rattle.iobufs.proofs.Text.SeveralLaws.{pieced-as, several-either, several-push}
+use Rattle.iobufs.proofs.Text.{pieced-as, refl, several-either, several-push}
 use Rattle.iobufs.proofs.bufs.pieces.Pieces.push_back.Goals as goal
 
 pub invariant_of-self-in-Many : goal.invariant_of-self-in-Many

@@ -1,6 +1,4 @@
-use Rattle.std.proofs.Common.{ap, subst}
-use Rattle.iobufs.specs.Inside.Pieces.{AreFull}
-use Rattle.iobufs.specs.Inside.RowValues.{ViewRow}
+use Rattle.iobufs.proofs.Text.{AreFull, ViewRow, ap, subst}
 use Rattle.iobufs.proofs.bufs.row.Row.count.Goals as goal
 
 pub returns-clause-full : goal.returns-clause-full

@@ -1,5 +1,4 @@
-use Rattle.std.proofs.Common.{◌≡◌, ◌<◌, length}
-use Rattle.iobufs.specs.Inside.Pieces.{right_pieces, pieces_bytes}
+use Rattle.iobufs.proofs.Text.{length, pieces_bytes, right_pieces, ◌<◌, ◌≡◌}
 use Rattle.iobufs.proofs.bufs.row.Row.drop_front.Given as goal
 
 abbrev pub invariant-loop-self : goal.invariant-loop-self

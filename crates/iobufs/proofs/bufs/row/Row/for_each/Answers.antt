@@ -1,12 +1,4 @@
-use Rattle.std.proofs.Common.{List, ℕ, map, sym, ap, ◌∙◌, subst}
-use Rattle.std.proofs.lemmas.List.{map-append}
-use Rattle.std.specs.Fn.{CalledAt}
-use Rattle.std.specs.List.{FoldsTo}
-use Rattle.iobufs_core.specs.View.{View}
-use Rattle.iobufs.specs.Inside.RowValues.{ViewRow}
-use Rattle.iobufs.specs.declared.bufs.row.Piece.{Piece}
-use Rattle.iobufs.proofs.Text.RowLaws.{bytes-in}
-use Rattle.iobufs.proofs.Text.VisitLaws.{folds-append}
+use Rattle.iobufs.proofs.Text.{CalledAt, FoldsTo, List, Piece, View, ViewRow, ap, bytes-in, folds-append, map, map-append, subst, sym, ℕ, ◌∙◌}
 use Rattle.iobufs.proofs.bufs.row.Row.for_each.Goals as goal
 
 pub returns : goal.returns

@@ -1,7 +1,4 @@
-use Rattle.std.proofs.Common.{ap, ◌∙◌, length, refl}
-use Rattle.iobufs.specs.Inside.Pieces.{pieces_bytes}
-use Rattle.iobufs.specs.Inside.RowValues.{ViewRow}
-use Rattle.iobufs.proofs.Text.EndLaws.{end-of_last}
+use Rattle.iobufs.proofs.Text.{ViewRow, ap, end-of_last, length, pieces_bytes, refl, ◌∙◌}
 use Rattle.iobufs.proofs.bufs.row.Row.len.Goals as goal
 
 pub returns-in-Some-clause-value : goal.returns-in-Some-clause-value

@@ -1,16 +1,9 @@
-use Rattle.std.proofs.Common.{◌-◌, ap, sym, ◌∙◌, arith, length, subst}
-use Rattle.std.proofs.lemmas.List.{length-map}
-use Rattle.iobufs.specs.Inside.Ends.{from_base}
-use Rattle.iobufs.specs.declared.bufs.row.Piece.{Piece}
-use Rattle.iobufs.specs.Inside.Pieces.{IsChunkPlace, piece_start, pieces_bytes}
-use Rattle.iobufs.specs.Inside.RowValues.{ViewRow}
-use Rattle.iobufs.proofs.Text.EndLaws.{ends-fit, row-search, place-first}
+use Rattle.iobufs.proofs.Text.{IsChunkPlace, Piece, ViewRow, ap, arith, ends-fit, from_base, length, length-map, piece_start, pieces_bytes, place-first, row-search, subst, sym, ◌-◌, ◌∙◌}
 use Rattle.iobufs.proofs.bufs.row.Row.locate.Goals as goal
 
 pub invariant_of-ends : goal.invariant_of-ends
 invariant_of-ends c =
-    let n = ap (λ (r : ViewRow). length (pieces_bytes r.views)) c.self.view_is in
-    row-search c.self.inside.base c.args.at _ c.self.invariant (omega (arith, c.requires))
+    row-search c.self.inside.base c.args.at _ c.self.invariant (omega (arith, ap (λ (r : ViewRow). length (pieces_bytes r.views)) c.self.view_is, c.requires))
 
 pub start-requires : goal.start-requires
 start-requires c =
@@ -25,16 +18,14 @@ start-requires c =
 
 pub overflow_sub-result : goal.overflow_sub-result
 overflow_sub-result c =
-    let start = ap (λ (r : ViewRow). piece_start r.views c.find_end-index.result) c.self.view_is in
     (place-first c.self.inside.base c.self.inside.pieces.items c.args.at c.find_end-index.result c.start.result c.self.invariant.ended
-    c.find_end-index.ensures.found (c.start.ensures ∙ sym start)).0
+    c.find_end-index.ensures.found (c.start.ensures ∙ sym (ap (λ (r : ViewRow). piece_start r.views c.find_end-index.result) c.self.view_is))).0
 
 pub returns-clause-place : goal.returns-clause-place
 returns-clause-place c =
-    let start = ap (λ (r : ViewRow). piece_start r.views c.find_end-index.result) c.self.view_is in
     subst (λ (r : ViewRow). IsChunkPlace r.views c.args.at c.find_end-index.result (c.args.at - c.start.result)) c.self.view_is
     (place-first c.self.inside.base c.self.inside.pieces.items c.args.at c.find_end-index.result c.start.result c.self.invariant.ended
-    c.find_end-index.ensures.found (c.start.ensures ∙ sym start)).1
+    c.find_end-index.ensures.found (c.start.ensures ∙ sym (ap (λ (r : ViewRow). piece_start r.views c.find_end-index.result) c.self.view_is))).1
 
 pub returns-clause-fits : goal.returns-clause-fits
 returns-clause-fits c =

@@ -1,5 +1,4 @@
-use Rattle.std.proofs.Common.{sym, subst}
-use Rattle.iobufs.specs.Inside.Ends.{IsRow}
+use Rattle.iobufs.proofs.Text.{IsRow, subst, sym}
 use Rattle.iobufs.proofs.bufs.row.Row.push_front.Goals as goal
 
 pub invariant_of-self : goal.invariant_of-self

@@ -1,7 +1,4 @@
-use Rattle.std.proofs.Common.{◌+◌, ◌-◌, ◌%◌, ◌^◌, ap, arith, length}
-use Rattle.iobufs.specs.Inside.Pieces.{pieces_bytes}
-use Rattle.iobufs.specs.Inside.RowValues.{ViewRow}
-use Rattle.iobufs.proofs.Text.EndLaws.{row-cons}
+use Rattle.iobufs.proofs.Text.{ViewRow, ap, arith, length, pieces_bytes, row-cons, ◌%◌, ◌+◌, ◌-◌, ◌^◌}
 use Rattle.iobufs.proofs.bufs.row.Row.push_front_reserved.Goals as goal
 
 pub invariant_of-self : goal.invariant_of-self

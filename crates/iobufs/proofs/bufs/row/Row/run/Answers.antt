@@ -1,9 +1,4 @@
-use Rattle.std.proofs.Common.{◌≡◌, List, ap, arith, ◌+◌, ◌++◌, ◌∙◌, drop, length, take, refl}
-use Rattle.std.proofs.lemmas.List.{length-map}
-use Rattle.iobufs.specs.Inside.Ends.{views_in}
-use Rattle.iobufs.specs.Inside.RowValues.{ViewRow}
-use Rattle.iobufs.specs.declared.bufs.row.Piece.{Piece}
-use Rattle.iobufs.proofs.Text.RowLaws.{row-run}
+use Rattle.iobufs.proofs.Text.{List, Piece, ViewRow, ap, arith, drop, length, length-map, refl, row-run, take, views_in, ◌++◌, ◌+◌, ◌∙◌, ◌≡◌}
 use Rattle.iobufs.proofs.bufs.row.Row.run.Goals as goal
 
 pub overflow_add-count : goal.overflow_add-count

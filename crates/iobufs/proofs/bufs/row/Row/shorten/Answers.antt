@@ -1,8 +1,4 @@
-use Rattle.std.proofs.Common.{ap, arith, length}
-use Rattle.iobufs_core.specs.View.{View}
-use Rattle.iobufs.specs.Inside.Pieces.{piece_at, view_len}
-use Rattle.iobufs.specs.Inside.RowValues.{ViewRow}
-use Rattle.iobufs.proofs.Text.EndLaws.{row-shorten}
+use Rattle.iobufs.proofs.Text.{View, ViewRow, ap, arith, length, piece_at, row-shorten, view_len}
 use Rattle.iobufs.proofs.bufs.row.Row.shorten.Goals as goal
 
 pub invariant_of-self : goal.invariant_of-self

@@ -1,16 +1,11 @@
-use Rattle.std.proofs.Common.{ap, arith, length, subst}
-use Rattle.iobufs_core.specs.View.{View}
-use Rattle.iobufs.specs.Inside.Pieces.{AreFull, piece_at, view_len}
-use Rattle.iobufs.specs.Inside.RowValues.{ViewRow}
-use Rattle.iobufs.proofs.Text.EndLaws.{row-shorten}
-use Rattle.iobufs.proofs.Text.RowLaws.{first-left, first-right}
+use Rattle.iobufs.proofs.Text.{AreFull, View, ViewRow, ap, arith, first-right, left_pieces, left_pieces-first, length, piece_at, row-shorten, subst, sym, view_len, ◌∙◌}
 use Rattle.iobufs.proofs.bufs.row.Row.split_first.Goals as goal
 
 pub returns-then-at-len-clause-answer : goal.returns-then-at-len-clause-answer
 returns-then-at-len-clause-answer c =
     let first = ap (λ (vs : _). view_len (piece_at vs 0)) c.pop_front.ensures in
     let len = ap (λ (v : View). length v.bytes) c.piece.ensures in
-    first-left _ _ c.pop_front.result c.args.at c.pop_front.ensures c.requires.some (omega arith)
+    sym (ap (λ xs. left_pieces xs c.args.at) c.pop_front.ensures ∙ left_pieces-first c.args.at c.pop_front.result _ c.requires.some (omega arith))
 
 pub returns-then-at-len-clause-left : goal.returns-then-at-len-clause-left
 returns-then-at-len-clause-left c =

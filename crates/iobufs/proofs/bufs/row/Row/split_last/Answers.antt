@@ -1,10 +1,4 @@
-use Rattle.std.proofs.Common.{◌+◌, ◌%◌, ◌^◌, length-take-le, ap, sym, ◌∙◌, arith, length, subst}
-use Rattle.iobufs_core.specs.View.{View, view_front}
-use Rattle.iobufs.specs.Inside.Ends.{IsRow, views_in}
-use Rattle.iobufs.specs.Inside.Pieces.{AreFull, pieces_bytes}
-use Rattle.iobufs.specs.Inside.RowValues.{ViewRow}
-use Rattle.iobufs.proofs.Text.EndLaws.{row-take, row-push}
-use Rattle.iobufs.proofs.Text.RowLaws.{last-left, last-right, last-here, last-front, last-behind, last-inside, last-sum, popped, views-popped}
+use Rattle.iobufs.proofs.Text.{AreFull, IsRow, View, ViewRow, ap, arith, last-behind, last-front, last-here, last-inside, last-left, last-right, last-sum, length, length-take-le, pieces_bytes, popped, row-push, row-take, subst, sym, view_front, views-popped, views_in, ◌%◌, ◌+◌, ◌^◌, ◌∙◌}
 use Rattle.iobufs.proofs.bufs.row.Row.split_last.Goals as goal
 
 pub invariant_of-self : goal.invariant_of-self
@@ -50,9 +44,8 @@ pub returns-clause-left : goal.returns-clause-left
 returns-clause-left c =
     let piece = c.unwrap-piece.result.view in
     let is = views-popped _ _ c.unwrap-piece.result (popped _ _ _ c.unwrap-piece.result c.pop_back-2.ensures.items c.unwrap-piece.ensures) in
-    let some = c.if-place-eq0.false in
     let last = c.requires.last ∙ ap (λ (r : ViewRow). length r.views) (sym c.self.view_is) in
-    let cut = c.in_ok-view.ensures.inside (omega arith)
+    let cut = c.in_ok-view.ensures.inside (omega (arith, c.if-place-eq0.false))
     ∙ ap (λ (v : View). view_front v c.args.place.offset) (last-here _ _ piece c.args.place.index is last) in
     views-popped _ _ _ c.push_back_reserved.ensures.items
     ∙ last-front _ _ piece c.in_ok-view.view c.args.at _ _ (sym (ap (λ (r : ViewRow). r.views) c.self.view_is) ∙ is) c.requires.last

@@ -1,6 +1,4 @@
-use Rattle.std.proofs.Common.{◌++◌, ap, ◌∙◌}
-use Rattle.std.specs.Option.{option_to_list}
-use Rattle.iobufs.proofs.Text.EndLaws.{row-pop}
+use Rattle.iobufs.proofs.Text.{ap, option_to_list, row-pop, ◌++◌, ◌∙◌}
 use Rattle.iobufs.proofs.bufs.row.Row.take_first.Goals as goal
 
 pub invariant_of-self : goal.invariant_of-self

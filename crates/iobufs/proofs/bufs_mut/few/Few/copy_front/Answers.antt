@@ -1,6 +1,5 @@
-use Rattle.std.proofs.Common.{◌++◌, ap, sym, take, ◌∙◌}
-use Rattle.iobufs.specs.Parts.{parts_filled}
-use Rattle.iobufs.proofs.Parts.FewLaws.{taken-three}
+use Rattle.iobufs.proofs.Text.{ap, parts_filled, sym, take, ◌++◌, ◌∙◌}
+use Rattle.iobufs.proofs.Parts.{taken-three}
 use Rattle.iobufs.proofs.bufs_mut.few.Few.copy_front.Goals as goal
 
 pub returns-clause-bytes : goal.returns-clause-bytes

@@ -1,20 +1,14 @@
-use Rattle.std.proofs.Common.{List, ap, arith, length, ◌∙◌}
-use Rattle.iobufs_core.specs.Part.{part_frozen}
-use Rattle.iobufs_core.specs.View.{View}
-use Rattle.iobufs.specs.Inside.Pieces.{pieces_bytes}
-use Rattle.iobufs.specs.Parts.{parts_frozen}
-use Rattle.iobufs.proofs.Building.AddLaws.{add-length}
-use Rattle.iobufs.proofs.Parts.FewLaws.{frozen-length, frozen-three}
+use Rattle.iobufs.proofs.Text.{List, View, ap, arith, length, part_frozen, parts_frozen, pieces_bytes, ◌∙◌}
+use Rattle.iobufs.proofs.Building.{add-length}
+use Rattle.iobufs.proofs.Parts.{frozen-length, frozen-three}
 use Rattle.iobufs.proofs.bufs_mut.few.Few.freeze.Goals as goal
 
 pub add_frozen-requires-3-clause-before : goal.add_frozen-requires-3-clause-before
 add_frozen-requires-3-clause-before c =
-    let one = add-length c.in_ok-row.row.views c.add_frozen.new.row.views (part_frozen c.self.inside.first) c.in_ok-end.ensures.added in
-    let two = add-length c.add_frozen.new.row.views c.add_frozen-2.new.row.views (part_frozen c.self.inside.second) c.in_ok-end-2.ensures.added in
     omega (
       arith,
-      one.bytes,
-      two.bytes,
+      (add-length c.in_ok-row.row.views c.add_frozen.new.row.views (part_frozen c.self.inside.first) c.in_ok-end.ensures.added).bytes,
+      (add-length c.add_frozen.new.row.views c.add_frozen-2.new.row.views (part_frozen c.self.inside.second) c.in_ok-end-2.ensures.added).bytes,
       c.in_ok-end.ensures.end,
       c.in_ok-end-2.ensures.end,
       frozen-length c.self.inside.first,

@@ -1,8 +1,4 @@
-use Rattle.std.proofs.Common.{◌≡◌, [], ◌∷◌, ap, sym, ◌∙◌, drop}
-use Rattle.std.proofs.lemmas.Bool.{eqb-true}
-use Rattle.std.proofs.lemmas.List.{nil_from_length}
-use Rattle.iobufs.specs.Laws.Filling.{fill-nil}
-use Rattle.iobufs.specs.Parts.{parts_fill}
+use Rattle.iobufs.proofs.Text.{[], ap, drop, eqb-true, fill-nil, nil_from_length, parts_fill, sym, ◌∙◌, ◌∷◌, ◌≡◌}
 use Rattle.iobufs.proofs.bufs_mut.few.Few.put.Goals as goal
 
 pub returns-then-is_empty : goal.returns-then-is_empty

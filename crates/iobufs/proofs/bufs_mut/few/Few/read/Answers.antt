@@ -1,6 +1,5 @@
-use Rattle.std.proofs.Common.{ap, arith, length, take, ◌∙◌}
-use Rattle.iobufs.specs.Parts.{parts_filled}
-use Rattle.iobufs.proofs.Parts.FewLaws.{read-three}
+use Rattle.iobufs.proofs.Text.{ap, arith, length, parts_filled, take, ◌∙◌}
+use Rattle.iobufs.proofs.Parts.{read-three}
 use Rattle.iobufs.proofs.bufs_mut.few.Few.read.Goals as goal
 
 pub returns : goal.returns

@@ -1,12 +1,5 @@
-use Rattle.std.proofs.Common.{◌≡◌, ◌-◌, ◌++◌, ◌<◌, [], ◌∷◌, List, ℕ, Bor, length, map, take, ap, sym, ◌∙◌, append-nil, vec_len, arith}
-use Rattle.std.proofs.Math.Seq.{take-nil}
-use Rattle.std.proofs.lemmas.List.{map-append}
-use Rattle.std.specs.VecDeque.Iter.{deque_iter_rest}
-use Rattle.iobufs_core.specs.Part.{Part}
-use Rattle.std.proofs.lemmas.List.{nil_from_length}
-use Rattle.iobufs.specs.Parts.{parts_chunks}
-use Rattle.iobufs.proofs.Parts.OrderLaws.{chunks-order}
-use Rattle.iobufs.proofs.Parts.PartChunks.{chunks-full, chunk-turn}
+use Rattle.iobufs.proofs.Text.{Bor, List, Part, [], ap, append-nil, arith, deque_iter_rest, length, map, map-append, nil_from_length, parts_chunks, sym, take, take-nil, vec_len, ℕ, ◌++◌, ◌-◌, ◌<◌, ◌∙◌, ◌∷◌, ◌≡◌}
+use Rattle.iobufs.proofs.Parts.{chunk-turn, chunks-full, chunks-order}
 use Rattle.iobufs.proofs.bufs_mut.several.Several.chunks.Goals as goal
 use Rattle.iobufs.proofs.bufs_mut.several.Several.chunks.Goals.{in-None, in-Some+then-len-max}
 
@@ -14,13 +7,11 @@ pub loop-part-init : goal.loop-part-init
 loop-part-init c =
     let s = c.self.inside in
     let shown = chunks-order s.row.items s.used c.self.invariant.behind ∙ ap parts_chunks c.self.view_is in
-    let iter = c.into_iter-part-iterator in
     let none : vec_len c.new-chunks.result ≡ 0 = c.new-chunks.ensures.len in
     let left : c.args.max ≡ c.args.max - vec_len c.new-chunks.result = omega (arith, none) in
     record {
       few = omega (arith, none);
-      so_far = ap (take c.args.max) (sym shown ∙ ap parts_chunks (sym iter.ensures.into_iter_gives.0))
-          ∙ (λ i. map (λ (chunk : Bor (List ℕ)). chunk.now) (sym c.new-chunks.ensures.items i) ++ take (left i) (parts_chunks (deque_iter_rest iter.result)));
+      so_far = cc (c.into_iter-part-iterator.ensures.into_iter_gives.0, c.new-chunks.ensures.items);
     }
 
 pub loop-part-preserved : goal.loop-part-preserved
@@ -32,7 +23,6 @@ loop-part-preserved c =
     let part = c.in-Some.part.now in
     let rest = deque_iter_rest c.next.new.self in
     let some : 0 < length part.filled = grind arith in
-    let more : vec_len l.chunks < c.args.max = omega (arith, c.len.ensures, c.if-len-max.false, l.invariant.few) in
     let fewer : left - 1 ≡ c.args.max - vec_len c.push.new.self = omega (arith, c.in_ok-push.ensures.len) in
     let pushed : chunks ++ part.filled ∷ [] ≡ map now c.push.new.self.items =
     ap (λ t. chunks ++ t ∷ []) (sym c.as_ref.ensures) ∙ sym (map-append now l.chunks.items (c.as_ref.result ∷ []))

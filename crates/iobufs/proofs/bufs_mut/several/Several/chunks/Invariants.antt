@@ -1,6 +1,4 @@
-use Rattle.std.proofs.Common.{◌≡◌, ◌≤◌, ◌++◌, ◌-◌, map, take, vec_len}
-use Rattle.std.specs.VecDeque.Iter.{deque_iter_rest}
-use Rattle.iobufs.specs.Parts.{parts_chunks}
+use Rattle.iobufs.proofs.Text.{deque_iter_rest, map, parts_chunks, take, vec_len, ◌++◌, ◌-◌, ◌≡◌, ◌≤◌}
 use Rattle.iobufs.proofs.bufs_mut.several.Several.chunks.Given as goal
 
 abbrev pub invariant-loop-part : goal.invariant-loop-part

@@ -1,7 +1,4 @@
-use Rattle.std.proofs.Common.{◌≡◌, ◌≤◌, length}
-use Rattle.std.specs.VecDeque.Iter.{deque_iter_rest}
-use Rattle.iobufs_core.specs.Part.{part_put}
-use Rattle.iobufs.specs.Parts.{parts_filled}
+use Rattle.iobufs.proofs.Text.{deque_iter_rest, length, part_put, parts_filled, ◌≡◌, ◌≤◌}
 use Rattle.iobufs.proofs.bufs_mut.several.Several.coalesce.Given as goal
 
 -- the parts that are left make the same of the whole

@@ -1,10 +1,5 @@
-use Rattle.std.proofs.Common.{ap, ◌∙◌, length, subst, sym}
-use Rattle.iobufs.specs.Inside.PartOrder.{HaveNoSpare, in_order}
-use Rattle.iobufs.specs.Parts.{IsParts, parts_filled, parts_overwritten}
-use Rattle.iobufs.proofs.Parts.FullLaws.{full-overwritten}
-use Rattle.iobufs.proofs.Parts.OrderLaws.{filled-order, overwritten-order}
-use Rattle.iobufs.proofs.Parts.PartLaws.{parts-overwritten}
-use Rattle.iobufs.proofs.Parts.SumLaws.{summed-overwritten}
+use Rattle.iobufs.proofs.Text.{HaveNoSpare, IsParts, ap, in_order, length, parts_filled, parts_overwritten, subst, sym, ◌∙◌}
+use Rattle.iobufs.proofs.Parts.{filled-order, full-overwritten, overwritten-order, parts-overwritten, summed-overwritten}
 use Rattle.iobufs.proofs.bufs_mut.several.Several.copy_from_slice.Goals as goal
 
 pub copy_from_slice-requires : goal.copy_from_slice-requires

@@ -1,11 +1,5 @@
-use Rattle.std.proofs.Common.{◌≡◌, ℕ, List, ◌-◌, ◌++◌, [], length, take, min, ap, sym, ◌∙◌, append-nil, arith}
-use Rattle.std.proofs.Math.Seq.{take-nil}
-use Rattle.std.specs.VecDeque.Iter.{deque_iter_rest}
-use Rattle.iobufs_core.specs.Part.{Part}
-use Rattle.std.proofs.lemmas.List.{nil_from_length}
-use Rattle.iobufs.specs.Parts.{parts_filled}
-use Rattle.iobufs.proofs.Parts.OrderLaws.{filled-order}
-use Rattle.iobufs.proofs.Parts.PartChunks.{share-turn}
+use Rattle.iobufs.proofs.Text.{List, Part, [], ap, append-nil, arith, deque_iter_rest, min, nil_from_length, parts_filled, sym, take, take-nil, ℕ, ◌++◌, ◌-◌, ◌∙◌, ◌≡◌}
+use Rattle.iobufs.proofs.Parts.{filled-order, share-turn}
 use Rattle.iobufs.proofs.bufs_mut.several.Several.copy_front.Goals as goal
 use Rattle.iobufs.proofs.bufs_mut.several.Several.copy_front.Goals.{in-None, in-Some+then-rest-eq0}
 
@@ -16,8 +10,7 @@ loop-part-init c =
     let bytes = filled-order s.row.items s.used c.self.invariant.behind ∙ ap parts_filled c.self.view_is in
     record {
       some = omega arith;
-      so_far = ap (take n) (sym bytes ∙ ap parts_filled (sym c.into_iter-part-iterator.ensures.into_iter_gives.0))
-          ∙ ap (λ w. w ++ take n (parts_filled (deque_iter_rest c.into_iter-part-iterator.result))) (sym c.in_ok-bytes.ensures.items);
+      so_far = cc (c.into_iter-part-iterator.ensures.into_iter_gives.0, c.in_ok-bytes.ensures.items);
     }
 
 pub loop-part-preserved : goal.loop-part-preserved
@@ -25,11 +18,10 @@ loop-part-preserved c =
     let l = c.loop-part in
     let part = c.in-Some.part.now in
     let rest = parts_filled (deque_iter_rest c.next.new.self) in
-    let share : c.min-share.result ≡ min l.rest (length part.filled) = c.min-share.ensures ∙ ap (min l.rest) c.len.ensures in
     let bytes : take c.min-share.result c.as_ref.result.now ≡ take c.min-share.result part.filled = ap (take c.min-share.result) c.as_ref.ensures in
     record {
       some = omega (arith, l.invariant.some);
-      so_far = share-turn _ l.bytes.items part.filled rest l.rest c.min-share.result share
+      so_far = share-turn _ l.bytes.items part.filled rest l.rest c.min-share.result (c.min-share.ensures ∙ ap (min l.rest) c.len.ensures)
           (l.invariant.so_far ∙ ap (λ ps. l.bytes.items ++ take l.rest (parts_filled ps)) c.in-Some.ensures.steps)
           ∙ ap (λ w. w ++ take (l.rest - c.min-share.result) rest) (ap (λ w. l.bytes.items ++ w) (sym bytes) ∙ sym c.in_ok-extend_from_slice.ensures.items);
     }

@@ -1,10 +1,6 @@
-use Rattle.std.proofs.Common.{◌≡◌, length, length-append, arith, ap, sym, ◌∙◌}
-use Rattle.iobufs_core.specs.MarkedText.{of_view}
-use Rattle.iobufs_core.specs.View.{View}
-use Rattle.iobufs.specs.Parts.{parts_filled, parts_frozen}
-use Rattle.iobufs.proofs.Building.FinishLaws.{frozen-bytes}
-use Rattle.iobufs.proofs.Parts.Frozen.{frozen-whole}
-use Rattle.iobufs.proofs.Parts.OrderLaws.{capacity-order, filled-order, frozen-order}
+use Rattle.iobufs.proofs.Text.{View, ap, arith, default_text, length, length-append, part_frozen, parts_filled, parts_frozen, sym, text_append, ◌∙◌, ◌≡◌}
+use Rattle.iobufs.proofs.Building.{frozen-bytes}
+use Rattle.iobufs.proofs.Parts.{capacity-order, filled-order, frozen-none, frozen-one, frozen-order}
 use Rattle.iobufs.proofs.bufs_mut.several.Several.freeze.Goals as goal
 
 pub loop-part-init : goal.loop-part-init
@@ -29,8 +25,4 @@ returns-then-len-clause-ok c =
     let len = ap (λ (v : View). length v.bytes) frozen ∙ ap length (frozen-bytes part) in
     let none : length (parts_filled rest) ≡ 0 =
     omega (arith, bytes, len, length-append part.filled (parts_filled rest), l.invariant.bytes, c.len.ensures.value, c.if-len.true) in
-    c.from.ensures
-    ∙ ap of_view frozen
-    ∙ sym (frozen-whole part rest none)
-    ∙ ap parts_frozen (sym items)
-    ∙ l.invariant.so_far
+    cc (c.from.ensures, frozen-none (text_append default_text (part_frozen part)) rest none ∙ frozen-one part, l.invariant.so_far)

@@ -1,5 +1,4 @@
-use Rattle.std.proofs.Common.{◌≡◌, ◌^◌, ◌<◌, length, deque_len}
-use Rattle.iobufs.specs.Parts.{parts_capacity, parts_filled, parts_frozen}
+use Rattle.iobufs.proofs.Text.{deque_len, length, parts_capacity, parts_filled, parts_frozen, ◌<◌, ◌^◌, ◌≡◌}
 use Rattle.iobufs.proofs.bufs_mut.several.Several.freeze.Given as goal
 
 -- the parts that went held no bytes

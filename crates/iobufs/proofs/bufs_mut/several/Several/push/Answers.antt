@@ -1,9 +1,5 @@
-use Rattle.std.proofs.Common.{◌≡◌, ◌++◌, ◌∷◌, [], ap, arith, length, ◌∙◌}
-use Rattle.iobufs.specs.Inside.PartOrder.{in_order}
-use Rattle.iobufs.specs.Parts.{parts_capacity}
-use Rattle.iobufs.proofs.Parts.DrainTurns.{kept-pushed}
-use Rattle.iobufs.proofs.Parts.FewLaws.{kept-same}
-use Rattle.iobufs.proofs.Parts.SumLaws.{spare-summed}
+use Rattle.iobufs.proofs.Text.{[], ap, arith, in_order, length, parts_capacity, ◌++◌, ◌∙◌, ◌∷◌}
+use Rattle.iobufs.proofs.Parts.{kept-pushed, kept-same, spare-summed}
 use Rattle.iobufs.proofs.bufs_mut.several.Several.push.Goals as goal
 
 pub overflow_add-self : goal.overflow_add-self
@@ -23,9 +19,7 @@ pub invariant_of-self-2 : goal.invariant_of-self-2
 invariant_of-self-2 c =
     let s = c.self.inside in
     let part = c.args.part in
-    let row = c.settle.new.row.items in
-    let are : c.push_back.new.self.items ≡ row ++ part ∷ [] = rw c.if-is_err.ensures.negation at c.push_back.ensures.items in
-    let is = are ∙ ap (λ ps. ps ++ part ∷ []) c.settle.ensures.ordered in
+    let is = (rw c.if-is_err.ensures.negation at c.push_back.ensures.items) ∙ ap (λ ps. ps ++ part ∷ []) c.settle.ensures.ordered in
     kept-pushed s.row.items _ s.used c.settle.new.used part s.full s.len s.capacity _ _ c.self.invariant is c.settle.ensures.none
     (omega (arith, ap length c.self.view_is, c.requires.several)) c.requires.more
     (omega (arith, ap parts_capacity c.self.view_is, c.requires.fits)) c.len-len.ensures c.capacity-capacity.ensures
@@ -34,9 +28,7 @@ pub returns-clause-kept : goal.returns-clause-kept
 returns-clause-kept c =
     let s = c.self.inside in
     let part = c.args.part in
-    let row = c.settle.new.row.items in
-    let are : c.push_back.new.self.items ≡ row ++ part ∷ [] = rw c.if-is_err.ensures.negation at c.push_back.ensures.items in
-    let is = are ∙ ap (λ ps. ps ++ part ∷ []) c.settle.ensures.ordered in
+    let is = (rw c.if-is_err.ensures.negation at c.push_back.ensures.items) ∙ ap (λ ps. ps ++ part ∷ []) c.settle.ensures.ordered in
     let kept = kept-pushed s.row.items _ s.used c.settle.new.used part s.full s.len s.capacity _ _ c.self.invariant is c.settle.ensures.none
     (omega (arith, ap length c.self.view_is, c.requires.several)) c.requires.more
     (omega (arith, ap parts_capacity c.self.view_is, c.requires.fits)) c.len-len.ensures c.capacity-capacity.ensures in

@@ -1,11 +1,5 @@
-use Rattle.std.proofs.Common.{◌≡◌, ap, arith, length, replicate, subst, sym, ◌∙◌}
-use Rattle.std.proofs.lemmas.List.{length-replicate}
-use Rattle.iobufs.specs.Inside.PartOrder.{HaveNoSpare, in_order}
-use Rattle.iobufs.specs.Parts.{IsParts, parts_fill, parts_spare}
-use Rattle.iobufs.proofs.Parts.FullLaws.{full-fill}
-use Rattle.iobufs.proofs.Parts.OrderLaws.{kept-none}
-use Rattle.iobufs.proofs.Parts.PartLaws.{parts-fill}
-use Rattle.iobufs.proofs.Parts.SumLaws.{spare-summed, summed-fill}
+use Rattle.iobufs.proofs.Text.{HaveNoSpare, IsParts, ap, arith, in_order, length, length-replicate, parts_fill, parts_spare, replicate, subst, sym, ◌∙◌, ◌≡◌}
+use Rattle.iobufs.proofs.Parts.{full-fill, kept-none, parts-fill, spare-summed, summed-fill}
 use Rattle.iobufs.proofs.bufs_mut.several.Several.put_bytes.Goals as goal
 
 pub overflow_add-self : goal.overflow_add-self

@@ -1,6 +1,4 @@
-use Rattle.std.proofs.Common.{◌≡◌, ◌≤◌, ◌-◌, ◌++◌, length, take}
-use Rattle.std.specs.VecDeque.Iter.{deque_iter_rest}
-use Rattle.iobufs.specs.Parts.{parts_filled}
+use Rattle.iobufs.proofs.Text.{deque_iter_rest, length, parts_filled, take, ◌++◌, ◌-◌, ◌≡◌, ◌≤◌}
 use Rattle.iobufs.proofs.bufs_mut.several.Several.read.Given as goal
 
 abbrev pub invariant-loop-part : goal.invariant-loop-part

@@ -1,9 +1,5 @@
-use Rattle.std.proofs.Common.{◌≤◌, ap, arith, subst, sym, ◌∙◌}
-use Rattle.iobufs.specs.Inside.PartOrder.{in_order}
-use Rattle.iobufs.specs.Parts.{IsParts, parts_capacity, parts_with_len}
-use Rattle.iobufs.proofs.Parts.OrderLaws.{kept-none}
-use Rattle.iobufs.proofs.Parts.PartLaws.{parts-with_len}
-use Rattle.iobufs.proofs.Parts.SumLaws.{summed-with_len}
+use Rattle.iobufs.proofs.Text.{IsParts, ap, arith, in_order, parts_capacity, parts_with_len, subst, sym, ◌∙◌, ◌≤◌}
+use Rattle.iobufs.proofs.Parts.{kept-none, parts-with_len, summed-with_len}
 use Rattle.iobufs.proofs.bufs_mut.several.Several.set_len.Goals as goal
 
 pub invariant_of-self : goal.invariant_of-self

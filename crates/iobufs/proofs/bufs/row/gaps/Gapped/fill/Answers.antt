@@ -1,12 +1,5 @@
-use Rattle.std.proofs.Common.{rules, ◌+◌, ◌^◌, ◌<◌, ◌≤◌, List, length, drop, refl, ap, sym, subst, ◌∙◌, arith, take_all}
-use Rattle.std.proofs.lemmas.List.{drop_all, length-map}
-use Rattle.iobufs.specs.Inside.Ends.{IsRow, views_in}
-use Rattle.iobufs.specs.Inside.Gaps.{AreSegments, filled, gaps_len, segment_of, segments_in, stood_len}
-use Rattle.iobufs.specs.Inside.Pieces.{AreViews, pieces_bytes}
-use Rattle.iobufs.specs.Inside.RowValues.{SegmentRow}
-use Rattle.iobufs.specs.declared.bufs.row.Piece.{Piece}
-use Rattle.iobufs.proofs.Building.AddLaws.{add-full, add-views}
-use Rattle.iobufs.proofs.Building.GapLaws.{IsFilling, filled-last, filling-first, filling-none, filling-set}
+use Rattle.iobufs.proofs.Text.{AreSegments, List, Piece, SegmentRow, View, [], ap, arith, drop, drop_all, filled, gaps_len, length, length-map, refl, rules, segment_of, stood_len, subst, sym, take, take_all, views_in, ℕ, ◌+◌, ◌<◌, ◌^◌, ◌∙◌, ◌≡◌, ◌≤◌}
+use Rattle.iobufs.proofs.Building.{IsFilling, add-full, add-views, filled-last, filling-first, filling-none, filling-set}
 use Rattle.iobufs.proofs.bufs.row.gaps.Gapped.fill.Goals as goal
 
 pub loop-i-init : goal.loop-i-init
@@ -29,16 +22,14 @@ unreachable-requires c =
 pub fill_piece-requires-clause-within : goal.fill_piece-requires-clause-within
 fill_piece-requires-clause-within c =
     let l = c.loop-i in
-    let first = filling-first _ l.pieces.items l.i c.in-Some.piece.now l.rest l.end
-    (omega (arith, c.loop-i-test.true, l.invariant.count, c.len-i-end.ensures, l.pieces.ok.0)) c.in-Some.ensures.value l.invariant.filling in
-    first.0
+    (filling-first _ l.pieces.items l.i c.in-Some.piece.now l.rest l.end
+    (omega (arith, c.loop-i-test.true, l.invariant.count, c.len-i-end.ensures, l.pieces.ok.0)) c.in-Some.ensures.value l.invariant.filling).0
 
 pub fill_piece-requires-clause-fits : goal.fill_piece-requires-clause-fits
 fill_piece-requires-clause-fits c =
     let l = c.loop-i in
-    let first = filling-first _ l.pieces.items l.i c.in-Some.piece.now l.rest l.end
-    (omega (arith, c.loop-i-test.true, l.invariant.count, c.len-i-end.ensures, l.pieces.ok.0)) c.in-Some.ensures.value l.invariant.filling in
-    first.1
+    (filling-first _ l.pieces.items l.i c.in-Some.piece.now l.rest l.end
+    (omega (arith, c.loop-i-test.true, l.invariant.count, c.len-i-end.ensures, l.pieces.ok.0)) c.in-Some.ensures.value l.invariant.filling).1
 
 pub loop-i-preserved : goal.loop-i-preserved
 loop-i-preserved c =
@@ -54,18 +45,24 @@ loop-i-preserved c =
           done.filled done.len done.left done.end.0 done.end.1 done.roomy;
     }
 
+-- after the last piece all are done, and none waits
+filling-all : (all : List View) (ps : List Piece) (i count n : ℕ) (rest : View) (end : ℕ) → count ≤ i → count ≡ n → n ≡ length ps
+    → IsFilling all (take i ps) (drop i ps) rest end → IsFilling all ps [] rest end
+filling-all all ps i count n rest end last same size fill =
+    let past : length ps ≤ i = omega arith in
+    subst (λ (qs : List Piece). IsFilling all ps qs rest end) (drop_all i ps past)
+    (subst (λ (qs : List Piece). IsFilling all qs (drop i ps) rest end) (take_all i ps past) fill)
+
 pub invariant_of-row : goal.invariant_of-row
 invariant_of-row c =
     let l = c.loop-i in
-    let all = take_all l.i l.pieces.items (omega (arith, c.loop-i-test.false, l.invariant.count, c.len-i-end.ensures, l.pieces.ok.0)) in
-    subst (IsRow 0) all l.invariant.filling.row
+    (filling-all _ l.pieces.items l.i _ _ _ _ c.loop-i-test.false (c.len-i-end.ensures ∙ sym l.invariant.count) l.pieces.ok.0 l.invariant.filling).row
 
 pub add-requires-clause-fits : goal.add-requires-clause-fits
 add-requires-clause-fits c =
     let l = c.loop-i in
-    let all = take_all l.i l.pieces.items (omega (arith, c.loop-i-test.false, l.invariant.count, c.len-i-end.ensures, l.pieces.ok.0)) in
-    let bytes = ap (λ (ps : List Piece). length (pieces_bytes (views_in ps))) all in
-    omega (arith, l.invariant.filling.ends, l.invariant.filling.fits)
+    let last = filling-all _ l.pieces.items l.i _ _ _ _ c.loop-i-test.false (c.len-i-end.ensures ∙ sym l.invariant.count) l.pieces.ok.0 l.invariant.filling in
+    omega (arith, last.ends, last.fits)
 
 pub add-requires-clause-room : goal.add-requires-clause-room
 add-requires-clause-room c =
@@ -78,25 +75,18 @@ add-requires-clause-room c =
 pub returns-clause-filled : goal.returns-clause-filled
 returns-clause-filled c =
     let l = c.loop-i in
-    let past : length l.pieces.items ≤ l.i = omega (arith, c.loop-i-test.false, l.invariant.count, c.len-i-end.ensures, l.pieces.ok.0) in
-    let all = take_all l.i l.pieces.items past in
-    let none = drop_all l.i l.pieces.items past in
-    let views = filled c.args.rest (segments_in c.self.inside.pieces.items) in
-    let so_far = subst (λ (ps : List Piece). IsFilling views ps (drop l.i l.pieces.items) l.rest l.end) all l.invariant.filling in
-    let last = subst (λ (ps : List Piece). IsFilling views l.pieces.items ps l.rest l.end) none so_far in
-    filled-last views (views_in l.pieces.items) c.add.new.self.views l.rest last.so_far c.add.ensures.added
+    let last = filling-all _ l.pieces.items l.i _ _ _ _ c.loop-i-test.false (c.len-i-end.ensures ∙ sym l.invariant.count) l.pieces.ok.0 l.invariant.filling in
+    filled-last _ (views_in l.pieces.items) c.add.new.self.views l.rest last.so_far c.add.ensures.added
     ∙ ap (λ (g : SegmentRow). filled c.args.rest g.segments) c.self.view_is
 
 pub returns-clause-full : goal.returns-clause-full
 returns-clause-full c =
     let l = c.loop-i in
-    let all = take_all l.i l.pieces.items (omega (arith, c.loop-i-test.false, l.invariant.count, c.len-i-end.ensures, l.pieces.ok.0)) in
-    let row = subst (IsRow 0) all l.invariant.filling.row in
-    add-full (views_in l.pieces.items) c.add.new.self.views l.rest c.add.ensures.added row.full
+    let last = filling-all _ l.pieces.items l.i _ _ _ _ c.loop-i-test.false (c.len-i-end.ensures ∙ sym l.invariant.count) l.pieces.ok.0 l.invariant.filling in
+    add-full (views_in l.pieces.items) c.add.new.self.views l.rest c.add.ensures.added last.row.full
 
 pub returns-clause-roomy : goal.returns-clause-roomy
 returns-clause-roomy c =
     let l = c.loop-i in
-    let all = take_all l.i l.pieces.items (omega (arith, c.loop-i-test.false, l.invariant.count, c.len-i-end.ensures, l.pieces.ok.0)) in
-    let roomy = subst (λ (ps : List Piece). AreViews (views_in ps)) all l.invariant.filling.roomy in
-    add-views (views_in l.pieces.items) c.add.new.self.views l.rest c.add.ensures.added roomy c.add.ensures.view
+    let last = filling-all _ l.pieces.items l.i _ _ _ _ c.loop-i-test.false (c.len-i-end.ensures ∙ sym l.invariant.count) l.pieces.ok.0 l.invariant.filling in
+    add-views (views_in l.pieces.items) c.add.new.self.views l.rest c.add.ensures.added last.roomy c.add.ensures.view

@@ -1,6 +1,5 @@
-use Rattle.std.proofs.Common.{◌≡◌, ◌≤◌, length, take, drop, deque_len, deque_capacity}
-use Rattle.iobufs.specs.Inside.Gaps.{filled, segments_in}
-use Rattle.iobufs.proofs.Building.GapLaws.{IsFilling}
+use Rattle.iobufs.proofs.Text.{deque_capacity, deque_len, drop, filled, length, segments_in, take, ◌≡◌, ◌≤◌}
+use Rattle.iobufs.proofs.Building.{IsFilling}
 use Rattle.iobufs.proofs.bufs.row.gaps.Gapped.fill.Given as goal
 
 abbrev pub invariant-loop-i : goal.invariant-loop-i
