@@ -1,4 +1,4 @@
-"""What is compared with the tree beside the generated parts: names, links, heads of specs, lemmas, imports."""
+"""What is compared with the tree beside the generated parts: names, links, heads of specs, lemmas, imports, layout."""
 import re
 import subprocess
 from collections import Counter
@@ -202,3 +202,9 @@ def faults_of_meanings(found):
         is_value = len({it.split("/")[0] for it in paths}) == 1 and sum(it.endswith(".antt") for it in paths) < 2
         if len(paths) > 1 and not is_value and name not in SHARED:
             yield f"`{name}` has more than one meaning: {', '.join(paths)}"
+
+
+def faults_of_layout(files):
+    """Sources that rt fmt would change: rt ci refuses their crate."""
+    said = subprocess.run([KIT.parent / "bin/rattle", "fmt", "--check", *files], capture_output=True, text=True, check=False)
+    return re.findall(r"^.* is not in the layout$", said.stdout, re.M) or [said.stderr] * (said.returncode != 0)
