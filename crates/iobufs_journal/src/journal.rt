@@ -1,8 +1,8 @@
 // The format: records in order, each a length, a number of eight bytes, a body, and the CRC-32 of both.
-ghost use Rattle.std.specs.Prelude.{◌≡◌, ◌≢◌, ℕ, ◌+◌, ◌^◌, ◌<◌, ◌≤◌, List, [], ◌++◌, length, take, IfErr, IfNone, IfOk, IfSome, IsOkUnless, IsTrue, ◌↔◌, Some};
+ghost use Rattle.std.specs.Prelude.{◌≡◌, ◌+◌, ◌≤◌, ◌++◌, length, IfErr, IfNone, IfOk, IfSome, IsOkUnless, IsTrue, Some, ◌↔◌};
 ghost use Rattle.iobufs_core.specs.Part.{part_put};
 ghost use Rattle.iobufs_journal.specs.Ending.{end_words, ending_text};
-ghost use Rattle.iobufs_journal.specs.Journal.{AreShort, HasNoRecord, HasOneJournal, IsJournal, record_written, records_written, sealed, whole_of};
+ghost use Rattle.iobufs_journal.specs.Journal.{HasNoRecord, record_written, sealed};
 ghost use Rattle.iobufs_journal.specs.JournalLaws.{IsSealed};
 
 use crate::crc::crc32;
@@ -135,18 +135,4 @@ pub fn front_record(
         Err(Error::Memory) => Err(BufError::Memory),
         Err(_) => Ok(Err(JournalEnd::Damaged)),
     }
-}
-
-/// Does nothing. Its contract is three laws. Bytes have one list of records, one end and one rest. Bytes of records have
-/// these records, and are whole. A whole journal with the first bytes of records after it has those of them that are whole,
-/// and isn't damaged: so a writer that ends at any byte leaves what was there and its first records.
-pub fn journal_law(most: usize)
-    ensures one { (text : List ℕ) → HasOneJournal most text }
-    ensures written { (text : List ℕ) (found : List (List ℕ)) (written : List (List ℕ)) (end : JournalEnd) (rest : List ℕ) → AreShort most written
-        → text ≡ records_written 0 written → IsJournal most 0 text found end rest → (found ≡ written) × (end ≡ JournalEnd.Whole) }
-    ensures cut { (n : ℕ) (found lines others : List (List ℕ)) (text rest : List ℕ) (end : JournalEnd) → IsJournal most 0 text found JournalEnd.Whole [] → AreShort most lines
-        → IsJournal most 0 (text ++ take n (records_written (length found) lines)) others end rest
-        → (others ≡ found ++ whole_of (length found) n lines) × (end ≡ JournalEnd.Damaged → ⊥) }
-{
-    let _ = most;
 }

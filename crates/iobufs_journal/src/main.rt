@@ -7,6 +7,7 @@ mod disk;
 mod ending;
 mod failure;
 mod journal;
+mod laws;
 mod lines;
 mod scan;
 
