@@ -127,6 +127,24 @@ fn encoded_into_one_buffer(rt: HostRuntime) {
     end(&rt, word, encoded.as_ref() == b"\x03abc".as_slice());
 }
 
+// A value made of others is read from these chunks, and leaves those.
+fn is_read_whole<T: Look + PartialEq + Drop>(
+    rt: &(impl Print + Abort + AllocGlobal),
+    chunks: &[&'static [u8]],
+    cfg: &T::Cfg,
+    value: &T,
+    left: &[&[u8]],
+) {
+    let mut bufs = gathered(rt.alloc(), chunks).expect(rt, "a fixture");
+    let (read, word) = lent!(
+        *rt,
+        T::read_whole(rt.alloc(), &mut bufs, cfg),
+        Fault::Codec(Error::Memory),
+        shows(&bufs, chunks)
+    );
+    end(rt, word, read == *value && shows(&bufs, left));
+}
+
 // Views in three chunks: a count of two, `wx` in one chunk, and `yz` in two.
 const LISTED: [&'static [u8]; 3] = [b"\x02\x02wx\x02", b"y", b"z!"];
 
@@ -144,6 +162,64 @@ fn a_list_of_bytes_is_read(rt: HostRuntime) {
         &rt,
         word,
         list.values.as_slice() == two.as_slice() && shows(&bufs, &[b"!"]),
+    );
+}
+
+#[test]
+fn an_option_is_read(rt: HostRuntime) {
+    let value = Some(wxyz());
+    is_read_whole(&rt, &[b"\x01\x04w", b"xyz!"], &RANGE, &value, &[b"!"]);
+}
+
+// Six values, each across two chunks: what a tuple is read from makes each of its values once.
+const SIX: [&'static [u8]; 13] = [
+    b"\x04w", b"xyz", b"\x04w", b"xyz", b"\x04w", b"xyz", b"\x04w", b"xyz", b"\x04w", b"xyz",
+    b"\x04w", b"xyz", b"!",
+];
+
+fn wxyz() -> Bytes {
+    Bytes::from_static(b"wxyz")
+}
+
+#[test]
+fn two_values_are_read(rt: HostRuntime) {
+    let value = (wxyz(), wxyz());
+    is_read_whole(&rt, &SIX, &(RANGE, RANGE), &value, &SIX[4..]);
+}
+
+#[test]
+fn three_values_are_read(rt: HostRuntime) {
+    let value = (wxyz(), wxyz(), wxyz());
+    is_read_whole(&rt, &SIX, &(RANGE, RANGE, RANGE), &value, &SIX[6..]);
+}
+
+#[test]
+fn four_values_are_read(rt: HostRuntime) {
+    let value = (wxyz(), wxyz(), wxyz(), wxyz());
+    is_read_whole(&rt, &SIX, &(RANGE, RANGE, RANGE, RANGE), &value, &SIX[8..]);
+}
+
+#[test]
+fn five_values_are_read(rt: HostRuntime) {
+    let value = (wxyz(), wxyz(), wxyz(), wxyz(), wxyz());
+    is_read_whole(
+        &rt,
+        &SIX,
+        &(RANGE, RANGE, RANGE, RANGE, RANGE),
+        &value,
+        &SIX[10..],
+    );
+}
+
+#[test]
+fn six_values_are_read(rt: HostRuntime) {
+    let value = (wxyz(), wxyz(), wxyz(), wxyz(), wxyz(), wxyz());
+    is_read_whole(
+        &rt,
+        &SIX,
+        &(RANGE, RANGE, RANGE, RANGE, RANGE, RANGE),
+        &value,
+        &SIX[12..],
     );
 }
 
