@@ -13,7 +13,7 @@ behind_by : (c d : ℕ) (ds : List ℕ) (t : Bool) → eqb c 48 ≡ t → all_as
 behind_by c d ds true e all small more =
     let is : c ≡ 48 = grind (arith, nat_tests, e) in
     let (zeros, spelled) = more (grind (arith, nat_tests, all)) (subst (λ (c : ℕ). digits_value 10 (c ∷ d ∷ ds) < 2 ^ 64) is small) in
-    subst (λ (c : ℕ). IsNumber (digits_value 10 (c ∷ d ∷ ds)) (c ∷ d ∷ ds)) (sym is) (suc zeros, ap (λ (l : List ℕ). 48 ∷ l) spelled)
+    subst (λ (c : ℕ). IsNumber (digits_value 10 (c ∷ d ∷ ds)) (c ∷ d ∷ ds)) (sym is) (suc zeros, ap (λ (l : List ℕ). 48 ∷ l) {y = replicate zeros 48 ++ decimal (digits_value 10 (d ∷ ds))} spelled)
 behind_by c d ds false e all small more =
     (0, sym (decimal-digits_value own (c ∷ d ∷ ds) all (omega arith) (λ is. absurd (grind (arith, nat_tests, e, is))) small))
 
@@ -110,11 +110,15 @@ pub choose : {A P : Type 0} (one other : Option A) (a : A) (t : Bool) → (t ≡
 choose one other a true here there e = here refl e
 choose one other a false here there e = there refl e
 
+dash_is : (word bytes : List ℕ) → bytes_eq word (codes "-") ≡ true → Some [] ≡ Some bytes → AreBytes bytes × AreDigits bytes word
+dash_is word [] is e = rw (same_word word (codes "-") is) ((λ i. omega arith), refl)
+dash_is word (b ∷ bytes) is e = cc e
+
 -- a word that is read as bytes spells them, and they are bytes
 pub bytes_are : (word bytes : List ℕ) → bytes_of word ≡ Some bytes → AreBytes bytes × AreDigits bytes word
 bytes_are word bytes e =
     choose _ _ bytes (bytes_eq word (codes "-"))
-    (λ is e. let none : bytes ≡ [] = cc in rw (same_word word (codes "-") is, none) ((λ i. omega arith), refl)) (λ _ e.
+    (dash_is word bytes) (λ _ e.
     choose _ _ bytes (eqb (length word) 0) (λ _ e. cc e) (λ len e.
     let read = decoded_some (decode_of word) bytes e in
     let (even, all, twice, small) = decode_of-ok word bytes read in

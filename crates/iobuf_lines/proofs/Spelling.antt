@@ -1,5 +1,6 @@
 -- A line says a command exactly where its words spell it, and a command's own line is such a line.
 use Rattle.iobuf_lines.proofs.Known.{Bound, Included, Excluded, Unbounded, ◌≡◌, ℕ, ◌+◌, ◌-◌, ◌^◌, ◌<◌, ◌≤◌, true, false, List, [], ◌∷◌, length, drop, map, eqb, Option, Some, None, codes, refl, sym, ap, subst, ◌∙◌, arith, if◌then◌else◌, option_and_then, option_map, option_or, bytes_eq, length-drop, length-take-le, eqb-true, nat_tests, both, byte_of, bytes_of, number_of, numbers_of, put_first, words_of, AreBytes, AreNumbers, line_of_words, PlainItem, Inline, Push, Command, NewMut, Zeroed, Adopt, FromBytes, Fill, SetLen, Truncate, Clear, Overwrite, Recover, Split, Gather, GatherMut, Append, Prepend, Coalesce, Build, Encode, Decode, Verb, only_word, of_both, Three, three, one_number, two_numbers, three_numbers, lone_bytes_of, bytes_for_of, numbers_for_of, byte_and_one_of, fill_of, decode_said, bounds_of, last_bound_of, bounds_for_of, bounds_for, slice_said, bound_said, item_of, items_of, items_for_of, build_of, letters, letters_of, acting_of, making_of, said_by, static_said, verb_of, command_by, command_of, SpelledWord, Named, Number, Byte, Digits, Behind, Spells, AreSpelled, written, bound_word, item_word, words_from, StandsAt, IsLineOf, first_letter, first_of, line_of_command, BoundFits, ItemsFit, CommandFits, cond_some, option_and_then_some, bytes_command, numbers_command, one_command, three_command, two_command}
+use Rattle.std.proofs.lemmas.Option.{none-some}
 use Rattle.iobuf_lines.proofs.WordLaws.{AreSpaceless, Lacks, spaceless_decimal, spaceless_bytes, words_joined}
 use Rattle.iobuf_lines.specs.Buffers.Commands.{Static, Put, Freeze, Clone, Slice, Advance, Take, Drop, Show}
 use Rattle.iobuf_lines.specs.declared.buffers.line.Verb.TheVariants as verb
@@ -84,6 +85,9 @@ record Shape {C : Type 0} (read : List (List ℕ) → Option C) : Type 1 where
   is : (texts : List (List ℕ)) (c : C) → read texts ≡ Some c → (a : Value) × (make a ≡ c) × AreSpelled (words a) texts
   back : (texts : List (List ℕ)) (a : Value) → AreSpelled (words a) texts → read texts ≡ Some (make a)
 
+same_value : {A : Type 0} {o : Option A} {a b : A} → o ≡ Some a → o ≡ Some b → a ≡ b
+same_value at e = cc (at, e)
+
 lone_is : {A : Type 0} {read : List ℕ → Option A} {word : A → SpelledWord} → Reads read word → (text : List ℕ) (a : A) (o : Option A) (texts : List (List ℕ))
     → read text ≡ o → only_word o texts ≡ Some a → (b : A) × (b ≡ a) × AreSpelled (word b ∷ []) (text ∷ texts)
 lone_is reads text a (Some x) [] at e = (a, refl, (reads.is text a (at ∙ e), tt))
@@ -95,7 +99,7 @@ abbrev lone : {A : Type 0} {read : List ℕ → Option A} {word : A → SpelledW
 lone {A} {read} {word} whole reads none some = record { Value = A; words = λ a. word a ∷ []; make = λ a. a; is = is; back = back }
   where
     is : (texts : List (List ℕ)) (a : A) → whole texts ≡ Some a → (b : A) × (b ≡ a) × AreSpelled (word b ∷ []) texts
-    is [] a e = cc (none, e)
+    is [] a e = absurd (none-some a (sym none ∙ e))
     is (text ∷ texts) a e = lone_is reads text a (read text) texts refl (sym (some text texts) ∙ e)
 
     back : (texts : List (List ℕ)) (a : A) → AreSpelled (word a ∷ []) texts → whole texts ≡ Some a
@@ -126,7 +130,7 @@ led {A} {C} {D} {read} {word} {behind} join whole reads shape none some = record
   where
     is : (texts : List (List ℕ)) (d : D) → whole texts ≡ Some d
         → (a : A × shape.Value) × (join a.0 (shape.make a.1) ≡ d) × AreSpelled (word a.0 ∷ shape.words a.1) texts
-    is [] d e = cc (none, e)
+    is [] d e = absurd (none-some d (sym none ∙ e))
     is (text ∷ texts) d e = led_is join reads shape text texts d (read text) (behind texts) refl refl (sym (some text texts) ∙ e)
 
     back : (texts : List (List ℕ)) (a : A × shape.Value) → AreSpelled (word a.0 ∷ shape.words a.1) texts → whole texts ≡ Some (join a.0 (shape.make a.1))
@@ -162,7 +166,7 @@ each {A} {read} {word} whole reads none some = record {
 }
   where
     is : (texts : List (List ℕ)) (xs : List A) → whole texts ≡ Some xs → AreSpelled (map word xs) texts
-    is [] xs e = let nothing : [] ≡ xs = cc (none, e) in rw (← nothing) tt
+    is [] xs e = rw (← same_value none e) tt
     is (text ∷ texts) xs e = each_is reads text texts xs (read text) (whole texts) refl (is texts) (sym (some text texts) ∙ e)
 
     back : (texts : List (List ℕ)) (xs : List A) → AreSpelled (map word xs) texts → whole texts ≡ Some xs
@@ -185,7 +189,7 @@ mapped {C} {D} {read} make shape = record {
     is texts d e =
         let (c, at, made) = made_of make (read texts) d e in
         let (a, same, spelled) = shape.is texts c at in
-        (a, cc (made, same), spelled)
+        (a, ap make same ∙ made, spelled)
 
 abbrev one : Shape one_number
 one = lone one_number number refl (λ text texts. refl)
@@ -421,12 +425,14 @@ items_written [] fit = tt
 items_written (Inline bytes ∷ items) fit = (letter_written 105 (Digits bytes) refl (digits_written bytes fit.0), items_written items fit.1)
 items_written (Push name ∷ items) fit = (letter_written 112 (Number name) refl (number_written name fit.0), items_written items fit.1)
 
+ruleset word_rules = (name_written, number_written, byte_written, digits_written, bound_written, numbers_written, items_written)
+
 own_written : (command : Command) → CommandFits command → AreWritten (words_from (first_of command) command)
 own_written (Static dst text) (d, low, spells) =
     let first : first_letter text < 2 ^ 64 = omega (arith, low) in
     let end : first_letter text + length text < 2 ^ 64 = omega (arith, low) in
-    search (name_written, number_written)
-own_written command fits = search (name_written, number_written, byte_written, digits_written, bound_written, numbers_written, items_written)
+    search word_rules
+own_written command fits = search word_rules
 
 -- no list of words of a command is empty
 words_of_line : (words : List (List ℕ)) (command : Command) → AreSpaceless words → command_by words ≡ Some command

@@ -80,7 +80,9 @@ pub shared_out-behind : (empty parts : List Part) (n : ℕ) → length (parts_fi
 shared_out-behind [] parts n none = refl
 shared_out-behind (p ∷ empty) parts n none =
     let both = length-append p.filled (parts_filled empty) in
-    let rest = ap (parts_shared_out (empty ++ parts)) (omega (arith, both, none)) ∙ shared_out-behind empty parts n (omega (arith, both, none)) in
+    let bare : length (parts_filled empty) ≡ 0 = omega (arith, both, none) in
+    let all : n - length p.filled ≡ n = omega (arith, both, none) in
+    let rest = ap (parts_shared_out (empty ++ parts)) all ∙ shared_out-behind empty parts n bare in
     λ i. (drained-empty p n (omega (arith, both, none))) i ∷ rest i
 
 -- all parts of two rows can hold a byte, and those of each

@@ -137,7 +137,7 @@ pub kept-same : (parts : List Part) → 0 < length parts → (1 < length parts �
 kept-same [] some able = absurd (omega arith)
 kept-same (p ∷ []) some able =
     by_lt 0 (part_capacity p) (λ more. kept-all (p ∷ []) (more, tt) (omega arith))
-    (λ none. cc (spent-empty p (omega arith), with_capacity-none p [] (omega arith)))
+    (λ none. cc (spent-empty p (omega arith)))
 kept-same (p ∷ q ∷ parts) some able = kept-all (p ∷ q ∷ parts) (able (omega arith)) (omega arith)
 
 -- parts that lose bytes are those of them that are kept then

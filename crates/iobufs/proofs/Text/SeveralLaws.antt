@@ -90,4 +90,4 @@ last-view (v ∷ []) (x ∷ xs) chunk e =
 last-view (v ∷ w ∷ vs) [] chunk e = let n = ap (λ (xs : List (List ℕ)). length xs) e in absurd (omega arith)
 last-view (v ∷ w ∷ vs) (x ∷ xs) chunk e =
     let ih = last-view (w ∷ vs) xs chunk (cc) in
-    record { before = v ∷ ih.before; last = ih.last; is = ap (λ us. v ∷ us) ih.is; bytes = ih.bytes }
+    record { before = v ∷ ih.before; last = ih.last; is = ap (λ us. v ∷ us) {y = ih.before ++ ih.last ∷ []} ih.is; bytes = ih.bytes }

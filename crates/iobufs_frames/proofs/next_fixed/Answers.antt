@@ -1,9 +1,8 @@
-use Rattle.std.proofs.Common.{◌≡◌, ◌+◌, ◌∙◌, arith, ap, length, subst, sym}
+use Rattle.std.proofs.Common.{◌≡◌, ◌∙◌, arith, length, sym}
 use Rattle.std.proofs.Common.{inl, inr}
 use Rattle.std.proofs.lemmas.Bool.{false≢true}
 use Rattle.iobufs_core.proofs.LengthFacts.{less}
-use Rattle.iobufs_core.specs.MarkedText.{MarkedText, taken_view, text_len, text_rest}
-use Rattle.iobufs_frames.specs.Prefixes.{IsLengthAt, prefix_written}
+use Rattle.iobufs_frames.specs.Prefixes.{prefix_written}
 use Rattle.iobufs_frames.specs.declared.lengths.Prefix.TheVariants.{Fixed}
 use Rattle.iobufs_frames.proofs.PrefixFacts.{form_of}
 use Rattle.iobufs_frames.proofs.PrefixLaws.{IsTakenWith, taken-with, wanted-with, within-with}

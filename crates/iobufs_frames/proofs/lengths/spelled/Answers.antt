@@ -1,4 +1,4 @@
-use Rattle.std.proofs.Common.{◌≡◌, ◌∙◌, ℕ, ◌+◌, ◌%◌, ◌/◌, ◌<◌, Bool, true, false, Result, Ok, Err, List, [], ◌∷◌, length, nat_lt, if◌then◌else◌, IfOk, ap, refl, arith}
+use Rattle.std.proofs.Common.{◌≡◌, ◌∙◌, ℕ, ◌+◌, ◌%◌, ◌/◌, ◌<◌, Bool, true, false, Result, Ok, Err, List, [], ◌∷◌, length, nat_lt, if◌then◌else◌, IfOk, ap, arith}
 use Rattle.std.proofs.lemmas.Bool.Decides.{nat_tests}
 use Rattle.std.proofs.lemmas.Grind.{common_steps}
 use Rattle.iobufs_core.specs.Part.{Part, part_frozen}
