@@ -1,5 +1,5 @@
 use Rattle.iobufs.proofs.Text.{ap, arith, chunks-kept, full-kept, length-kept, none-shown, some_views, sym, take, ◌∙◌}
-use Rattle.iobufs.proofs.bufs.IoBufsBuf.chunks_vectored.Goals as goal
+use Rattle.iobufs.proofs.bufs.reading.IoBufsBuf.chunks_vectored.Goals as goal
 
 pub returns-clause-ok : goal.returns-clause-ok
 returns-clause-ok c =

@@ -1,5 +1,5 @@
 use Rattle.iobufs.proofs.Text.{Inside, List, MarkedText, View, [], advanced-one, ap, arith, length, length-bytes, length-kept, of_pieces, pieced-as, pieces_bytes, refl, single-more, sym, text_advanced, text_of, text_rest, views, ◌<◌, ◌∙◌, ◌∷◌, ◌≡◌}
-use Rattle.iobufs.proofs.bufs.IoBufsBuf.advance.Goals as goal
+use Rattle.iobufs.proofs.bufs.reading.IoBufsBuf.advance.Goals as goal
 
 pub advance-requires : goal.advance-requires
 advance-requires c =

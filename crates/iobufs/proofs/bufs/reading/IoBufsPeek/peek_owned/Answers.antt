@@ -1,5 +1,5 @@
 use Rattle.iobufs.proofs.Text.{View, ap, length, taken_view, taken_view-none, ◌∙◌}
-use Rattle.iobufs.proofs.bufs.IoBufsPeek.peek_owned.Goals as goal
+use Rattle.iobufs.proofs.bufs.reading.IoBufsPeek.peek_owned.Goals as goal
 
 pub returns-clause-nothing : goal.returns-clause-nothing
 returns-clause-nothing g c = λ none.
