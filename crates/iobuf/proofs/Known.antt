@@ -1,5 +1,7 @@
 -- Names that proofs cite from std, from other crates and from `specs/`.
-pub use Rattle.std.proofs.Common.{Bool, Err, IfErr, IfSome, List, None, Ok, Option, Result, Some, [], ap, append-nil, append_assoc, arith, codes, cond, drop, eqb, false, flat_map, get_or, inl, inr, length, length-append, map, nat_lt, refl, replicate, slice_index, subst, suc, sym, take, take-append-drop, true, zero, ℕ, ◌++◌, ◌+◌, ◌-◌, ◌<◌, ◌∙◌, ◌∷◌, ◌≡◌, ◌≤◌}
+pub use Rattle.std.proofs.Common.{Bool, Err, IfErr, IfSome, List, None, Ok, Option, Result, Some, [], ap, append-nil, append_assoc, arith, codes, cond, drop}
+pub use Rattle.std.proofs.Common.{eqb, false, flat_map, get_or, inl, inr, length, length-append, map, nat_lt, refl, replicate, slice_index, subst, suc, sym}
+pub use Rattle.std.proofs.Common.{take, take-append-drop, true, zero, ℕ, ◌++◌, ◌+◌, ◌-◌, ◌<◌, ◌∙◌, ◌∷◌, ◌≡◌, ◌≤◌}
 pub use Rattle.std.proofs.KnownBytes.{Appends-kept, Appends-nil, Appends-trans}
 pub use Rattle.std.proofs.Math.Dec.{eqb-suc-zero}
 pub use Rattle.std.proofs.Math.Seq.{take-append_seam, take-length}

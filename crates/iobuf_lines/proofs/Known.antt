@@ -1,5 +1,8 @@
 -- Names that proofs cite from std, from other crates and from `specs/`.
-pub use Rattle.std.proofs.Common.{Bool, Err, Global, IfErr, IfSome, List, MatchOption, None, Ok, OnErr, OnOk, Option, Result, Some, Vec, [], add-one, ap, append-nil, append_assoc, arith, codes, drop, eqb, false, flat_map, get_or, inl, inr, is_ok, length, length-append, map, nat_lt, ne_eqb, refl, replicate, string_bytes, subst, suc, sym, take, take-append-drop, take_all, true, unwrap_or, zero, ℕ, ◌%◌, ◌&&◌, ◌*◌, ◌++◌, ◌+◌, ◌-◌, ◌/◌, ◌<◌, ◌^◌, ◌∙◌, ◌∷◌, ◌≡◌, ◌≢◌, ◌≤◌, ◌⊎◌}
+pub use Rattle.std.proofs.Common.{Bool, Err, Global, IfErr, IfSome, List, MatchOption, None, Ok, OnErr, OnOk, Option, Result, Some, Vec, [], add-one, ap}
+pub use Rattle.std.proofs.Common.{append-nil, append_assoc, arith, codes, drop, eqb, false, flat_map, get_or, inl, inr, is_ok, length, length-append, map}
+pub use Rattle.std.proofs.Common.{nat_lt, ne_eqb, refl, replicate, string_bytes, subst, suc, sym, take, take-append-drop, take_all, true, unwrap_or, zero, ℕ}
+pub use Rattle.std.proofs.Common.{◌%◌, ◌&&◌, ◌*◌, ◌++◌, ◌+◌, ◌-◌, ◌/◌, ◌<◌, ◌^◌, ◌∙◌, ◌∷◌, ◌≡◌, ◌≢◌, ◌≤◌, ◌⊎◌}
 pub use Rattle.std.proofs.lemmas.Bool.{eq-eqb, eqb-true, false_from_ne_true}
 pub use Rattle.std.proofs.lemmas.Bool.Decides.{nat_tests}
 pub use Rattle.std.proofs.lemmas.Fmt.{decimal-digits_value, decimal_injective, decimal_is_IsNumeral}
@@ -55,15 +58,23 @@ pub use Rattle.iobufs_run.specs.declared.command.Reply.{Reply}
 pub use Rattle.iobufs_run.specs.declared.command.Reply.TheVariants.{Bytes, Done, Refused, Shown}
 pub use Rattle.iobufs_run.specs.declared.table.Slot.{Slot}
 pub use Rattle.memchr.specs.Find.{IsFirstByte, is_byte}
-pub use Rattle.iobuf_lines.specs.Buffers.Commands.{Adopt, Append, Build, Clear, Coalesce, Command, Decode, Encode, Fill, FromBytes, Gather, GatherMut, Inline, NewMut, Overwrite, PlainItem, Prepend, Push, Recover, SetLen, Split, Truncate, Zeroed, plain_item}
-pub use Rattle.iobuf_lines.specs.Buffers.Printed.{IsReplied, OneReplyALine, PieceFits, PiecesFit, RefusalFits, ReplyFits, held_text, kind_text, piece_text, reply_text}
-pub use Rattle.iobuf_lines.specs.Buffers.Said.{acting_of, bytes_command, command_by, command_of, making_of, numbers_command, one_command, said_by, static_said, three_command, two_command, verb_of}
-pub use Rattle.iobuf_lines.specs.Buffers.Shapes.{Three, bound_said, bounds_for, bounds_for_of, bounds_of, build_of, byte_and_one_of, bytes_for_of, decode_said, fill_of, item_of, items_for_of, items_of, last_bound_of, letters, letters_of, lone_bytes_of, numbers_for_of, of_both, one_number, only_word, slice_said, three, three_numbers, two_numbers}
-pub use Rattle.iobuf_lines.specs.Buffers.Spelled.{AreDigits, AreSpelled, BoundFits, Byte, CommandFits, Digits, IsLineOf, IsNumber, ItemsFit, Number, SpelledWord, Spells, StandsAt, Behind, Verb as Named, bound_word, first_letter, first_of, item_word, line_of_command, lower_digit, words_from, written}
+pub use Rattle.iobuf_lines.specs.Buffers.Commands.{Adopt, Append, Build, Clear, Coalesce, Command, Decode, Encode, Fill, FromBytes, Gather, GatherMut, Inline}
+pub use Rattle.iobuf_lines.specs.Buffers.Commands.{NewMut, Overwrite, PlainItem, Prepend, Push, Recover, SetLen, Split, Truncate, Zeroed, plain_item}
+pub use Rattle.iobuf_lines.specs.Buffers.Printed.{IsReplied, OneReplyALine, PieceFits, PiecesFit, RefusalFits, ReplyFits, held_text, kind_text, piece_text}
+pub use Rattle.iobuf_lines.specs.Buffers.Printed.{reply_text}
+pub use Rattle.iobuf_lines.specs.Buffers.Said.{acting_of, bytes_command, command_by, command_of, making_of, numbers_command, one_command, said_by}
+pub use Rattle.iobuf_lines.specs.Buffers.Said.{static_said, three_command, two_command, verb_of}
+pub use Rattle.iobuf_lines.specs.Buffers.Shapes.{Three, bound_said, bounds_for, bounds_for_of, bounds_of, build_of, byte_and_one_of, bytes_for_of}
+pub use Rattle.iobuf_lines.specs.Buffers.Shapes.{decode_said, fill_of, item_of, items_for_of, items_of, last_bound_of, letters, letters_of, lone_bytes_of}
+pub use Rattle.iobuf_lines.specs.Buffers.Shapes.{numbers_for_of, of_both, one_number, only_word, slice_said, three, three_numbers, two_numbers}
+pub use Rattle.iobuf_lines.specs.Buffers.Spelled.{AreDigits, AreSpelled, BoundFits, Byte, CommandFits, Digits, IsLineOf, IsNumber, ItemsFit, Number}
+pub use Rattle.iobuf_lines.specs.Buffers.Spelled.{SpelledWord, Spells, StandsAt, Behind, Verb as Named, bound_word, first_letter, first_of, item_word}
+pub use Rattle.iobuf_lines.specs.Buffers.Spelled.{line_of_command, lower_digit, words_from, written}
 pub use Rattle.iobuf_lines.specs.Owner.Printed.{answer_text, block_text, number_text, step_reply_text}
 pub use Rattle.iobuf_lines.specs.Owner.Said.{act_by, ask_by, ask_in, ask_of, call_of, grant_of, setup_by, setup_in, setup_of, width_of}
 pub use Rattle.iobuf_lines.specs.Owner.Session.{Answers, AreAnswered, MakesRoom, answers_to_steps, steps_of, with_line_end}
-pub use Rattle.iobuf_lines.specs.Owner.Spelled.{AskFits, FitsAct, FitsSetup, call_verb, denial, first_word_of, line_of_ask, line_of_setup, numbers_in, other_words_of, verb_of_act, words_behind}
+pub use Rattle.iobuf_lines.specs.Owner.Spelled.{AskFits, FitsAct, FitsSetup, call_verb, denial, first_word_of, line_of_ask, line_of_setup, numbers_in}
+pub use Rattle.iobuf_lines.specs.Owner.Spelled.{other_words_of, verb_of_act, words_behind}
 pub use Rattle.iobuf_lines.specs.Reading.{words_left}
 pub use Rattle.iobuf_lines.specs.Spelled.{AreBytes, AreNumbers, hex_text, line_of_words, two_digits}
 pub use Rattle.iobuf_lines.specs.Words.{both, byte_of, bytes_of, decoded, first_number, number_below, number_of, numbers_of, put_first, words_of}

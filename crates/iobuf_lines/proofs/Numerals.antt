@@ -13,7 +13,8 @@ behind_by : (c d : ℕ) (ds : List ℕ) (t : Bool) → eqb c 48 ≡ t → all_as
 behind_by c d ds true e all small more =
     let is : c ≡ 48 = grind (arith, nat_tests, e) in
     let (zeros, spelled) = more (grind (arith, nat_tests, all)) (subst (λ (c : ℕ). digits_value 10 (c ∷ d ∷ ds) < 2 ^ 64) is small) in
-    subst (λ (c : ℕ). IsNumber (digits_value 10 (c ∷ d ∷ ds)) (c ∷ d ∷ ds)) (sym is) (suc zeros, ap (λ (l : List ℕ). 48 ∷ l) {y = replicate zeros 48 ++ decimal (digits_value 10 (d ∷ ds))} spelled)
+    let behind = ap (λ (l : List ℕ). 48 ∷ l) {y = replicate zeros 48 ++ decimal (digits_value 10 (d ∷ ds))} spelled in
+    subst (λ (c : ℕ). IsNumber (digits_value 10 (c ∷ d ∷ ds)) (c ∷ d ∷ ds)) (sym is) (suc zeros, behind)
 behind_by c d ds false e all small more =
     (0, sym (decimal-digits_value own (c ∷ d ∷ ds) all (omega arith) (λ is. absurd (grind (arith, nat_tests, e, is))) small))
 

@@ -1,4 +1,4 @@
-// What is read and taken from the front: of the first piece here, of those after it in `pieces`.
+// Reading a text: its first piece here, those after it through `pieces`.
 ghost use Rattle.iobufs_core.specs.Chunks.{first_chunk};
 ghost use Rattle.iobufs_core.specs.MarkedText.{taken_view, text_chunks, text_len, text_rest, text_advanced};
 ghost use Rattle.iobufs_core.specs.View.{bytes_mark, static_mark};

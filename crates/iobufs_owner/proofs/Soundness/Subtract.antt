@@ -9,7 +9,7 @@ afterwards r n = cond (n == 1) (Some (Release r)) None
 abbrev pub subtracted : State → ℕ → ℕ → State
 subtracted s p r = called (with_count s r ((record_at s.tables r).count - 1)) p (afterwards r (record_at s.tables r).count)
 
--- what holds of a release, where n is 1, and else of no call, holds of the call afterwards
+-- a property of a release if n is 1, and else of no call, is one of the call afterwards
 afterwards-by : (P : Option Pending → Type 0) (r n : ℕ) → (n ≡ 1 → P (Some (Release r))) → (n ≢ 1 → P None) → P (afterwards r n)
 afterwards-by P r n some none = elim (eqb_tells n 1) [ inl i ↦ rw i.0 (some i.1) | inr i ↦ rw i.0 (none i.1) ]
 
