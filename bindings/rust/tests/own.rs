@@ -279,7 +279,8 @@ const FED: [Fed; 14] = [
     ("an open u16", Prefix::U16Be, 1024, &[b"\x01\x02ab"], b"\x01\x02ab", None),
 ];
 
-// Takes each frame as soon as it is whole, and compares the bodies, the number of bytes that are left, and the end.
+// Takes each frame as soon as it is whole, and compares the bodies, the number of bytes that are left, and the end: another
+// call has the same one.
 fn assert_fed(case: Fed, chunks: &[&[u8]]) {
     let (name, prefix, most, _, wanted, end) = case;
     let (mut frames, mut found, mut stop) = (Frames::new(prefix), Vec::new(), None);
@@ -294,7 +295,9 @@ fn assert_fed(case: Fed, chunks: &[&[u8]]) {
         };
     }
     let (bodies, rest) = wanted.split_at(wanted.len() - frames.len());
-    assert_eq!((&found[..], stop), (bodies, end), "{name}: {chunks:?}");
+    let again = frames.next(..=most);
+    assert_eq!((&found[..], stop, again), (bodies, end, end.map_or(Ok(None), Err)), "{name}: {chunks:?}");
+    assert_eq!(frames.len(), rest.len(), "{name}: {chunks:?}");
     assert!(!rest.contains(&b'|'), "{name}: {chunks:?}");
 }
 
