@@ -171,7 +171,7 @@ fn an_option_is_read(rt: HostRuntime) {
     is_read_whole(&rt, &[b"\x01\x04w", b"xyz!"], &RANGE, &value, &[b"!"]);
 }
 
-// Six values, each across two chunks: what a tuple is read from makes each of its values once.
+// Six values, each across two chunks. A tuple makes each of its values once.
 const SIX: [&'static [u8]; 13] = [
     b"\x04w", b"xyz", b"\x04w", b"xyz", b"\x04w", b"xyz", b"\x04w", b"xyz", b"\x04w", b"xyz",
     b"\x04w", b"xyz", b"!",
