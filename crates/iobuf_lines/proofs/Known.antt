@@ -29,7 +29,6 @@ pub use Rattle.std.specs.Option.{option_and_then, option_map, option_or}
 pub use Rattle.std.specs.Prelude.{if◌then◌else◌, is_some, slice_get, slice_index}
 pub use Rattle.std.specs.Str.{IsUtf8, all_ascii_digits, bytes_eq}
 pub use Rattle.std.specs.Str.Parse.{AllDigits, digits_value}
-pub use Rattle.std.specs.declared.alloc.AllocError.{AllocError}
 pub use Rattle.std.specs.declared.ops.Bound.{Bound}
 pub use Rattle.std.specs.declared.ops.Bound.TheVariants.{Excluded, Included, Unbounded}
 pub use Rattle.hex.proofs.HexLemmas.{IsAscii-encode_with, IsDigits-lower_digits, decode_of-even, decode_of-ok, decode_pairs-encode_with, length-encode_with}

@@ -23,7 +23,7 @@ spaceless_act (Begin call memory) h =
     ((verb_says call).0, spaceless_joined (map decimal (numbers_in call)) (denial memory) (spaceless_numbers (numbers_in call) h) (denial_says memory).0)
 
 spaceless_ask : (ask : Ask) → AskFits ask → AreSpaceless (first_word_of ask ∷ other_words_of ask)
-spaceless_ask (Take step) h = (spaceless_decimal step.party h.0, spaceless_act step.act h.1)
+spaceless_ask (Take step) h = (spaceless_decimal step.thread h.0, spaceless_act step.act h.1)
 spaceless_ask (Look (Handle n)) h = ((assumption), (spaceless_decimal n h, tt))
 spaceless_ask (Look (Record n)) h = ((assumption), (spaceless_decimal n h, tt))
 spaceless_ask (Look Freed) h = (assumption)
@@ -50,8 +50,8 @@ number_is_not n word low none =
 
 ask_says : (ask : Ask) → AskFits ask → ask_by (first_word_of ask) (other_words_of ask) ≡ Some ask
 ask_says (Take step) h =
-    let no = λ (word : List ℕ) (none : number_of word ≡ None). number_is_not step.party word h.0 none in
-    rw (no (codes "handle") refl, no (codes "record") refl, no (codes "freed") refl, number_spelled step.party h.0, act_says step.act h.1)
+    let no = λ (word : List ℕ) (none : number_of word ≡ None). number_is_not step.thread word h.0 none in
+    rw (no (codes "handle") refl, no (codes "record") refl, no (codes "freed") refl, number_spelled step.thread h.0, act_says step.act h.1)
 ask_says (Look (Handle n)) h = ap (option_map (λ n. Look (Handle n))) (number_spelled n h)
 ask_says (Look (Record n)) h = ap (option_map (λ n. Look (Record n))) (number_spelled n h)
 ask_says (Look Freed) h = refl
@@ -62,7 +62,7 @@ line_asks ask h = ap ask_in (words_joined (first_word_of ask) (other_words_of as
 
 -- ---- the first line
 
-fits_by : (setup : Setup) → FitsSetup setup → setup_by setup.parties setup.ceiling setup.is_wide ≡ Some setup
+fits_by : (setup : Setup) → FitsSetup setup → setup_by setup.threads setup.ceiling setup.is_wide ≡ Some setup
 fits_by setup h = grind (arith, nat_tests, h.few, h.some)
 
 abbrev width_word : Bool → List ℕ
@@ -75,8 +75,8 @@ width_says false = (assumption)
 -- the line of a machine that fits asks for it
 pub line_asks_for : (setup : Setup) → FitsSetup setup → setup_of (line_of_setup setup) ≡ Some setup
 line_asks_for setup h =
-    let low : setup.parties < 2 ^ 64 = omega (arith, h.few) in
+    let low : setup.threads < 2 ^ 64 = omega (arith, h.few) in
     let (plain, width) = width_says setup.is_wide in
-    let words = words_joined (codes "machine") (decimal setup.parties ∷ decimal setup.ceiling ∷ width_word setup.is_wide ∷ [])
-    ((assumption), (spaceless_decimal setup.parties low, (spaceless_decimal setup.ceiling h.low, (plain, tt)))) in
-    ap setup_in words ∙ rw (number_spelled setup.parties low, number_spelled setup.ceiling h.low, width) (fits_by setup h)
+    let words = words_joined (codes "machine") (decimal setup.threads ∷ decimal setup.ceiling ∷ width_word setup.is_wide ∷ [])
+    ((assumption), (spaceless_decimal setup.threads low, (spaceless_decimal setup.ceiling h.low, (plain, tt)))) in
+    ap setup_in words ∙ rw (number_spelled setup.threads low, number_spelled setup.ceiling h.low, width) (fits_by setup h)

@@ -1,9 +1,9 @@
 -- The steps among what is asked are a run of the machine.
-use Rattle.iobuf_lines.proofs.Known.{◌≡◌, inl, inr, ℕ, ◌+◌, ◌≤◌, length, arith, List, [], ◌∷◌, ◌++◌, map, refl, sym, ap, subst, Result, Ok, Err, OnOk, OnErr, AllocError, Promises, GrowingRuns, Seen, KeepsRoom, Ask, Take, Look, step_reply_text, AreAnswered, Answers, MakesRoom, answers_to_steps, steps_of}
+use Rattle.iobuf_lines.proofs.Known.{◌≡◌, inl, inr, ℕ, ◌+◌, ◌≤◌, length, arith, List, [], ◌∷◌, ◌++◌, map, refl, sym, ap, subst, Result, Ok, Err, OnOk, OnErr, Promises, GrowingRuns, Seen, KeepsRoom, Ask, Take, Look, step_reply_text, AreAnswered, Answers, MakesRoom, answers_to_steps, steps_of}
 use Rattle.iobufs_owner.specs.declared.owner.types.Reply.{Reply}
 
 -- room was made, or nothing has changed
-pub room_made : (m grown : Seen) (result : Result (Unit {0}) AllocError) → grown.state ≡ m.state → KeepsRoom m.room grown.room
+pub room_made : {E : Type 0} (m grown : Seen) (result : Result (Unit {0}) E) → grown.state ≡ m.state → KeepsRoom m.room grown.room
     → OnOk result (length m.state.tables.blocks + 1 ≤ grown.room.blocks) → OnOk result (length m.state.handles + 1 ≤ grown.room.handles)
     → OnOk result (length m.state.tables.records + 1 ≤ grown.room.records) → OnErr result (grown ≡ m) → MakesRoom m grown
 room_made m grown (Ok done) e k blocks handles records same =

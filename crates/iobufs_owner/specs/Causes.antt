@@ -104,7 +104,7 @@ cause_at w (Go memory) (Some c) = cause_gone w c
 
 -- against a step
 abbrev pub cause_of : World → Step → Option Refusal
-cause_of w step = if nat_lt step.party (length w.calls) then cause_at w step.act (going_at w step.party) else Some Idle
+cause_of w step = if nat_lt step.thread (length w.calls) then cause_at w step.act (going_at w step.thread) else Some Idle
 
 -- whether the step may take memory
 abbrev pub may_take : Act → Bool

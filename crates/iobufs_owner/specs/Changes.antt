@@ -51,7 +51,7 @@ with_handle s x = record s { handles = s.handles ++ Some x ∷ [] }
 abbrev pub made : State → Handle → Outcome
 made s x = record { reply = Made (length s.handles); state = with_handle s x }
 
--- the party's call is another from now on, or none
+-- the thread's call is another from now on, or none
 abbrev pub called : State → ℕ → Option Pending → State
 called s p c = record s { calls = slice_set s.calls p c }
 

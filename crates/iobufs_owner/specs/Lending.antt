@@ -1,13 +1,15 @@
 -- Which handle a call may have, or the first cause against it.
 --     borrows_it, is_lent                             an unfinished clone or slice has the handle; one of the calls
 --                                                     has
+--     Calling, handle_of, lends                       the calls, and of how many handles borrowers are counted; the
+--                                                     handle that a call borrows; and whether it is this one
 --     lend_of, lend_any_of                            a handle that a call must have alone: of a kind, and of any
 --     lend_owning_of, lend_owning_view_of             a handle that holds a block and that a call must have alone;
 --                                                     and such a view
 --     lend_view_of                                    a view to be shared, which others may borrow meanwhile
 --     is_empty                                        the word of a handle without block
 --     Lends                                           a handle of that number and kind, borrowed by none
-use Rattle.std.specs.Prelude.{◌≡◌, ℕ, ◌==◌, ◌&&◌, not, Bool, true, false, List, Option, Some, Result}
+use Rattle.std.specs.Prelude.{◌≡◌, ℕ, ◌==◌, ◌&&◌, not, Bool, true, false, List, Option, None, Some, Result}
 use Rattle.std.specs.List.{list_any}
 use Rattle.iobufs_owner.specs.Types.{Handle, Kind, View, Word, Empty, Pending, Loaded, Ready, Add, Refusal}
 use Rattle.iobufs_owner.specs.Kinds.{same_kind, asked}
@@ -18,6 +20,22 @@ borrows_it h (Some (Loaded k w)) = k.handle == h
 borrows_it h (Some (Ready k w r)) = k.handle == h
 borrows_it h (Some (Add k r)) = k.handle == h
 borrows_it h call = false
+
+-- the machine's calls, with the number of handles whose borrowers are counted
+pub record Calling : Type 0 where
+  pub items : List (Option Pending)
+  pub handles : ℕ
+
+-- the handle that a call borrows
+abbrev pub handle_of : Option Pending → Option ℕ
+handle_of (Some (Loaded k w)) = Some k.handle
+handle_of (Some (Ready k w r)) = Some k.handle
+handle_of (Some (Add k r)) = Some k.handle
+handle_of call = None
+
+abbrev pub lends : ℕ → Option ℕ → Bool
+lends h None = false
+lends h (Some k) = k == h
 
 -- whether one of the calls borrows the handle
 abbrev pub is_lent : ℕ → List (Option Pending) → Bool

@@ -3,7 +3,7 @@
 --     Runs                     a list of steps with its replies, from one state to another
 --     ends_call                a refusal that ends the call that it meets
 --     taken_after, taken_of    how many steps of its call a thread has executed: by a reply, and at most, by the call
---     EndsInFour               no call of the party is unfinished after four steps
+--     EndsInFour               no call of the thread is unfinished after four steps
 use Rattle.std.specs.Prelude.{◌≡◌, ℕ, ◌+◌, ◌-◌, ◌<◌, ◌==◌, Bool, true, false, List, [], ◌∷◌, Option, None, Some, if◌then◌else◌, MatchBool}
 use Rattle.iobufs_owner.specs.Types.{Step, Refusal, Memory, Ceiling, Reply, More, Refused}
 use Rattle.iobufs_owner.specs.State.{State, KeepsLogs}
@@ -39,12 +39,12 @@ taken_after n More = n + 1
 taken_after n (Refused why) = if ends_call why then 0 else n
 taken_after n reply = 0
 
--- No call of party p has a fourth step that leaves it unfinished; n steps of an unfinished one are taken already.
+-- No call of thread p has a fourth step that leaves it unfinished; n steps of an unfinished one are taken already.
 abbrev pub EndsInFour : (p n : ℕ) → List Step → List Reply → Type 0
 EndsInFour p n [] replies = Unit {0}
 EndsInFour p n (step ∷ steps) [] = Unit {0}
 EndsInFour p n (step ∷ steps) (reply ∷ replies) =
-    MatchBool (step.party == p) ((taken_after n reply < 4) × EndsInFour p (taken_after n reply) steps replies) (EndsInFour p n steps replies)
+    MatchBool (step.thread == p) ((taken_after n reply < 4) × EndsInFour p (taken_after n reply) steps replies) (EndsInFour p n steps replies)
 
 -- how many steps an unfinished call has taken at most: four, less those that it may still take
 abbrev pub taken_of : Option Unfinished → ℕ

@@ -10,7 +10,7 @@ ghost use Rattle.iobufs_owner.specs.Runs.{Runs, EndsInFour, taken_of};
 ghost use Rattle.iobufs_owner.specs.Growing.{IsMove, GrowingRuns};
 ghost use Rattle.iobufs_owner.specs.State.{State, Seen, KeepsLogs};
 ghost use Rattle.iobufs_owner.specs.Steps.{Steps};
-ghost use Rattle.iobufs_owner.specs.Tells.{TellsUnique};
+ghost use Rattle.iobufs_owner.specs.Tells.{TellsUnique, TellsTables};
 ghost use Rattle.iobufs_owner.specs.World.{World, going_at};
 
 /// State and step determine the reply and the next state.
@@ -23,6 +23,12 @@ pub fn answer_law()
 pub fn growing_law()
     ensures { (m next : Seen) → (steps : List Step) → (replies : List Reply) → GrowingRuns m steps replies next
         → Runs m.state steps replies next.state }
+{}
+
+/// The replies of a run lead to its tables: to words, counts, records and logs.
+pub fn tables_law()
+    ensures { (m next : Seen) → (steps : List Step) → (replies : List Reply) → GrowingRuns m steps replies next
+        → TellsTables m.state steps replies next.state }
 {}
 
 /// No step is refused with `Room` in a run of a machine that has space for what the steps may add.

@@ -81,7 +81,7 @@ grant_of [] = Some true
 grant_of (word ∷ []) = if bytes_eq word (codes "deny") then Some false else None
 grant_of (word ∷ next ∷ words) = None
 
--- a party goes on, or begins a call
+-- a thread goes on, or begins a call
 abbrev pub act_by : List ℕ → List (List ℕ) → Option Act
 act_by verb words =
     if bytes_eq verb (codes "go") then option_map Go (grant_of words)
@@ -91,9 +91,9 @@ abbrev pub act_of : List (List ℕ) → Option Act
 act_of [] = None
 act_of (verb ∷ words) = act_by verb words
 
--- a party, and what it does
+-- a thread, and what it does
 abbrev pub step_of : List ℕ → List (List ℕ) → Option Step
-step_of party words = option_map (λ s. record { party = s.0; act = s.1 }) (both (number_of party) (act_of words))
+step_of thread words = option_map (λ s. record { thread = s.0; act = s.1 }) (both (number_of thread) (act_of words))
 
 -- ---- lines
 
@@ -107,7 +107,7 @@ abbrev pub freed_of : List (List ℕ) → Option Ask
 freed_of [] = Some (Look Freed)
 freed_of (word ∷ words) = None
 
--- a question by its first word, and else a step of a party
+-- a question by its first word, and else a step of a thread
 abbrev pub ask_by : List ℕ → List (List ℕ) → Option Ask
 ask_by first words =
     if bytes_eq first (codes "handle") then option_map (λ h. Look (Handle h)) (last_number_of words)
@@ -131,10 +131,10 @@ width_of [] = None
 width_of (word ∷ []) = if bytes_eq word (codes "64") then Some true else if bytes_eq word (codes "32") then Some false else None
 width_of (word ∷ next ∷ words) = None
 
--- a machine has a ceiling above 0, and at most 2^32 parties
-abbrev pub setup_by : (parties ceiling : ℕ) → Bool → Option Setup
-setup_by parties ceiling is_wide =
-    if nat_lt 0 ceiling && nat_le parties (2 ^ 32) then Some (record { parties = parties; ceiling = ceiling; is_wide = is_wide }) else None
+-- a machine has a ceiling above 0, and at most 2^32 threads
+abbrev pub setup_by : (threads ceiling : ℕ) → Bool → Option Setup
+setup_by threads ceiling is_wide =
+    if nat_lt 0 ceiling && nat_le threads (2 ^ 32) then Some (record { threads = threads; ceiling = ceiling; is_wide = is_wide }) else None
 
 abbrev pub setup_in : List (List ℕ) → Option Setup
 setup_in [] = None

@@ -26,7 +26,7 @@ use Rattle.iobuf_lines.specs.Owner.Said.{ask_of, setup_of}
 -- the machine that a first line asks for: a descriptor has bits for the alignment, the tail and the size
 abbrev pub machine_of : Setup → State
 machine_of setup =
-    if setup.is_wide then fresh 6 17 40 setup.ceiling setup.parties else fresh 0 7 24 setup.ceiling setup.parties
+    if setup.is_wide then fresh 6 17 40 setup.ceiling setup.threads else fresh 0 7 24 setup.ceiling setup.threads
 
 -- capacity is reserved for one more block, handle and record; or that fails, and nothing has changed
 abbrev pub MakesRoom : (m grown : Seen) → Type 0

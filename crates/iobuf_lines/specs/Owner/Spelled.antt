@@ -67,7 +67,7 @@ words_behind (Begin call memory) = map decimal (numbers_in call) ++ denial memor
 -- ---- lines
 
 abbrev pub first_word_of : Ask → List ℕ
-first_word_of (Take step) = decimal step.party
+first_word_of (Take step) = decimal step.thread
 first_word_of (Look (Handle h)) = codes "handle"
 first_word_of (Look (Record r)) = codes "record"
 first_word_of (Look Freed) = codes "freed"
@@ -88,7 +88,7 @@ FitsAct (Begin call memory) = AreNumbers (numbers_in call)
 
 -- a request that has a line: its numbers have 64 bits
 abbrev pub AskFits : Ask → Type 0
-AskFits (Take step) = (step.party < 2 ^ 64) × FitsAct step.act
+AskFits (Take step) = (step.thread < 2 ^ 64) × FitsAct step.act
 AskFits (Look (Handle h)) = h < 2 ^ 64
 AskFits (Look (Record r)) = r < 2 ^ 64
 AskFits (Look Freed) = Unit {0}
@@ -96,10 +96,10 @@ AskFits (Look Freed) = Unit {0}
 -- the line that asks for this machine
 abbrev pub line_of_setup : Setup → List ℕ
 line_of_setup setup =
-    line_of_words (codes "machine" ∷ decimal setup.parties ∷ decimal setup.ceiling ∷ (if setup.is_wide then codes "64" else codes "32") ∷ [])
+    line_of_words (codes "machine" ∷ decimal setup.threads ∷ decimal setup.ceiling ∷ (if setup.is_wide then codes "64" else codes "32") ∷ [])
 
--- the machines that have a line: of at most 2^32 parties, and a ceiling of 64 bits above 0
+-- the machines that have a line: of at most 2^32 threads, and a ceiling of 64 bits above 0
 pub record FitsSetup (setup : Setup) : Type 0 where
-  pub few : setup.parties ≤ 2 ^ 32
+  pub few : setup.threads ≤ 2 ^ 32
   pub some : 0 < setup.ceiling
   pub low : setup.ceiling < 2 ^ 64

@@ -8,8 +8,8 @@ use iobufs_owner::owner::{Act, Call, Step};
 /// The machine that the first line asks for.
 #[derive(Clone, Copy, Drop)]
 pub struct Setup {
-    /// How many parties it has.
-    pub parties: usize,
+    /// How many threads it has.
+    pub threads: usize,
     /// Its ceiling, above 0.
     pub ceiling: u64,
     /// Whether its descriptors have 64 bits; else they have 32.
@@ -41,19 +41,19 @@ pub fn first_line(line: &[u8]) -> Result<Setup, LineError>
     ensures ok { IfOk result (λ setup. setup_of line.now ≡ Some setup) }
     ensures err { IfErr result (λ error. (error ≡ LineError.NoCommand) × (setup_of line.now ≡ None)) }
     ensures ceiling { IfOk result (λ setup. 0 < setup.ceiling) }
-    ensures parties { IfOk result (λ setup. setup.parties ≤ 2 ^ 32) }
+    ensures threads { IfOk result (λ setup. setup.threads ≤ 2 ^ 32) }
 {
     let mut words = Words::of(line);
     let Some(b"machine") = words.next_word() else {
         return Err(LineError::NoCommand);
     };
-    let (parties, ceiling) = two(&mut words)?;
+    let (threads, ceiling) = two(&mut words)?;
     let is_wide = width(&mut words)?;
-    if ceiling == 0 || parties > 4294967296 {
+    if ceiling == 0 || threads > 4294967296 {
         return Err(LineError::NoCommand);
     }
     Ok(Setup {
-        parties,
+        threads,
         ceiling: ceiling as u64,
         is_wide,
     })
@@ -92,9 +92,9 @@ pub fn further_line(line: &[u8]) -> Result<Ask, LineError>
         words.end()?;
         return Ok(Ask::Look(Question::Freed));
     }
-    let party = number(first)?;
+    let thread = number(first)?;
     let act = act(&mut words)?;
-    Ok(Ask::Take(Step { party, act }))
+    Ok(Ask::Take(Step { thread, act }))
 }
 
 // The act of a thread: it goes on, or begins a call.
@@ -127,7 +127,7 @@ fn grant(words: &mut Words) -> Result<bool, LineError>
     }
 }
 
-// The call that a party begins.
+// The call that a thread begins.
 fn call(verb: &[u8], words: &mut Words) -> Result<Call, LineError>
     ensures ok { IfOk result (λ call. call_of verb.now words.old ≡ Some (call, words.new)) }
     ensures err { IfErr result (λ error. (error ≡ LineError.NoCommand) × (call_of verb.now words.old ≡ None)) }

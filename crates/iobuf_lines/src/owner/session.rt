@@ -1,27 +1,29 @@
 //! Sessions with the owner machine: each answer as it is written.
-ghost use Rattle.std.specs.Prelude.{◌≡◌, ℕ, ◌<◌, ◌≤◌, ◌^◌, ◌++◌, List, Some, IsOk, IfOk, OnOk, IfSome};
+ghost use Rattle.std.specs.Prelude.{◌≡◌, ℕ, ◌<◌, ◌≤◌, ◌^◌, ◌++◌, List, Some, IsOk, IsOkUnless, IfOk, OnOk, IfSome};
 ghost use Rattle.iobufs_owner.specs.Promises.{Promises};
 ghost use Rattle.iobuf_lines.specs.Owner.Session.{Answers, machine_of, with_line_end};
 
 use crate::owner::line::{Ask, Setup};
 use crate::owner::reply::{AnswerLine, ReplyLine};
+use iobufs_core::codec::BufError;
 use iobufs_owner::format::{FORMAT_32, FORMAT_64};
 use iobufs_owner::owner::Machine;
-use std::alloc::{AllocError, Global};
+use std::alloc::Global;
 use std::io;
 use std::io::Write;
 
 impl Setup {
     /// The machine that is asked for.
-    pub fn machine(&self, alloc: Global) -> Result<Machine, AllocError>
+    pub fn machine(&self, alloc: Global) -> Result<Machine, BufError>
         requires some { 0 < self.now.ceiling }
-        requires few { self.now.parties ≤ 2 ^ 32 }
+        requires few { self.now.threads ≤ 2 ^ 32 }
         ensures ok { IfOk result (λ machine. machine.state ≡ machine_of self.now) }
         ensures promises { IfOk result (λ machine. Promises machine.state) }
-        ensures nothing { self.now.parties ≡ 0 → IsOk result }
+        ensures memory { IsOkUnless result BufError.Memory }
+        ensures nothing { self.now.threads ≡ 0 → IsOk result }
     {
         let format = if self.is_wide { FORMAT_64 } else { FORMAT_32 };
-        Machine::new(alloc, self.parties, self.ceiling, format)
+        Machine::new(alloc, self.threads, self.ceiling, format)
     }
 }
 

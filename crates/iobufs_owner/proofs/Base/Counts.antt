@@ -1,5 +1,5 @@
 -- How a count changes with its list.
-use Rattle.iobufs_owner.proofs.Base.Known.{◌≡◌, ◌≢◌, ℕ, zero, suc, ◌+◌, ◌<◌, ◌≤◌, Bool, true, false, cond, List, [], ◌∷◌, ◌++◌, length, get_or, set, map, ap, refl, arith, Option, Some, World, Unfinished, Dropping, holds, holders, users, still_holds, drops, tally, reading, read_handle, read_call, State, Handle, Pending, Tables, eqb_tells, inl, inr}
+use Rattle.iobufs_owner.proofs.Base.Known.{◌≡◌, ◌≢◌, ℕ, zero, suc, ◌+◌, ◌<◌, ◌≤◌, Bool, true, false, cond, List, [], ◌∷◌, ◌++◌, length, get_or, set, map, ap, refl, arith, Option, Some, World, Unfinished, Dropping, holds, holders, users, still_holds, drops, tally, reading, read_handle, read_call, State, Handle, Pending, Tables, eqb_tells, inl, inr, cases_Bool}
 
 -- an element after a list adds one to the count where it passes, else nothing
 pub count-append : {X : Type 0} (p : X → Bool) (xs : List X) (y : X) → tally p (xs ++ y ∷ []) ≡ tally p xs + cond (p y) 1 0
@@ -32,26 +32,19 @@ count-some p (x ∷ xs) (suc i) d h e = omega (arith, count-some p xs i d (omega
 -- no more elements pass than there are
 pub count-few : {X : Type 0} (p : X → Bool) (xs : List X) → tally p xs ≤ length xs
 count-few p [] = omega arith
-count-few p (x ∷ xs) = elim (p x) as (λ v. cond v 1 0 + tally p xs ≤ length (x ∷ xs))
-    [ true ↦ omega (arith, count-few p xs) | false ↦ omega (arith, count-few p xs) ]
-
--- a test that another implies, and that one element fails, counts less
-one-less : (a b : Bool) → (b ≡ true → a ≡ true) → cond b 1 0 ≤ cond a 1 0
-one-less true true h = omega arith
-one-less false true h = let e = h refl in absurd (cc)
-one-less a b h = omega arith
+count-few p (x ∷ xs) = grind (arith, count-few p xs)
 
 -- where one test implies another, it passes at most as many
 pub count-most : {X : Type 0} (p q : X → Bool) (xs : List X) → ((x : X) → q x ≡ true → p x ≡ true) → tally q xs ≤ tally p xs
 count-most p q [] h = omega arith
-count-most p q (x ∷ xs) h = omega (arith, one-less (p x) (q x) (h x), count-most p q xs h)
+count-most p q (x ∷ xs) h = grind (arith, h x, count-most p q xs h)
 
 -- where one test implies another and the element at a place passes only the other, it passes fewer
 pub count-less : {X : Type 0} (p q : X → Bool) (xs : List X) (i : ℕ) (d : X) → ((x : X) → q x ≡ true → p x ≡ true) → i < length xs
     → p (get_or xs i d) ≡ true → q (get_or xs i d) ≡ false → tally q xs < tally p xs
 count-less p q [] i d h l t f = absurd (omega arith)
 count-less p q (x ∷ xs) zero d h l t f = rw (t, f) (omega (arith, count-most p q xs h))
-count-less p q (x ∷ xs) (suc i) d h l t f = omega (arith, one-less (p x) (q x) (h x), count-less p q xs i d h (omega arith) t f)
+count-less p q (x ∷ xs) (suc i) d h l t f = grind (arith, h x, count-less p q xs i d h (omega arith) t f)
 
 abbrev pub held_by : Tables → ℕ → Option Handle → Bool
 held_by g b o = holds b (read_handle g o)
@@ -90,11 +83,6 @@ count-two p (x ∷ xs) zero (suc j) d n h l t u = rw t (omega (arith, count-some
 count-two p (x ∷ xs) (suc i) zero d n h l t u = rw u (omega (arith, count-some p xs i d (omega arith) t))
 count-two p (x ∷ xs) (suc i) (suc j) d n h l t u = omega (arith, count-two p xs i j d (λ e. n (ap suc e)) (omega arith) (omega arith) t u)
 
--- a proof by cases of the result of a test
-found-first : {P : Type 0} (v : Bool) {w : Bool} → (w ≡ true → P) → (w ≡ false → P) → w ≡ v → P
-found-first true t f e = t e
-found-first false t f e = f e
-
 -- a place that passes, where the count isn't 0
 pub record Passing {X : Type 0} (p : X → Bool) (d : X) (xs : List X) : Type 0 where
   pub place : ℕ
@@ -104,14 +92,12 @@ pub record Passing {X : Type 0} (p : X → Bool) (d : X) (xs : List X) : Type 0 
 -- where the count is above 0, there is a place whose element passes
 pub count-find : {X : Type 0} (p : X → Bool) (d : X) (xs : List X) → 0 < tally p xs → Passing p d xs
 count-find p d [] h = absurd (omega arith)
-count-find p d (x ∷ xs) h =
-    found-first (p x)
-    (λ t. record { place = 0; inside = omega arith; passes = t })
-    (λ f. let e = rw f at h in let r = count-find p d xs (omega (arith, e)) in record {
-      place = suc r.place;
-      inside = (let l = r.inside in omega arith);
-      passes = r.passes;
-    }) refl
+count-find p d (x ∷ xs) h = elim (cases_Bool (p x)) [
+  | inl t ↦ record { place = 0; inside = omega arith; passes = t }
+  | inr f ↦ (let e = rw f at h in
+      let r = count-find p d xs (omega (arith, e)) in
+      let l = r.inside in record { place = suc r.place; inside = omega arith; passes = r.passes })
+]
 
 -- where no element passes, the count is 0
 pub count-none : {X : Type 0} (p : X → Bool) (d : X) (xs : List X) → ((i : ℕ) → i < length xs → p (get_or xs i d) ≡ true → ⊥) → tally p xs ≡ 0

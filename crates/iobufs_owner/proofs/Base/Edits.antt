@@ -1,16 +1,10 @@
 -- The meaning of a handle's word in a sound machine; and puts, advances, freezes and recoveries in place keep it sound.
-use Rattle.iobufs_owner.proofs.Base.Known.{◌≡◌, inl, inr, ℕ, ◌+◌, ◌-◌, ◌%◌, ◌^◌, ◌<◌, ◌≤◌, ◌&&◌, ◌||◌, zero, suc, get_or, List, [], ◌∷◌, Bool, true, false, Option, Some, None, SomeIff, sym, ◌∙◌, ap, subst, refl, arith, length, leb_tells, mod-eq_of_lt, Handle, View, Mut, Record, Kind, Block, Pending, Word, Empty, Descriptor, Counted, HasRoom, IsWord, word_of, State, Tables, owner_of, base_by, block_with, handle_at, record_at, block_at, size_in, tail_in, retailed, edited, is_lent, Lends, advanced, frozen, thawed, is_mut, holders, is_block, reading, read_handle, read_call, IsSound, FitsWord, DescribesBlock, HoldsNothing, IsDescribed, IsCounted, LiesIn, LeavesBehind, alone, describes, is_descriptor, hidden, pow_pos, length-map, nat_tests, and_right, IsPlace, eqb_tells, log_below, log_of}
+use Rattle.iobufs_owner.proofs.Base.Known.{◌≡◌, inl, inr, ℕ, ◌+◌, ◌-◌, ◌%◌, ◌^◌, ◌<◌, ◌≤◌, zero, suc, get_or, List, [], ◌∷◌, true, false, Option, Some, None, SomeIff, sym, ◌∙◌, ap, subst, refl, arith, length, leb_tells, mod-eq_of_lt, Handle, View, Mut, Record, Kind, Block, Pending, Word, Empty, Descriptor, Counted, HasRoom, IsWord, word_of, State, Tables, owner_of, base_by, block_with, handle_at, record_at, block_at, size_in, tail_in, retailed, edited, is_lent, Lends, advanced, frozen, thawed, holders, is_block, reading, read_handle, read_call, IsSound, FitsWord, DescribesBlock, HoldsNothing, IsDescribed, IsCounted, LiesIn, LeavesBehind, alone, describes, hidden, pow_pos, length-map, nat_tests, IsPlace, eqb_tells, log_below, log_of}
 use Rattle.iobufs_owner.proofs.Base.Words.{word-size, word-tail, retailed-is, log-below}
-use Rattle.iobufs_owner.proofs.Base.Kept.{at-some}
+use Rattle.iobufs_owner.proofs.Base.Kept.{at-some, fits-at}
 use Rattle.iobufs_owner.proofs.Base.StaysSound.{sound-edited, owner-empty, owner-counted}
 use Rattle.iobufs_owner.proofs.Base.Lent.{owner-same}
 use Rattle.iobufs_owner.proofs.Base.Counts.{count-some, holders-few}
-
--- in a sound machine a handle fits the tables, by its word
-pub fits-at : (s : State) (h : ℕ) (x : Handle) → IsSound s → handle_at s h ≡ Some x → FitsWord s.tables s.calls x x.word
-fits-at s h x k at =
-    let f = k.fit h None (at-some s.handles h x at) in
-    rw at at f
 
 -- a handle that is alone has one holder
 pub alone-at : (s : State) (h : ℕ) (x : Handle) (b : ℕ) → IsSound s → handle_at s h ≡ Some x → alone s.tables b (Some x) ≡ true → holders (reading s) b ≡ 1
@@ -51,19 +45,6 @@ room-again g x w b log tail n d l = record { some = d.room.some; log_fits = d.ro
 pub word-again : (g : Tables) (x : Handle) (w b log tail n : ℕ) → IsDescribed g x w b log tail
     → retailed g w n ≡ word_of g.align_bits g.tail_bits (block_at g b).size log n
 word-again g x w b log tail n d = retailed-is g.align_bits g.tail_bits g.size_bits w (block_at g b).size log tail n d.room d.word
-
-pub described-again : (g : Tables) (x y : Handle) (w b log tail n : ℕ) → IsDescribed g x w b log tail → n < 2 ^ g.tail_bits
-    → owner_of g y ≡ owner_of g x → LiesIn (block_at g b) y y.kind → LeavesBehind (block_at g b) y n y.kind → IsDescribed g y (retailed g w n) b log n
-described-again g x y w b log tail n d l o lies behind = record {
-  known = d.known;
-  room = room-again g x w b log tail n d l;
-  word = word-again g x w b log tail n d;
-  align = d.align;
-  native = d.native;
-  owner = o ∙ d.owner;
-  lies = lies;
-  behind = behind;
-}
 
 abbrev pub no_block : Block
 no_block = record { base = 0; size = 0; align = 0; external = false }
@@ -174,10 +155,6 @@ sound-put s h x n k t l =
 
 -- ---- Advance
 
-pub and-yes : (v : Bool) → (v && true) ≡ v
-and-yes true = refl
-and-yes false = refl
-
 within-by : (g : Tables) (calls : List (Option Pending)) (x : Handle) (w : Word) → FitsWord g calls x w → x.kind ≡ Mut → x.len ≤ x.cap
 within-by g calls x Empty f m = let z = f.no_bytes m in omega arith
 within-by g calls x (Descriptor w) d m = (rw m at d.says.lies).within
@@ -266,31 +243,23 @@ behind-as b x tail kind e l = subst (λ (q : Kind). LeavesBehind b x tail q) e l
 
 -- which handles are descriptors, and which must be alone
 pub alone-described : (g : Tables) (c : ℕ) (x : Handle) (w : ℕ) → x.word ≡ Descriptor w → alone g c (Some x) ≡ is_block c (owner_of g x)
-alone-described g c x w e = ap (λ (v : Word). is_block c (owner_of g x) && (is_descriptor v || is_mut x.kind)) e ∙ and-yes (is_block c (owner_of g x))
+alone-described g c x w e = rw e (grind (arith))
 
 -- a handle by a descriptor describes the block that it holds, and no other
 pub describes-described : (g : Tables) (c : ℕ) (x : Handle) (w : ℕ) → x.word ≡ Descriptor w → describes g c (Some x) ≡ is_block c (owner_of g x)
-describes-described g c x w e = ap (λ (v : Word). is_block c (owner_of g x) && is_descriptor v) e ∙ and-yes (is_block c (owner_of g x))
+describes-described g c x w e = rw e (grind (arith))
 
 -- a handle by a record describes no block
 pub describes-counted : (g : Tables) (c : ℕ) (x : Handle) (r : ℕ) → x.word ≡ Counted r → describes g c (Some x) ≡ false
-describes-counted g c x r e = ap (λ (v : Word). is_block c (owner_of g x) && is_descriptor v) e ∙ and_right (is_block c (owner_of g x)) false refl
+describes-counted g c x r e = rw e (grind (arith))
 
 -- a view by a record needn't be alone on any block
 pub alone-shared : (g : Tables) (c : ℕ) (x : Handle) (r : ℕ) → x.word ≡ Counted r → x.kind ≡ View → alone g c (Some x) ≡ false
-alone-shared g c x r e v =
-    ap (λ (v : Word). is_block c (owner_of g x) && (is_descriptor v || is_mut x.kind)) e ∙ ap (λ (q : Kind). is_block c (owner_of g x) && is_mut q) v
-    ∙ and_right (is_block c (owner_of g x)) false refl
+alone-shared g c x r e v = rw (e, v) (grind (arith))
 
 -- a writable handle by a record has to be alone on the block that it holds, and on no other
 pub alone-written : (g : Tables) (c : ℕ) (x : Handle) (r : ℕ) → x.word ≡ Counted r → x.kind ≡ Mut → alone g c (Some x) ≡ is_block c (owner_of g x)
-alone-written g c x r e v =
-    ap (λ (v : Word). is_block c (owner_of g x) && (is_descriptor v || is_mut x.kind)) e ∙ ap (λ (q : Kind). is_block c (owner_of g x) && is_mut q) v
-    ∙ and-yes (is_block c (owner_of g x))
-
-pub block-tells : (c b : ℕ) (o : Option ℕ) → o ≡ Some b → is_block c o ≡ true → c ≡ b
-block-tells c b None e t = absurd (cc)
-block-tells c b (Some d) e t = let z : d ≡ b = cc in let y : c ≡ d = grind (arith, nat_tests, t) in y ∙ z
+alone-written g c x r e v = rw (e, v) (grind (arith))
 
 -- a handle by a descriptor, with another descriptor for the same block
 pub sound-redescribed : (s : State) (h : ℕ) (x y : Handle) (w b log tail n : ℕ) → IsSound s → handle_at s h ≡ Some x → is_lent h s.calls ≡ false
@@ -306,7 +275,16 @@ sound-redescribed s h x y w b log tail n k at free xw d l yw base lies behind =
       block = b;
       log = log;
       tail = n;
-      says = described-again s.tables x y w b log tail n d l o lies behind;
+      says = record {
+        known = d.known;
+        room = room-again s.tables x w b log tail n d l;
+        word = word-again s.tables x w b log tail n d;
+        align = d.align;
+        native = d.native;
+        owner = o ∙ d.owner;
+        lies = lies;
+        behind = behind;
+      };
     }))
 
 -- another handle that holds nothing, in the place of one that no call borrows
@@ -396,7 +374,8 @@ sound-thawed_counted s h x r k t i native one =
     let o : owner_of s.tables y ≡ owner_of s.tables x = oy ∙ sym (owner-counted s.tables x r i) in
     let n : holders (reading s) (record_at s.tables r).block ≡ 1 = sym ((k.counted r f.live).counts f.shown) ∙ one in
     sound-edited s h x y k t.at t.free o (λ c. describes-counted s.tables c y r refl ∙ sym (describes-counted s.tables c x r i))
-    (λ c a. rw (block-tells c (record_at s.tables r).block (owner_of s.tables y) oy (sym (alone-written s.tables c y r refl refl) ∙ a)) n)
+    (λ c a. let q = rw oy at (sym (alone-written s.tables c y r refl refl) ∙ a) in
+    let same : c ≡ (record_at s.tables r).block = grind (arith, nat_tests, q) in rw same n)
     (record {
       live = f.live;
       known = f.known;

@@ -1,5 +1,5 @@
 -- Holders and users as counts over the machine's own lists.
-use Rattle.iobufs_owner.proofs.Base.Known.{◌≡◌, ℕ, ◌+◌, ◌<◌, ◌≤◌, ◌==◌, ◌&&◌, ◌||◌, Bool, true, false, cond, get_or, refl, arith, Option, Some, None, State, Tables, owner_of, record_at, handle_at, Dropping, holds, holders, users, still_holds, drops, tally, reading, read_handle, read_call, has_let_go, alone, describes, is_descriptor, releases, is_mut, Handle, Pending, Subtract, Release, eq-eqb, and_parts}
+use Rattle.iobufs_owner.proofs.Base.Known.{◌≡◌, ℕ, ◌+◌, ◌<◌, ◌≤◌, ◌==◌, ◌&&◌, ◌||◌, Bool, true, false, cond, get_or, refl, arith, Option, Some, None, State, Tables, owner_of, record_at, handle_at, holds, holders, users, still_holds, drops, tally, reading, read_handle, read_call, has_let_go, alone, describes, is_descriptor, releases, is_mut, Handle, Pending, Subtract, Release, eq-eqb, and_parts, cases_Bool, inl, inr}
 use Rattle.iobufs_owner.proofs.Base.Kept.{at-some}
 use Rattle.iobufs_owner.proofs.Base.Counts.{count-some, count-most, held_by, holders-as, users-as}
 
@@ -36,15 +36,11 @@ abbrev pub lets_go : Tables → ℕ → Option Pending → Bool
 lets_go g b (Some (Release q)) = (b == (record_at g q).block) && has_let_go g q
 lets_go g b c = false
 
-dropping-split : (b c : ℕ) (v : Bool) → cond (b == c) 1 0 ≡ cond (still_holds b (Some (Dropping c v 1))) 1 0 + cond ((b == c) && v) 1 0
-dropping-split b c true = elim (b == c) as (λ v. cond v 1 0 ≡ 0 + cond (v && true) 1 0) [ true ↦ refl | false ↦ refl ]
-dropping-split b c false = elim (b == c) as (λ v. cond v 1 0 ≡ cond v 1 0 + cond (v && false) 1 0) [ true ↦ refl | false ↦ refl ]
-
 -- a call is a drop of a block exactly where it holds it still or has let go of it, and it is never both
 pub drops-split : (g : Tables) (b : ℕ) (c : Option Pending)
     → cond (drops b (read_call g c)) 1 0 ≡ cond (still_holds b (read_call g c)) 1 0 + cond (lets_go g b c) 1 0
 drops-split g b (Some (Subtract q)) = omega arith
-drops-split g b (Some (Release q)) = dropping-split b (record_at g q).block (has_let_go g q)
+drops-split g b (Some (Release q)) = elim (cases_Bool (has_let_go g q)) [ inl e ↦ rw e (grind (arith)) | inr e ↦ rw e (grind (arith)) ]
 drops-split g b c = refl
 
 -- a drop that has let go of a block has its last step to take

@@ -100,17 +100,6 @@ names r c = false
 abbrev pub KeepsLetGo : Tables → Tables → Option Pending → Type 0
 KeepsLetGo g k c = (r : ℕ) → c ≡ Some (Release r) → (record_at g r).live ≡ true → has_let_go k r ≡ has_let_go g r
 
--- A call requires of a change: the handle that it borrows stays, and so do the records that it counts on, hidden or
--- not. The block that it is about to free keeps its holders, and the call has let go exactly if it had.
-pub record Leaves (s t : State) (c : Option Pending) : Type 0 where
-  pub tables : Keeps s.tables t.tables
-  pub live : (r : ℕ) → names r c ≡ true → (record_at s.tables r).live ≡ true → (record_at t.tables r).live ≡ true
-  pub hidden : (r : ℕ) → names r c ≡ true → (record_at s.tables r).live ≡ true → hidden t.calls r ≡ hidden s.calls r
-  pub handle : (i : ℕ) (x : Handle) → borrows_it i c ≡ true → handle_at s i ≡ Some x → handle_at t i ≡ Some x
-  pub owner : (i : ℕ) (x : Handle) → handle_at s i ≡ Some x → owner_of t.tables x ≡ owner_of s.tables x
-  pub let_go : KeepsLetGo s.tables t.tables c
-  pub holders : (r : ℕ) → c ≡ Some (Release r) → holders (reading t) (record_at s.tables r).block ≡ holders (reading s) (record_at s.tables r).block
-
 -- a clone or slice that shares a view shares it in another state, if that has the view under the same number
 pub shares-kept : (s t : State) (part : Share) (x : Handle) → (handle_at s part.handle ≡ Some x → handle_at t part.handle ≡ Some x) → Shares s part x
     → Shares t part x
@@ -124,38 +113,50 @@ promised-kept g k x w b e o p =
     let oy : owner_of k y ≡ owner_of g y = owner-kept g k calls y e (record { block = b; log = p.log; tail = p.tail; says = p.says }) in
     record { log = p.log; tail = p.tail; says = described-kept g k y w b p.log p.tail oy e p.says; owner = o ∙ p.owner; now' = p.now' }
 
--- a call that fits goes on to fit a state that leaves what it relies on
-pub call-kept : (s t : State) (c : Option Pending) → Leaves s t c → FitsCall s c → FitsCall t c
-call-kept s t None l f = f
-call-kept s t (Some (Loaded part w)) l f = record {
-  view = f.view;
-  shares = shares-kept s t part f.view (l.handle part.handle f.view (eq-eqb part.handle part.handle refl)) f.shares;
-  block = f.block;
-  promised = promised-kept s.tables t.tables f.view w f.block l.tables (l.owner part.handle f.view f.shares.at) f.promised;
-}
-call-kept s t (Some (Ready part w r)) l f = record {
-  view = f.view;
-  shares = shares-kept s t part f.view (l.handle part.handle f.view (eq-eqb part.handle part.handle refl)) f.shares;
-  block = f.block;
-  promised = promised-kept s.tables t.tables f.view w f.block l.tables (l.owner part.handle f.view f.shares.at) f.promised;
-  live = l.live r (eq-eqb r r refl) f.live;
-  same = l.tables.records r f.live ∙ f.same;
-}
-call-kept s t (Some (Add part r)) l f =
-    record { view = f.view; shares = shares-kept s t part f.view (l.handle part.handle f.view (eq-eqb part.handle part.handle refl)) f.shares; word = f.word }
-call-kept s t (Some (Subtract r)) l (live, hid) = (l.live r (eq-eqb r r refl) live, l.hidden r (eq-eqb r r refl) live ∙ hid)
-call-kept s t (Some (Release r)) l f =
-    record {
-      live = l.live r (eq-eqb r r refl) f.live;
-      shown = l.hidden r (eq-eqb r r refl) f.live ∙ f.shown;
-      alone = rw (l.tables.records r f.live, l.let_go r refl f.live) (l.holders r refl ∙ f.alone);
-    }
-
 -- if there is an entry at an index, the index is inside the list
 pub at-some : {X : Type 0} (xs : List (Option X)) (i : ℕ) (x : X) → get_or xs i None ≡ Some x → i < length xs
 at-some [] i x e = absurd (cc)
 at-some (y ∷ xs) zero x e = omega arith
 at-some (y ∷ xs) (suc i) x e = omega (arith, at-some xs i x e)
+
+-- in a sound machine a handle fits the tables, by its word
+pub fits-at : (s : State) (h : ℕ) (x : Handle) → IsSound s → handle_at s h ≡ Some x → FitsWord s.tables s.calls x x.word
+fits-at s h x k at =
+    let f = k.fit h None (at-some s.handles h x at) in
+    rw at at f
+
+-- A call that fits goes on to fit where tables keep what it speaks of, if the handle that it borrows stays, and so do the
+-- records that it counts on, hidden or not. The block that it is about to free keeps its holders, and the call has let go
+-- exactly if it had.
+pub call-kept : {s : State} (t : State) (c : Option Pending) → IsSound s → Keeps s.tables t.tables → KeepsLetGo s.tables t.tables c
+    → ((r : ℕ) → names r c ≡ true → (record_at s.tables r).live ≡ true → (record_at t.tables r).live ≡ true)
+    → ((r : ℕ) → names r c ≡ true → (record_at s.tables r).live ≡ true → hidden t.calls r ≡ hidden s.calls r)
+    → ((i : ℕ) (x : Handle) → borrows_it i c ≡ true → handle_at s i ≡ Some x → handle_at t i ≡ Some x) → ((r : ℕ) → c ≡ Some (Release r)
+    → holders (reading t) (record_at s.tables r).block ≡ holders (reading s) (record_at s.tables r).block) → FitsCall s c → FitsCall t c
+call-kept t None k e gone live hid stays held f = f
+call-kept {s} t (Some (Loaded part w)) k e gone live hid stays held f = record {
+  view = f.view;
+  shares = shares-kept s t part f.view (stays part.handle f.view (eq-eqb part.handle part.handle refl)) f.shares;
+  block = f.block;
+  promised = promised-kept s.tables t.tables f.view w f.block e (owner-kept _ _ s.calls f.view e (fits-at s _ f.view k f.shares.at)) f.promised;
+}
+call-kept {s} t (Some (Ready part w r)) k e gone live hid stays held f = record {
+  view = f.view;
+  shares = shares-kept s t part f.view (stays part.handle f.view (eq-eqb part.handle part.handle refl)) f.shares;
+  block = f.block;
+  promised = promised-kept s.tables t.tables f.view w f.block e (owner-kept _ _ s.calls f.view e (fits-at s _ f.view k f.shares.at)) f.promised;
+  live = live r (eq-eqb r r refl) f.live;
+  same = e.records r f.live ∙ f.same;
+}
+call-kept {s} t (Some (Add part r)) k e gone live hid stays held f =
+    record { view = f.view; shares = shares-kept s t part f.view (stays part.handle f.view (eq-eqb part.handle part.handle refl)) f.shares; word = f.word }
+call-kept t (Some (Subtract r)) k e gone live hid stays held (l, z) = (live r (eq-eqb r r refl) l, hid r (eq-eqb r r refl) l ∙ z)
+call-kept t (Some (Release r)) k e gone live hid stays held f =
+    record {
+      live = live r (eq-eqb r r refl) f.live;
+      shown = hid r (eq-eqb r r refl) f.live ∙ f.shown;
+      alone = rw (e.records r f.live, gone r refl f.live) (held r refl ∙ f.alone);
+    }
 
 -- where no handle that is lent changes, and what calls name and hold stays, each call fits as before
 pub calls-fit-kept : {s : State} (t : State) → IsSound s → t.calls ≡ s.calls → Keeps s.tables t.tables
@@ -163,15 +164,9 @@ pub calls-fit-kept : {s : State} (t : State) → IsSound s → t.calls ≡ s.cal
     → ((i : ℕ) (x : Handle) → is_lent i s.calls ≡ true → handle_at s i ≡ Some x → handle_at t i ≡ Some x) → All (KeepsLetGo s.tables t.tables) s.calls
     → ((p r : ℕ) → p < length s.calls → call_at s p ≡ Some (Release r)
     → holders (reading t) (record_at s.tables r).block ≡ holders (reading s) (record_at s.tables r).block) → All (FitsCall t) s.calls
-calls-fit-kept {s} t k same e live at a n = All-from_get_or (FitsCall t) s.calls None (λ p h. call-kept s t (call_at s p) (record {
-  tables = e;
-  live = λ r m t. live p r h m t;
-  hidden = λ r _ _. rw same refl;
-  handle = λ i x b a. at i x (list_any_at (borrows_it i) s.calls p None h b) a;
-  owner = λ i x a. owner-kept s.tables t.tables s.calls x e (rw a at (k.fit i None (at-some s.handles i x a)));
-  let_go = a p None h;
-  holders = λ r i. n p r h i;
-}) (k.calls_fit p None h))
+calls-fit-kept {s} t k same e live at a n = All-from_get_or (FitsCall t) s.calls None
+    (λ p h. call-kept t (call_at s p) k e (a p None h) (λ r m l. live p r h m l) (λ r _ _. rw same refl)
+    (λ i x b. at i x (list_any_at (borrows_it i) s.calls p None h b)) (λ r i. n p r h i) (k.calls_fit p None h))
 
 -- calls fit if the holders of blocks stay
 pub calls-kept : {s : State} (t : State) → IsSound s → t.calls ≡ s.calls → Keeps s.tables t.tables
@@ -202,14 +197,15 @@ pub release-kept : (s : State) (k : Tables) (b : ℕ) (c : Option Pending) → K
 release-kept s k b (Some (Release r)) e f = rw (e.records r f.live) refl
 release-kept s k b c e f = refl
 
--- another call for a thread: if it fits, and each other call is left what it relies on, all fit
+-- another call for a thread: where it fits, and each other call fits as it did, all fit
 pub calls-fit-set : (s t : State) (p : ℕ) (c : Option Pending) → p < length s.calls → FitsCall t c
-    → ((i : ℕ) → i ≢ p → i < length s.calls → Leaves s t (call_at s i)) → All (FitsCall s) s.calls → All (FitsCall t) (set s.calls p c)
-calls-fit-set s t p c l f leaves k = All-from_get_or (FitsCall t) (set s.calls p c) None (λ i li.
+    → ((i : ℕ) → i ≢ p → i < length s.calls → FitsCall s (call_at s i) → FitsCall t (call_at s i)) → All (FitsCall s) s.calls
+    → All (FitsCall t) (set s.calls p c)
+calls-fit-set s t p c l f others k = All-from_get_or (FitsCall t) (set s.calls p c) None (λ i li.
     let lo : i < length s.calls = (let z = rw length-set at li in z) in
     elim (eqb_tells i p) [
       | inl z ↦ rw (z.1, get_or-set_same s.calls p c None l) f
-      | inr z ↦ rw (get_or-set_other s.calls p i c None z.1) (call-kept s t (call_at s i) (leaves i z.1 lo) (k i None lo))
+      | inr z ↦ rw (get_or-set_other s.calls p i c None z.1) (others i z.1 lo (k i None lo))
     ])
 
 -- another handle under a number: where it fits, and each other one fits as it did, all fit

@@ -6,7 +6,7 @@ pub use Rattle.std.proofs.Common.{◌==◌, ◌^◌, ◌||◌, ◌↔◌, ◌∙
 pub use Rattle.std.proofs.Math.ListN.{get_or-map as get_or-read, length-set}
 pub use Rattle.std.proofs.Math.Nat.{div-eq_of_lt, mod-eq_of_lt}
 pub use Rattle.std.proofs.Math.Seq.{get_or-append_seam, map-set_same, set-append_seam}
-pub use Rattle.std.proofs.lemmas.Bool.{and_cases, and_parts, and_right, eq-eqb, eqb-true, false_from_ne_true, le-ltb, lt-ltb, ltb-false, ltb-true, ne_eqb}
+pub use Rattle.std.proofs.lemmas.Bool.{and_parts, and_right, cases_Bool, eq-eqb, eqb-true, false_from_ne_true, le-ltb, lt-ltb, ltb-false, ltb-true, ne_eqb}
 pub use Rattle.std.proofs.lemmas.Bool.{not-true, or_cases, or_left, or_parts, or_right}
 pub use Rattle.std.proofs.lemmas.Bool.Decides.{eqb_tells, leb_tells, nat_tests}
 pub use Rattle.std.proofs.lemmas.Grind.{common_steps}

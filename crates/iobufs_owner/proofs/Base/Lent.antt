@@ -1,5 +1,5 @@
 -- Properties of a handle that a call may have (`lend_of`), and when a changed handle holds the block that it held.
-use Rattle.iobufs_owner.proofs.Base.Known.{◌≡◌, ℕ, Bool, true, false, cond, Option, Some, None, Ok, Err, ap, sym, ◌∙◌, refl, Handle, Kind, View, Mut, Word, Empty, Descriptor, Counted, WrongKind, Borrowed, State, Tables, owner_of, owner_by, base_by, block_with, handle_at, lend_of, is_lent, Lends, same_kind, asked, lend_any_of}
+use Rattle.iobufs_owner.proofs.Base.Known.{◌≡◌, ℕ, Bool, true, false, Option, Some, None, Ok, ap, refl, Handle, Kind, View, Mut, Word, Empty, Descriptor, Counted, State, Tables, owner_of, owner_by, base_by, block_with, handle_at, lend_of, is_lent, Lends, same_kind, asked, lend_any_of, arith}
 
 -- kinds that the test finds alike are the same
 pub same-kind : (a b : Kind) → same_kind a b ≡ true → a ≡ b
@@ -8,16 +8,10 @@ same-kind View Mut e = absurd (cc)
 same-kind Mut View e = absurd (cc)
 same-kind Mut Mut e = refl
 
-asked-some : {X : Type 0} (test : X → Bool) (y x : X) (b v : Bool) → test y ≡ v → cond v (cond b (Err Borrowed) (Ok y)) (Err WrongKind) ≡ Ok x
-    → (Some y ≡ Some x) × (test x ≡ true) × (b ≡ false)
-asked-some test y x true true t e = absurd (cc)
-asked-some test y x false true t e = let q : y ≡ x = cc in (ap Some q, ap test (sym q) ∙ t, refl)
-asked-some test y x b false t e = absurd (cc)
-
 -- an element that `asked` returns is the one under the number, passes the test and isn't borrowed
 pub asked-ok : {X : Type 0} (test : X → Bool) (b : Bool) (o : Option X) (x : X) → asked test b o ≡ Ok x → (o ≡ Some x) × (test x ≡ true) × (b ≡ false)
 asked-ok test b None x e = absurd (cc)
-asked-ok test b (Some y) x e = asked-some test y x b (test y) refl e
+asked-ok test b (Some y) x e = grind (arith, e)
 
 -- a handle that a call may have is the one under the number, is of the kind, and is borrowed by no call
 pub lend-tells : (s : State) (h : ℕ) (kind : Kind) (x : Handle) → lend_of s h kind ≡ Ok x → Lends s h kind x

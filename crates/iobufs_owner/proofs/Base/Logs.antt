@@ -5,21 +5,14 @@ use Rattle.iobufs_owner.proofs.Base.Edits.{no_block}
 use Rattle.iobufs_owner.proofs.Base.StaysSound.{no_record}
 use Rattle.std.specs.List.{list_any}
 
--- ---- tests
-
-pub or-none : (a : Bool) → (a || false) ≡ a
-or-none true = refl
-or-none false = refl
-
 any-push : {X : Type 0} (p : X → Bool) (xs : List X) (y : X) → list_any p (xs ++ y ∷ []) ≡ (list_any p xs || p y)
-any-push p xs y = list_any-append p xs (y ∷ []) ∙ ap (λ (v : Bool). list_any p xs || v) (or-none (p y))
+any-push p xs y = list_any-append p xs (y ∷ []) ∙ grind (arith)
 
 -- where one fails, fewer pass than there are
 pub count-short : {X : Type 0} (p : X → Bool) (xs : List X) (i : ℕ) (d : X) → i < length xs → p (get_or xs i d) ≡ false → tally p xs < length xs
 count-short p [] i d l e = absurd (omega arith)
 count-short p (x ∷ xs) zero d l e = rw e (omega (arith, count-few p xs))
-count-short p (x ∷ xs) (suc i) d l e = elim (p x) as (λ v. cond v 1 0 + tally p xs < length (x ∷ xs))
-    [ true ↦ omega (arith, count-short p xs i d (omega arith) e) | false ↦ omega (arith, count-few p xs) ]
+count-short p (x ∷ xs) (suc i) d l e = grind (arith, count-short p xs i d (omega arith) e)
 
 -- one more that isn't among them
 pub once-push : {X : Type 0} (xs : List X) (y : X) → ((i j : ℕ) (d : X) → i < j → j < length xs → get_or xs i d ≢ get_or xs j d)
@@ -78,7 +71,7 @@ record-log-dead {rs} {log} r v l dead live k =
     record {
       exact = λ q m. let n : q < length rs = (let z = rw length-set at m in z) in any-push (λ x. q == x) log r ∙ elim (eqb_tells q r) [
         | inl i ↦ rw (i.1, eq-eqb r r refl, get_or-set_same rs r v no_record l, dead) (or_right (is_logged r log) true refl)
-        | inr i ↦ rw (ne_eqb q r i.1, get_or-set_other rs r q v no_record i.1) (or-none (is_logged q log) ∙ k.exact q n)
+        | inr i ↦ rw (ne_eqb q r i.1, get_or-set_other rs r q v no_record i.1) (grind (arith, k.exact q n))
       ];
       known = All-push (λ q. q < length (set rs r v)) log r
           (All-weaker (λ q. q < length rs) (λ q. q < length (set rs r v)) (λ q l. rw length-set l) log k.known) (rw length-set l);
@@ -120,7 +113,7 @@ freed-more g log b k l =
       | inl z ↦ rw (z.1, same-triple (block_at g b), get_or-set_same (map old bs) b true false (rw length-map l))
           (or_right (is_freed (block_at g b) log) true refl)
       | inr z ↦ rw (ne_eqb (block_at g i).base (block_at g b).base (bases g i b k li l z.1), get_or-set_other (map old bs) b i true false z.1)
-          (or-none (is_freed (block_at g i) log) ∙ sym (get_or-map old bs i no_block false li))
+          (grind (arith, get_or-map old bs i no_block false li))
     ])
 
 -- the block that is freed had users and has none, and all others keep having some or none
@@ -132,7 +125,7 @@ block-log-freed g {log} b {used} {used'} p l some none others k =
       freed = λ c t. any-push (same_freed (block_at g c)) log (triple (block_at g b)) ∙ elim (eqb_tells c b) [
         | inl i ↦ rw (i.1, none, same-triple (block_at g b)) (or_right (is_freed (block_at g b) log) true refl)
         | inr i ↦ rw (others c i.1, ne_eqb (block_at g c).base (block_at g b).base (bases g c b p t l i.1))
-            (or-none (is_freed (block_at g c) log) ∙ k.freed c t)
+            (grind (arith, k.freed c t))
       ];
       known = All-push (IsTripleOf g.blocks) log (triple (block_at g b)) k.known (record { block = b; known = l; is = refl });
       once = λ i j d h t. once-push log (triple (block_at g b)) (λ i j d h t. k.once i j d h t) (λ i d t h.

@@ -1,7 +1,8 @@
 -- Users see under a number the entry of the tables, read: a handle, its capacity, and the cause against it.
-use Rattle.iobufs_owner.proofs.Base.Known.{◌≡◌, ℕ, Bool, true, false, cond, Option, Some, None, Result, Ok, Err, List, [], ◌∷◌, map, sym, refl, arith, Handle, Kind, View, Mut, Pending, Loaded, Word, Empty, Descriptor, Counted, Refusal, WrongKind, Borrowed, State, Tables, owner_of, handle_at, IsSound, FitsWord, LiveHandle, held_at, borrows, is_shared, reading, read_handle, read_held, read_call, lend_of, is_lent, borrows_it, same_kind, alone_of, any_of, view_of, capacity, capacity_in, ap, asked, is_empty, is_some, lend_any_of, lend_owning_of, lend_owning_view_of, lend_view_of, not, owning_of, owning_view_of, ◌&&◌, get_or-read}
+use Rattle.iobufs_owner.proofs.Base.Known.{◌≡◌, ℕ, Bool, true, false, Option, Some, None, Result, Ok, Err, List, [], ◌∷◌, map, sym, refl, arith, Handle, Kind, View, Mut, Pending, Loaded, Word, Empty, Descriptor, Counted, Refusal, State, Tables, owner_of, handle_at, IsSound, FitsWord, LiveHandle, held_at, borrows, is_shared, reading, read_handle, read_held, read_call, lend_of, is_lent, borrows_it, same_kind, alone_of, any_of, view_of, capacity, capacity_in, ap, asked, is_empty, is_some, lend_any_of, lend_owning_of, lend_owning_view_of, lend_view_of, not, owning_of, owning_view_of, ◌&&◌, get_or-read}
 use Rattle.iobufs_owner.proofs.Base.StaysSound.{owner-empty, owner-counted}
-use Rattle.iobufs_owner.proofs.Base.Edits.{fits-at, described-at}
+use Rattle.iobufs_owner.proofs.Base.Kept.{fits-at}
+use Rattle.iobufs_owner.proofs.Base.Edits.{described-at}
 
 -- users see under a number the handle of the tables, read
 pub held-reads : (s : State) (h : ℕ) → held_at (reading s) h ≡ read_handle s.tables (handle_at s h)
@@ -22,12 +23,6 @@ abbrev pub read_lent : Tables → Result Handle Refusal → Result LiveHandle Re
 read_lent g (Err why) = Err why
 read_lent g (Ok x) = Ok (read_held g x)
 
-found-reads : (g : Tables) (x : Handle) (v u : Bool) → cond v (cond u (Err Borrowed) (Ok (read_held g x))) (Err WrongKind)
-    ≡ read_lent g (cond v (cond u (Err Borrowed) (Ok x)) (Err WrongKind))
-found-reads g x true true = refl
-found-reads g x true false = refl
-found-reads g x false u = refl
-
 -- users see what may be had under a number, or the same cause against it, where their test gives the same result for its entry
 asked-reads : (s : State) (h : ℕ) (test : Handle → Bool) (seen : LiveHandle → Bool) {b c : Bool}
     → ((x : Handle) → handle_at s h ≡ Some x → seen (read_held s.tables x) ≡ test x) → c ≡ b
@@ -35,7 +30,7 @@ asked-reads : (s : State) (h : ℕ) (test : Handle → Bool) (seen : LiveHandle 
 asked-reads s h test seen {b} {c} t e =
     let by : (o : Option Handle) → handle_at s h ≡ o → asked seen c (read_handle s.tables o) ≡ read_lent s.tables (asked test b o) =
     λ o. elim o as (λ o. handle_at s h ≡ o → asked seen c (read_handle s.tables o) ≡ read_lent s.tables (asked test b o))
-    [ None ↦ λ a. refl | Some x ↦ λ a. rw (t x a, e) (found-reads s.tables x (test x) b) ] in
+    [ None ↦ λ a. refl | Some x ↦ λ a. rw (t x a, e) (grind (arith)) ] in
     rw (held-reads s h) (by (handle_at s h) refl)
 
 -- users see the handle of this kind that a call may have alone, or the same cause against it

@@ -50,7 +50,7 @@ answered m o reply t (inr (w, e, f)) = inr (record { grows = wants-grows m o.sta
 -- ---- a step finds room, or wants it
 
 -- a table that has memory for more entries than before wasn't full
-not-full : {n t room : ℕ} → t ≤ room → t ≤ 2 ^ 32 → n < t → IsFull room n → ⊥
+pub not-full : {n t room : ℕ} → t ≤ room → t ≤ 2 ^ 32 → n < t → IsFull room n → ⊥
 not-full h g l (inl used) = omega (arith, h, l, used)
 not-full h g l (inr many) = omega (arith, g, l, many)
 

@@ -1,6 +1,6 @@
 -- A handle without block more, and a handle that changes and holds what it held, keep the machine sound.
-use Rattle.iobufs_owner.proofs.Base.Known.{◌≡◌, ℕ, ◌^◌, ◌<◌, Bool, true, false, List, [], ◌∷◌, ◌++◌, length, get_or, set, ◌∙◌, refl, arith, Option, Some, None, length-append, length-set, All-push, All-set, get_or_append_left, get_or-set_other, with_handle, edited, is_lent, State, Tables, owner_of, record_at, handle_at, holders, users, tally, reading, IsSound, FitsWord, Fits, alone, describes, LogsBlocks, Block, Freed, Handle, Empty, Counted, All, FitsCall, FitsRecord, IsInSize, Pending, Record, call_at, subst, ◌≤◌, ◌+◌, releases, hidden, FitsRecordAt, LogsRecords, nat_eq, ap, Release}
-use Rattle.iobufs_owner.proofs.Base.Kept.{keeps-self, calls-kept, at-some, Keeps, KeepsLetGo, Leaves, names, owner-kept}
+use Rattle.iobufs_owner.proofs.Base.Known.{◌≡◌, ℕ, ◌^◌, ◌<◌, true, false, List, [], ◌∷◌, ◌++◌, length, get_or, set, ◌∙◌, refl, arith, Option, Some, None, length-append, length-set, All-push, All-set, get_or_append_left, get_or-set_other, with_handle, edited, is_lent, State, Tables, owner_of, record_at, handle_at, holders, users, tally, reading, IsSound, FitsWord, Fits, alone, describes, LogsBlocks, Block, Freed, Handle, Empty, Counted, All, FitsCall, FitsRecord, IsInSize, Pending, Record, call_at, subst, ◌≤◌, ◌+◌, releases, hidden, FitsRecordAt, LogsRecords, nat_eq, ap, cases_Bool, inl, inr}
+use Rattle.iobufs_owner.proofs.Base.Kept.{keeps-self, calls-kept, at-some}
 use Rattle.iobufs_owner.proofs.Base.Counts.{count-append, count-set, held_by, holders-as, users-as}
 
 -- a handle without block owns none
@@ -24,21 +24,6 @@ append-at xs y i x e = get_or_append_left xs (y ∷ []) None i (at-some xs i x e
 abbrev pub no_record : Record
 no_record = record { count = 0; block = 0; live = false }
 
--- where handles stay, a change leaves a call what it relies on if it leaves its records and the holders of the block that it frees
-pub leaves : {s : State} (t : State) (c : Option Pending) → IsSound s → t.handles ≡ s.handles → Keeps s.tables t.tables → KeepsLetGo s.tables t.tables c
-    → ((r : ℕ) → names r c ≡ true → (record_at s.tables r).live ≡ true → (record_at t.tables r).live ≡ true)
-    → ((r : ℕ) → names r c ≡ true → (record_at s.tables r).live ≡ true → hidden t.calls r ≡ hidden s.calls r) → ((r : ℕ) → c ≡ Some (Release r)
-    → holders (reading t) (record_at s.tables r).block ≡ holders (reading s) (record_at s.tables r).block) → Leaves s t c
-leaves {s} t c k same e gone live hid held = record {
-  tables = e;
-  live = live;
-  hidden = hid;
-  handle = λ i x _ a. rw same a;
-  owner = λ i x a. owner-kept s.tables t.tables s.calls x e (rw a at (k.fit i None (at-some s.handles i x a)));
-  let_go = gone;
-  holders = held;
-}
-
 -- a handle that is lent stays where another one, that isn't, is changed
 pub lent-stays : (s : State) (h : ℕ) (o : Option Handle) → is_lent h s.calls ≡ false → (i : ℕ) (x : Handle) → is_lent i s.calls ≡ true
     → handle_at s i ≡ Some x → get_or (set s.handles h o) i None ≡ Some x
@@ -55,10 +40,6 @@ block-log-alike e k = record {
   once = k.once;
   many = k.many;
 }
-
--- the log of freed blocks, where blocks keep their users
-pub block-log-kept : {bs : List Block} {log : List Freed} {used used' : ℕ → ℕ} → ((b : ℕ) → used' b ≡ used b) → LogsBlocks bs log used → LogsBlocks bs log used'
-block-log-kept e k = block-log-alike (λ b l. ap (λ n. nat_eq n 0) (e b)) k
 
 -- a record that fits goes on to fit where fewer handles describe its block
 pub fits-fewer : {v : Record} {b m h u d e : ℕ} → FitsRecord v b m h u d → e ≤ d → FitsRecord v b m h u e
@@ -102,7 +83,7 @@ sound-same s rs hs cs log k size fit calls one hm um counted shown sole records 
   sole = λ b p. rw hm (sole b p);
   capped = λ b. rw hm (k.capped b);
   known_users = λ b e. k.known_users b (rw um at e);
-  block_log = block-log-kept um k.block_log;
+  block_log = block-log-alike (λ b l. ap (λ n. nat_eq n 0) (um b)) k.block_log;
   record_log = records;
 }
 
@@ -140,9 +121,7 @@ pub alone-edited : {P : Type 0} (g : Tables) (hs : List (Option Handle)) (h : �
     → (0 < tally (alone g b) hs → P) → (alone g b (Some y) ≡ true → P) → 0 < tally (alone g b) (set hs h (Some y)) → P
 alone-edited {P} g hs h y b l old new p =
     let e = count-set (alone g b) hs h (Some y) None l in
-    let by : (v : Bool) → alone g b (Some y) ≡ v → P =
-    λ v. elim v as (λ v. alone g b (Some y) ≡ v → P) [ true ↦ new | false ↦ λ f. old (let e2 = rw f at e in omega (arith, e2, p)) ] in
-    by (alone g b (Some y)) refl
+    elim (cases_Bool (alone g b (Some y))) [ inl t ↦ new t | inr f ↦ old (let n = rw f at e in omega (arith, n, p)) ]
 
 -- a handle is changed, and holds what it held
 pub sound-edited : (s : State) (h : ℕ) (x y : Handle) → IsSound s → handle_at s h ≡ Some x → is_lent h s.calls ≡ false

@@ -1,5 +1,5 @@
 -- Descriptor words as the code makes and reads them, by shifts and masks; and whether fields have room in one.
-use Rattle.iobufs_owner.proofs.Base.Known.{Bool, true, false, ◌&&◌, nat_lt, Option, Some, None, SomeIff, ◌≡◌, ℕ, ◌+◌, ◌-◌, ◌*◌, ◌/◌, ◌%◌, ◌^◌, ◌<◌, ◌≤◌, ◌↔◌, sym, ◌∙◌, ap, refl, arith, bit_or, bit_and, pow-add, pow_pos, or_shifted, shr_high, mod_low, and_mask, shl_whole, one_shl, shr_split, mod_below, mul-add-lt, shr-shr, bit_at-trailing_zeros, bit_at-pow_other, div-eq_of_lt, trailing_zeros, Width, bits, w64, fits, word_of, HasRoom, IsWord, size_of_word, tail_of_word, log_of_word, word_with_tail, and_parts, false_from_ne_true, lt-ltb, ltb-true}
+use Rattle.iobufs_owner.proofs.Base.Known.{Bool, true, false, Option, Some, None, SomeIff, ◌≡◌, ℕ, ◌+◌, ◌-◌, ◌*◌, ◌/◌, ◌%◌, ◌^◌, ◌<◌, ◌≤◌, ◌↔◌, sym, ◌∙◌, ap, refl, arith, bit_or, bit_and, pow-add, pow_pos, or_shifted, shr_high, mod_low, and_mask, shl_whole, one_shl, shr_split, mod_below, mul-add-lt, shr-shr, bit_at-trailing_zeros, bit_at-pow_other, div-eq_of_lt, trailing_zeros, Width, bits, w64, fits, word_of, HasRoom, IsWord, size_of_word, tail_of_word, log_of_word, word_with_tail, false_from_ne_true, nat_tests}
 
 -- the trailing zeros of a power of two are its logarithm
 pub zeros_pow : (w : Width) (k : ℕ) → 2 ^ k < 2 ^ bits w → trailing_zeros w (2 ^ k) ≡ k
@@ -110,25 +110,16 @@ retailed-is a t s word size log tail n room is = rw (word-size a t s word size l
 
 -- where the fields have room, the test of it passes
 pub fits-true : (a t s size log tail : ℕ) → HasRoom a t s size log tail → fits a t s size log tail ≡ true
-fits-true a t s size log tail r = rw (
-  lt-ltb 0 size r.some,
-  lt-ltb log (2 ^ a) r.log_fits,
-  lt-ltb tail (2 ^ t) r.tail_fits,
-  lt-ltb size (2 ^ s) r.size_fits,
-) refl
+fits-true a t s size log tail r = grind (arith, nat_tests, r.some, r.log_fits, r.tail_fits, r.size_fits)
 
 -- where the test passes, the fields have room
 pub fits-room : (a t s size log tail : ℕ) → fits a t s size log tail ≡ true → HasRoom a t s size log tail
-fits-room a t s size log tail e =
-    let p = and_parts (nat_lt 0 size && nat_lt log (2 ^ a) && nat_lt tail (2 ^ t)) (nat_lt size (2 ^ s)) e in
-    let q = and_parts (nat_lt 0 size && nat_lt log (2 ^ a)) (nat_lt tail (2 ^ t)) p.0 in
-    let u = and_parts (nat_lt 0 size) (nat_lt log (2 ^ a)) q.0 in
-    record {
-      some = ltb-true 0 size u.0;
-      log_fits = ltb-true log (2 ^ a) u.1;
-      tail_fits = ltb-true tail (2 ^ t) q.1;
-      size_fits = ltb-true size (2 ^ s) p.1;
-    }
+fits-room a t s size log tail e = record {
+  some = grind (arith, nat_tests, e);
+  log_fits = grind (arith, nat_tests, e);
+  tail_fits = grind (arith, nat_tests, e);
+  size_fits = grind (arith, nat_tests, e);
+}
 
 pub fits-false : (a t s size log tail : ℕ) → (HasRoom a t s size log tail → ⊥) → fits a t s size log tail ≡ false
 fits-false a t s size log tail n = false_from_ne_true (fits a t s size log tail) (λ e. n (fits-room a t s size log tail e))

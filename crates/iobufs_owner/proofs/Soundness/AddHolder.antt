@@ -1,5 +1,5 @@
 -- One holder more of a counted block keeps the machine sound.
-use Rattle.iobufs_owner.proofs.Base.{part, lies-as, ◌≡◌, ◌≢◌, inl, inr, ℕ, ◌+◌, ◌^◌, ◌<◌, ◌≤◌, ◌==◌, Bool, true, false, cond, List, [], ◌∷◌, ◌++◌, length, get_or, set, sym, ◌∙◌, ap, refl, arith, All, Option, Some, None, nat_eq, length-append, length-set, All-push, get_or-set_same, get_or-set_other, nat_tests, eqb_tells, State, Tables, owner_of, record_at, block_at, handle_at, holders, users, tally, reading, has_let_go, IsSound, Fits, alone, describes, counted, with_count, with_handle, Record, Handle, View, Pending, Release, Counted, count-append, count-some, count-less, Keeps, KeepsLetGo, calls-fit-kept, at-some, append-at, owner-counted, ne_eqb, eq-eqb, counted-at, live-inside, alone-shared, describes-counted, alone-holds, held_by, held-at, holders-as, block-log-alike, record-log-counted, sized, alike, users-as, all-fit-on, get_or-read, map-set_same, keeps-records, no_record, still_by}
+use Rattle.iobufs_owner.proofs.Base.{Share, Shares, part, lies-as, ◌≡◌, ◌≢◌, inl, inr, ℕ, ◌+◌, ◌^◌, ◌<◌, ◌≤◌, ◌==◌, true, false, cond, List, [], ◌∷◌, ◌++◌, length, get_or, set, sym, ◌∙◌, ap, refl, arith, All, Option, Some, None, nat_eq, length-append, length-set, All-push, get_or-set_same, get_or-set_other, nat_tests, eqb_tells, State, Tables, owner_of, record_at, block_at, handle_at, holders, users, tally, reading, has_let_go, IsSound, Fits, alone, describes, counted, with_count, with_handle, Record, Handle, View, Pending, Release, Counted, count-append, count-some, count-less, Keeps, KeepsLetGo, calls-fit-kept, at-some, append-at, owner-counted, ne_eqb, eq-eqb, counted-at, live-inside, alone-shared, describes-counted, alone-holds, held_by, held-at, holders-as, block-log-alike, record-log-counted, sized, alike, users-as, all-fit-on, get_or-read, map-set_same, keeps-records, no_record, still_by, cases_Bool}
 
 -- a write that keeps a field keeps it everywhere
 pub field-set : {X Y : Type 0} (f : X → Y) (xs : List X) (i q : ℕ) (v d : X) → f v ≡ f (get_or xs i d) → f (get_or (set xs i v) q d) ≡ f (get_or xs q d)
@@ -41,16 +41,12 @@ release-elsewhere s h b p q x d at o l i n e =
     let one = count-some (held_by s.tables b) s.handles h None (at-some s.handles h x at) (held-at s h x b at o) in
     let sum = holders-as s b in
     let n' = rw e at n in
-    let by : (v : Bool) → has_let_go s.tables q ≡ v → ⊥ = λ v. elim v as (λ v. has_let_go s.tables q ≡ v → ⊥) [
-      | true ↦ λ f. (let z = rw f at n' in omega (arith, z, sum, one))
-      | false ↦ λ f. (let z = rw f at n' in
+    elim (cases_Bool (has_let_go s.tables q)) [
+      | inl f ↦ (let z = rw f at n' in omega (arith, z, sum, one))
+      | inr f ↦ (let z = rw f at n' in
           let two = count-some (still_by s.tables b) s.calls p d l (rw (i, f) (eq-eqb b (record_at s.tables q).block (sym e))) in
           omega (arith, z, sum, one, two))
-    ] in
-    by (has_let_go s.tables q) refl
-
-pub more-some : (m : ℕ) → 0 < m → nat_eq m 0 ≡ nat_eq (m + 1) 0
-more-some m h = grind (arith, nat_tests)
+    ]
 
 -- the count of a handle's record isn't 0, and no more is it with a holder more
 pub counted-more : (s : State) (h : ℕ) (x : Handle) (r : ℕ) → IsSound s → handle_at s h ≡ Some x → x.word ≡ Counted r
@@ -59,7 +55,8 @@ counted-more s h x r k at w =
     let b : ℕ = (record_at s.tables r).block in
     let f = counted-at s h x r k at w in
     let held = count-some (held_by s.tables b) s.handles h None (at-some s.handles h x at) (held-at s h x b at (owner-counted s.tables x r w)) in
-    sym (more-some (record_at s.tables r).count (omega (arith, (k.counted r f.live).counts f.shown, holders-as s b, held)))
+    let some : 0 < (record_at s.tables r).count = omega (arith, (k.counted r f.live).counts f.shown, holders-as s b, held) in
+    grind (arith, nat_tests, some)
 
 -- a record of the table has the count that it is given
 pub counted-same : (g : Tables) (r n : ℕ) → r < length g.records → (record_at (counted g r n) r).count ≡ n
@@ -71,18 +68,21 @@ counted-other g r n q ne = rw (get_or-set_other g.records r q _ no_record ne) re
 
 -- a part of a view, by the record of the view and counted there, keeps the machine sound, where the count was at most the
 -- ceiling and there were fewer than 2^32 handles
-pub sound-added : (s : State) (h r lo hi : ℕ) (x : Handle) → IsSound s → handle_at s h ≡ Some x → x.kind ≡ View → x.word ≡ Counted r → lo ≤ hi → hi ≤ x.len
-    → (record_at s.tables r).count ≤ s.ceiling → length s.handles < 2 ^ 32
-    → IsSound (with_handle (with_count s r ((record_at s.tables r).count + 1)) (part x lo hi (Counted r)))
-sound-added s h r lo hi x k at xv xw low high on few =
+pub sound-added : (s : State) (r : ℕ) (m : Share) (x : Handle) → IsSound s → Shares s m x → x.word ≡ Counted r → (record_at s.tables r).count ≤ s.ceiling
+    → length s.handles < 2 ^ 32 → IsSound (with_handle (with_count s r ((record_at s.tables r).count + 1)) (part x m.lo m.hi (Counted r)))
+sound-added s r m x k sh xw on few =
+    let h : ℕ = m.handle in
+    let at = sh.at in
+    let low = sh.order in
+    let high = sh.within in
     let g : Tables = s.tables in
     let n : ℕ = (record_at s.tables r).count + 1 in
-    let y : Handle = part x lo hi (Counted r) in
+    let y : Handle = part x m.lo m.hi (Counted r) in
     let g' : Tables = counted s.tables r ((record_at s.tables r).count + 1) in
     let next : State = with_handle (with_count s r ((record_at s.tables r).count + 1)) y in
     let b : ℕ = (record_at s.tables r).block in
     let fx = counted-at s h x r k at xw in
-    let lies = lies-as (block_at g b) x View xv fx.lies in
+    let lies = lies-as (block_at g b) x View sh.view fx.lies in
     let e = counted-keeps g r n in
     let live : (q : ℕ) → (record_at g q).live ≡ true → (record_at g' q).live ≡ true = λ q t. counted-live g r n q ∙ t in
     let ox : owner_of g x ≡ Some b = owner-counted g x r xw in
@@ -101,7 +101,7 @@ sound-added s h r lo hi x k at xv xw low high on few =
     λ c. rw (count-append (describes g' c) s.handles (Some y), v.describes c, describes-counted g' c y r refl)
     (omega arith) in
     let me = k.counted r fx.live in
-    let less = alone-less s h x b at ox (alone-shared g b x r xw xv) in
+    let less = alone-less s h x b at ox (alone-shared g b x r xw sh.view) in
     let inside = live-inside g.records r fx.live in
     record {
       size = sized k.size k.size.few_blocks (rw length-set k.size.few_records) (rw length-append (omega arith)) k.size.few_calls;
@@ -148,7 +148,7 @@ sound-added s h r lo hi x k at xv xw low high on few =
       known_users = λ c t. let u = rw um at t in
           elim (eqb_tells c b) [ inl i ↦ rw i.1 me.known | inr i ↦ k.known_users c (let v = rw i.0 at u in omega (arith, v)) ];
       block_log = block-log-alike (λ c t. elim (eqb_tells c b) [
-        | inl i ↦ rw (i.1, um, eq-eqb b b refl) (sym (more-some (users (reading s) b) me.used))
+        | inl i ↦ rw (i.1, um, eq-eqb b b refl) (grind (arith, nat_tests, me.used))
         | inr i ↦
             rw (um, i.0) (ap (λ m. nat_eq m 0) (omega arith))
       ]) k.block_log;

@@ -1,13 +1,11 @@
 -- If a handle is the only holder of its block and goes by a record, nothing else speaks of the block or the record.
-use Rattle.iobufs_owner.proofs.Base.{◌≡◌, ◌≢◌, inl, inr, ℕ, ◌<◌, ◌==◌, ◌&&◌, Bool, true, false, cond, length, sym, ◌∙◌, ap, refl, arith, Option, Some, None, nat_tests, eqb_tells, State, owner_of, record_at, handle_at, call_at, holders, users, tally, reading, has_let_go, IsSound, Fits, FitsCall, hidden, readies, tables_without, is_lent, Handle, Pending, Ready, Subtract, Release, Counted, count-some, count-two, count-sum, names, at-some, owner-counted, eq-eqb, counted-at, held_by, still_by, drops_by, holders-as, users-as, held-at, lets_go, drops-split, count-none, fit-on, ◌⊎◌, list_any_at, borrows_it}
+use Rattle.iobufs_owner.proofs.Base.{◌≡◌, ◌≢◌, inl, inr, ℕ, ◌<◌, true, false, length, sym, ◌∙◌, ap, refl, arith, Option, Some, None, nat_tests, eqb_tells, State, owner_of, record_at, handle_at, call_at, holders, users, tally, reading, has_let_go, IsSound, Fits, FitsCall, hidden, readies, tables_without, is_lent, Handle, Pending, Ready, Subtract, Release, Counted, count-some, count-two, count-sum, names, at-some, owner-counted, eq-eqb, counted-at, held_by, still_by, drops_by, holders-as, users-as, held-at, lets_go, drops-split, count-none, fit-on, ◌⊎◌, list_any_at, borrows_it, and_parts}
 use Rattle.iobufs_owner.proofs.Soundness.RecordFreed.{dead-other, dead-keeps}
 
-none-left : (b c : ℕ) (n : ℕ → ℕ) (v : Bool) → ((b == c) && v) ≡ true → n c ≡ cond v 0 1 → n b ≡ 0
-none-left b c n true t e = let same : b ≡ c = grind (arith, nat_tests, t) in rw same e
-none-left b c n false t e = absurd (grind (arith, nat_tests, t))
-
 let-go-call : (s : State) (b i : ℕ) (c : Option Pending) → call_at s i ≡ c → lets_go s.tables b c ≡ true → FitsCall s c → holders (reading s) b ≡ 0
-let-go-call s b i (Some (Release q)) at t f = none-left b (record_at s.tables q).block (holders (reading s)) (has_let_go s.tables q) t f.alone
+let-go-call s b i (Some (Release q)) at t f =
+    let same : b ≡ (record_at s.tables q).block = grind (arith, nat_tests, t) in
+    rw same (rw (and_parts _ (has_let_go s.tables q) t).1 at f.alone)
 let-go-call s b i c at t f = absurd (cc)
 
 -- handle h is the only handle and the only user of block b, and no unfinished drop is of the block

@@ -1,5 +1,6 @@
 -- A handle lets its block go, which it holds alone: that is freed at once.
-use Rattle.iobufs_owner.proofs.Base.{◌≡◌, ◌≢◌, inl, inr, ℕ, ◌+◌, ◌<◌, ◌≤◌, ◌==◌, true, false, cond, List, length, set, sym, ◌∙◌, ap, subst, refl, arith, Option, Some, None, nat_eq, length-set, All-set, State, Tables, owner_of, record_at, block_at, handle_at, recovered, triple, holds, is_block, holders, users, tally, reading, read_handle, IsSound, Fits, alone, describes, detached_handle, replaced, block_freed, both_freed, tables_without, is_lent, IsLoose, Handle, Mut, Pending, Empty, Descriptor, Counted, count-set, count-some, keeps-self, owner-kept, handles-fit-set, at-some, owner-empty, owner-counted, ne_eqb, eq-eqb, fits-at, alone-at, described-at, counted-at, live-inside, alone-described, describes-described, alone-written, alone-few, fits-fewer, block-log-freed, record-log-dead, block-log-room, record-log-room, sound-handles, alike, held_by, holders-as, users-as, calls-fit-kept, Keeps, KeepsLetGo, All, LogsRecords, Record, names, call_at, ◌∷◌, ◌++◌, [], ◌^◌, sized, lent-stays}
+use Rattle.iobufs_owner.proofs.Base.{◌≡◌, ◌≢◌, inl, inr, ℕ, ◌+◌, ◌<◌, ◌≤◌, ◌==◌, true, false, cond, List, length, set, sym, ◌∙◌, ap, subst, refl, arith, Option, Some, None, nat_eq, length-set, All-set, State, Tables, owner_of, record_at, block_at, handle_at, recovered, triple, holds, is_block, holders, users, tally, reading, read_handle, IsSound, Fits, alone, describes, detached_handle, replaced, block_freed, both_freed, tables_without, is_lent, IsLoose, Handle, Mut, Pending, Empty, Descriptor, Counted, count-set, count-some, keeps-self, owner-kept, handles-fit-set, at-some, owner-empty, owner-counted, ne_eqb, eq-eqb, fits-at, alone-at, described-at, counted-at, live-inside, alone-described, describes-described, alone-written, alone-few, fits-fewer, block-log-freed, record-log-dead, block-log-room, record-log-room, sound-handles, alike, held_by, holders-as, users-as, calls-fit-kept, Keeps, KeepsLetGo, All, LogsRecords, Record, names, call_at, ◌∷◌, ◌++◌, [], ◌^◌, sized, lent-stays, vec_len, vec_capacity, IsReady, Seen, seen_of, state_of}
+use Rattle.iobufs_owner.specs.declared.owner.Machine.TheInside.{Inside}
 use Rattle.iobufs_owner.proofs.Soundness.RecordFreed.{dead-at, dead-keeps, dead-let_go, dead-live}
 use Rattle.iobufs_owner.proofs.Soundness.Alone.{only, unready, undropped, named-once, calls-live, fit-dead}
 use Rattle.iobufs_owner.proofs.Soundness.Recovered.{recovered-is}
@@ -118,6 +119,13 @@ pub counted-ends : (s : State) (r : ℕ) → IsSound s → (record_at s.tables r
     → (length s.freed_blocks < length s.tables.blocks) × (length s.freed_records < length s.tables.records)
 counted-ends s r k live = let c = k.counted r live in
     (block-log-room (record_at s.tables r).block c.known c.used k.block_log, record-log-room r (live-inside s.tables.records r live) live k.record_log)
+
+-- so in such a machine both logs have memory for an entry more
+pub logs-room : {m : Inside} {n : Seen} (r : ℕ) → IsReady m → seen_of m ≡ n → (record_at n.state.tables r).live ≡ true
+    → (vec_len m.freed_blocks < vec_capacity m.freed_blocks) × (vec_len m.freed_records < vec_capacity m.freed_records)
+logs-room {m} r k e live =
+    let l = counted-ends (state_of m) r k.sound (rw (← e) at live) in
+    (omega (arith, l.0, k.block_room), omega (arith, l.1, k.record_room))
 
 -- a writable handle by a record that no call borrows goes, or is detached, and block and record are freed: the machine stays sound
 pub sound-freed_counted : (s : State) (h : ℕ) (x : Handle) (r : ℕ) (o : Option Handle) → IsSound s → handle_at s h ≡ Some x

@@ -1,5 +1,5 @@
--- A party's call becomes another one; neither is a drop, and neither has made a record.
-use Rattle.iobufs_owner.proofs.Base.{◌≡◌, ℕ, ◌<◌, Bool, false, List, length, get_or, set, sym, ◌∙◌, refl, arith, Option, Some, None, length-set, State, Tables, record_at, call_at, holders, users, still_holds, drops, tally, reading, read_call, IsSound, FitsCall, hidden, readies, releases, called, Share, Pending, Loaded, Add, keeps-self, call-kept, calls-fit-set, Leaves, count-change, drops_by, holders-as, still_by, users-as, all-fit-on, sound-same, leaves}
+-- A thread's call becomes another one; neither is a drop, and neither has made a record.
+use Rattle.iobufs_owner.proofs.Base.{◌≡◌, ℕ, ◌<◌, Bool, false, List, length, get_or, set, sym, ◌∙◌, refl, arith, Option, Some, None, length-set, State, Tables, record_at, call_at, holders, users, still_holds, drops, tally, reading, read_call, IsSound, FitsCall, hidden, readies, releases, called, Share, Pending, Loaded, Add, keeps-self, call-kept, calls-fit-set, count-change, drops_by, holders-as, still_by, users-as, all-fit-on, sound-same}
 
 -- calls that count for nothing
 pub record IsQuiet (s : State) (c : Option Pending) : Type 0 where
@@ -26,7 +26,7 @@ pub count-calls : {X : Type 0} (p : X → Bool) (xs : List X) (i : ℕ) (y d : X
 count-calls p xs i y d l e f =
     omega (arith, count-change p xs i y d false false l e f)
 
--- another call of a party keeps the machine sound, where it fits and both it and the one before it count for nothing
+-- another call of a thread keeps the machine sound, where it fits and both it and the one before it count for nothing
 pub sound-called : (s : State) (p : ℕ) (c : Option Pending) → IsSound s → p < length s.calls → IsQuiet s (call_at s p) → IsQuiet s c → FitsCall s c
     → IsSound (called s p c)
 sound-called s p c k l q r f =
@@ -42,9 +42,9 @@ sound-called s p c k l q r f =
     sound-same s _ _ _ _ k (rw length-set k.size)
     (all-fit-on (set s.calls p c) s.handles (keeps-self g) (λ _ n x _ _ f. (f.live, hid n ∙ f.shown)) k.fit)
     ((
-    let leave : (o : Option Pending) → Leaves s next o =
-    λ o. leaves next o k refl (keeps-self g) (λ q j t. refl) (λ n _ t. t) (λ n _ _. hid n) (λ n _. hm (record_at g n).block) in
-    calls-fit-set s next p c l (call-kept s next c (leave c) f) (λ i _ _. leave (call_at s i)) k.calls_fit))
+    let kept : (o : Option Pending) → FitsCall s o → FitsCall next o =
+    λ o. call-kept next o k (keeps-self g) (λ q j t. refl) (λ n _ t. t) (λ n _ _. hid n) (λ _ _ _ a. a) (λ n _. hm (record_at g n).block) in
+    calls-fit-set s next p c l (kept c f) (λ i _ _. kept (call_at s i)) k.calls_fit))
     (λ b. rw (rel b) (k.one_release b)) hm um
     (λ n t. rw (hid n, hm, um) (k.counted n t))
     (λ n m a b u v e. k.one_record n m a b (sym (hid n) ∙ u) (sym (hid m) ∙ v) e)

@@ -1,5 +1,5 @@
 -- A descriptor in the place of a record that counts one view keeps the machine sound.
-use Rattle.iobufs_owner.proofs.Base.{◌≡◌, ◌≢◌, inl, inr, ℕ, ◌+◌, ◌^◌, ◌<◌, ◌≤◌, ◌==◌, ◌&&◌, true, false, not, cond, length, set, sym, ◌∙◌, ap, refl, arith, Some, None, nat_eq, length-set, eqb_tells, IsPowerOfTwo, HasRoom, word_of, State, Tables, owner_of, record_at, block_at, base_by, block_with, is_block, holders, users, tally, reading, IsSound, IsDescribed, alone, describes, edited, tables_without, record_freed, Lends, fits_in, tail_of, may_demote, described, demote_counted, Block, Handle, View, Counted, Declined, Done, word-size, word-tail, fits-room, fits-true, owner-kept, handles-fit-set, at-some, owner-counted, ne_eqb, fits-at, counted-at, lies-as, live-inside, no_block, owner-described, alone-described, describes-described, describes-counted, alone-shared, bases, record-log-dead, fits-fewer, and_parts, eqb-true, false_from_ne_true, not-true, log-is, log_of, count-change, alike, count-set, held_by, holders-as, users-as, calls-fit-kept, sound-same, lent-stays}
+use Rattle.iobufs_owner.proofs.Base.{◌≡◌, ◌≢◌, inl, inr, ℕ, ◌+◌, ◌^◌, ◌<◌, ◌≤◌, ◌==◌, true, false, cond, length, set, sym, ◌∙◌, ap, refl, arith, Some, None, length-set, eqb_tells, IsPowerOfTwo, HasRoom, word_of, State, Tables, owner_of, record_at, block_at, base_by, block_with, is_block, holders, users, tally, reading, IsSound, IsDescribed, alone, describes, edited, tables_without, record_freed, Lends, fits_in, tail_of, may_demote, described, demote_counted, Block, Handle, View, Counted, Declined, Done, word-size, word-tail, fits-room, fits-true, owner-kept, handles-fit-set, at-some, owner-counted, ne_eqb, fits-at, counted-at, lies-as, live-inside, no_block, owner-described, alone-described, describes-described, describes-counted, alone-shared, bases, record-log-dead, fits-fewer, and_parts, eqb-true, false_from_ne_true, not-true, log-is, log_of, count-change, alike, count-set, held_by, holders-as, users-as, calls-fit-kept, sound-same, lent-stays}
 use Rattle.iobufs_owner.proofs.Soundness.RecordFreed.{dead-at, dead-block, dead-keeps, dead-let_go, dead-live}
 use Rattle.iobufs_owner.proofs.Soundness.Alone.{only, unready, named-once, calls-live, fit-dead}
 use Rattle.iobufs_owner.proofs.Soundness.BlockFreed.{counted-ends}
@@ -17,18 +17,13 @@ pub record MayDemote (g : Tables) (x : Handle) (r : ℕ) : Type 0 where
 pub may-tells : (g : Tables) (x : Handle) (r : ℕ) → may_demote g x r ≡ true → MayDemote g x r
 may-tells g x r e =
     let b : Block = block_at g (record_at g r).block in
-    let p = and_parts (nat_eq (record_at g r).count 1 && not b.external) (fits_in g b.size (log_of b.align) (tail_of b x)) e in
-    let q = and_parts (nat_eq (record_at g r).count 1) (not b.external) p.0 in
+    let p = and_parts _ (fits_in g b.size (log_of b.align) (tail_of b x)) e in
+    let q = and_parts _ _ p.0 in
     record {
       one = eqb-true (record_at g r).count 1 q.0;
       native = not-true b.external q.1;
       room = fits-room g.align_bits g.tail_bits g.size_bits b.size (log_of b.align) (tail_of b x) p.1;
     }
-
-pub may-true : (g : Tables) (x : Handle) (r : ℕ) → MayDemote g x r → may_demote g x r ≡ true
-may-true g x r m =
-    let b : Block = block_at g (record_at g r).block in
-    rw (m.one, m.native, fits-true g.align_bits g.tail_bits g.size_bits b.size (log_of b.align) (tail_of b x) m.room) refl
 
 -- ---- the block that the descriptor says
 
@@ -159,4 +154,4 @@ keeps-record s h r x n = rw (false_from_ne_true (may_demote s.tables x r) (λ e.
 -- where the record may go, a demotion is done: the record alone is freed, and the view has the descriptor
 pub frees-record : (s : State) (h r : ℕ) (x : Handle) → MayDemote s.tables x r → (Done ≡ (demote_counted s h x r).reply)
     × (edited (record_freed s r) h (described s.tables x r) ≡ (demote_counted s h x r).state)
-frees-record s h r x m = rw (may-true s.tables x r m) (refl, refl)
+frees-record s h r x m = rw (m.one, m.native, fits-true _ _ _ _ _ _ m.room) (refl, refl)

@@ -1,5 +1,5 @@
 -- A drop begins: the handle of a counted block is gone, and its call holds in its place.
-use Rattle.iobufs_owner.proofs.Base.{◌≡◌, inl, inr, ℕ, ◌+◌, ◌<◌, ◌≤◌, true, false, cond, length, get_or, set, sym, ◌∙◌, ap, refl, arith, Bool, nat_eq, Option, Some, None, length-set, get_or-set_other, nat_tests, eqb_tells, State, Tables, owner_of, record_at, handle_at, call_at, Dropping, holders, users, tally, reading, read_call, has_let_go, state_without, called, is_lent, IsSound, FitsCall, alone, describes, hidden, readies, releases, Handle, View, Pending, Subtract, Release, Counted, count-set, keeps-self, calls-fit-set, handles-fit-set, at-some, owner-counted, ne_eqb, eq-eqb, fits-fewer, drops_by, held_by, holders-as, still_by, users-as, count-none, fit-on, sound-same, list_any_at, borrows_it}
+use Rattle.iobufs_owner.proofs.Base.{◌≡◌, inl, inr, ℕ, ◌+◌, ◌<◌, ◌≤◌, true, false, cond, length, get_or, set, sym, ◌∙◌, ap, refl, arith, Bool, nat_eq, Option, Some, None, length-set, nat_tests, eqb_tells, State, Tables, owner_of, record_at, handle_at, call_at, Dropping, holders, users, tally, reading, read_call, has_let_go, state_without, called, is_lent, IsSound, FitsCall, alone, describes, hidden, readies, releases, Handle, View, Pending, Subtract, Release, Counted, count-set, keeps-self, calls-fit-set, handles-fit-set, at-some, owner-counted, ne_eqb, eq-eqb, fits-fewer, drops_by, held_by, holders-as, still_by, users-as, count-none, fit-on, sound-same, list_any_at, borrows_it, call-kept, lent-stays}
 use Rattle.iobufs_owner.proofs.Soundness.AddHolder.{release-elsewhere}
 
 abbrev pub dropping : State → ℕ → ℕ → Pending → State
@@ -14,7 +14,7 @@ pub record IsDrop (s : State) (r : ℕ) (c : Pending) : Type 0 where
       → holders (reading t) (record_at s.tables r).block ≡ holders (reading s) (record_at s.tables r).block → FitsCall t (Some c)
   pub first : (b : ℕ) → tally (releases s.tables b) s.calls + cond (releases s.tables b (Some c)) 1 0 ≤ 1
 
--- a view by a record that no call borrows goes, and a drop that hasn't let go is the call of a party that had none: the machine stays sound
+-- a view by a record that no call borrows goes, and a drop that hasn't let go is the call of a thread that had none: the machine stays sound
 pub sound-dropping : (s : State) (p h r : ℕ) (x : Handle) (c : Pending) → IsSound s → handle_at s h ≡ Some x → x.word ≡ Counted r → x.kind ≡ View
     → is_lent h s.calls ≡ false → call_at s p ≡ None → p < length s.calls → IsDrop s r c → IsSound (dropping s p h c)
 sound-dropping s p h r x c k at word view free none lp d =
@@ -40,15 +40,9 @@ sound-dropping s p h r x c k at word view free none lp d =
     sound-same s _ _ _ _ k (rw (length-set, length-set) k.size)
     (handles-fit-set g (set s.calls p (Some c)) s.handles h None l tt
     (λ i _ li. fit-on (set s.calls p (Some c)) (get_or s.handles i None) (keeps-self g) (λ x q _ _ f. (f.live, hid q ∙ f.shown)) (k.fit i None li)))
-    (calls-fit-set s next p (Some c) lp (d.fits next refl hid (hm (record_at g r).block)) (λ i _ lo. record {
-      tables = keeps-self g;
-      live = λ q _ t. t;
-      hidden = λ q _ _. hid q;
-      handle = λ j y b a. get_or-set_other s.handles h j None None (λ e. let q = rw e at (list_any_at (borrows_it j) s.calls i None lo b) in absurd (cc)) ∙ a;
-      owner = λ j y a. refl;
-      let_go = λ q j t. refl;
-      holders = λ q e. hm (record_at g q).block;
-    }) k.calls_fit)
+    (calls-fit-set s next p (Some c) lp (d.fits next refl hid (hm (record_at g r).block)) (λ i _ lo.
+    call-kept next (call_at s i) k (keeps-self g) (λ q j t. refl) (λ q _ t. t) (λ q _ _. hid q)
+    (λ j y b. lent-stays s h None free j y (list_any_at (borrows_it j) s.calls i None lo b)) (λ q _. hm (record_at g q).block)) k.calls_fit)
     (λ b. let n = count-set (releases g b) s.calls p (Some c) None lp in omega (arith, n, d.first b)) hm um
     (λ q live. rw (hid q, hm, um) (fits-fewer (k.counted q live) (dm (record_at g q).block)))
     (λ q q' a b u v e. k.one_record q q' a b (sym (hid q) ∙ u) (sym (hid q') ∙ v) e)

@@ -1,5 +1,5 @@
 -- A clone or slice loses the race: its record is freed, and the call will add to the winner's.
-use Rattle.iobufs_owner.proofs.Base.{◌≡◌, ◌≢◌, ℕ, ◌+◌, ◌<◌, ◌==◌, true, cond, length, set, sym, ◌∙◌, ap, subst, refl, arith, Option, Some, None, length-set, State, Tables, record_at, handle_at, call_at, holders, users, tally, reading, IsSound, FitsCall, Shares, hidden, readies, releases, called, record_freed, tables_without, Handle, Share, Pending, Ready, Add, Counted, count-set, count-some, count-two, names, shares-kept, calls-fit-set, at-some, ne_eqb, eq-eqb, live-inside, record-log-dead, call-fits, alike, drops_by, holders-as, still_by, users-as, all-fit-on, sound-same, inl, inr, leaves}
+use Rattle.iobufs_owner.proofs.Base.{◌≡◌, ◌≢◌, ℕ, ◌+◌, ◌<◌, ◌==◌, true, cond, length, set, sym, ◌∙◌, ap, subst, refl, arith, Option, Some, None, length-set, State, Tables, record_at, handle_at, call_at, holders, users, tally, reading, IsSound, FitsCall, Shares, hidden, readies, releases, called, record_freed, tables_without, Handle, Share, Pending, Ready, Add, Counted, count-set, count-some, count-two, names, shares-kept, calls-fit-set, at-some, ne_eqb, eq-eqb, live-inside, record-log-dead, call-fits, alike, drops_by, holders-as, still_by, users-as, all-fit-on, sound-same, inl, inr, call-kept}
 use Rattle.iobufs_owner.proofs.Soundness.RecordFreed.{dead-at, dead-block, dead-other, dead-keeps, dead-let_go, dead-live}
 use Rattle.iobufs_owner.proofs.Soundness.Called.{count-calls}
 use Rattle.iobufs_owner.proofs.Soundness.Alone.{named}
@@ -45,8 +45,8 @@ sound-lost s p r w winner part' x k at atx xw =
     let ne : q ≢ r = λ i. (let z = rw i at f.shown in omega (arith, z, hidr)) in (dead-other g r q ne ∙ f.live, old q ne ∙ f.shown)) k.fit)
     (calls-fit-set s next p c l (record { view = x; shares = shares-kept s next part' x (λ a. a) sh; word = xw }) (λ i ne lo.
     let never = not-mine s p r i part' w (call_at s i) k at ne lo refl (k.calls_fit i None lo) hidr in
-    leaves next (call_at s i) k refl e (λ q j t. dead-let_go g r q) (λ q n t. dead-other g r q (λ y. never (rw y at n)) ∙ t)
-    (λ q n _. old q (λ y. never (rw y at n))) (λ q _. hm (record_at g q).block)) k.calls_fit)
+    call-kept next (call_at s i) k e (λ q j t. dead-let_go g r q) (λ q n t. dead-other g r q (λ y. never (rw y at n)) ∙ t)
+    (λ q n _. old q (λ y. never (rw y at n))) (λ _ _ _ a. a) (λ q _. hm (record_at g q).block)) k.calls_fit)
     (λ d. rw rel (k.one_release d)) hm um
     (λ q t.
     let d = dead-live g r q inside t in

@@ -8,8 +8,8 @@ tally-none p (suc n) e = rw e (omega (arith, tally-none p n e))
 no-users : (a t z c n b : ℕ) → users (reading (fresh a t z c n)) b ≡ 0
 no-users a t z c n b = omega (arith, users-as (fresh a t z c n) b, tally-none (drops_by (fresh a t z c n).tables b) n refl)
 
--- a new machine is sound, where the fields of a descriptor and one bit fit 64, the ceiling is above 0 and there are at most 2^32 parties
-pub sound-fresh : (a t z ceiling parties : ℕ) → 1 + a + t + z ≤ 64 → 0 < ceiling → parties ≤ 2 ^ 32 → IsSound (fresh a t z ceiling parties)
+-- a new machine is sound, where the fields of a descriptor and one bit fit 64, the ceiling is above 0 and there are at most 2^32 threads
+pub sound-fresh : (a t z ceiling threads : ℕ) → 1 + a + t + z ≤ 64 → 0 < ceiling → threads ≤ 2 ^ 32 → IsSound (fresh a t z ceiling threads)
 sound-fresh a t z c n wide some few =
     let s : State = fresh a t z c n in
     record {

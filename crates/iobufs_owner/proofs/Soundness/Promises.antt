@@ -1,5 +1,5 @@
 -- A sound machine keeps what is promised.
-use Rattle.iobufs_owner.proofs.Base.{◌≡◌, inl, inr, ℕ, ◌<◌, ◌≤◌, Bool, true, false, not, length, get_or, None, ap, sym, ◌∙◌, refl, arith, eqb_tells, All-get_or, All-from_get_or, State, record_at, users, reading, IsSound, is_logged, hidden, readies, Promises, IsFreed, IsOver, holders-le-users, count-find, alone-at, described-at, eq-eqb, held_by, drops_by, users-as, logged-at, eqb-true, count-none}
+use Rattle.iobufs_owner.proofs.Base.{◌≡◌, inl, inr, ℕ, ◌<◌, ◌≤◌, true, false, not, length, get_or, None, ap, sym, ◌∙◌, refl, arith, eqb_tells, All-get_or, All-from_get_or, State, record_at, users, reading, IsSound, is_logged, hidden, readies, Promises, IsFreed, IsOver, holders-le-users, count-find, alone-at, described-at, eq-eqb, held_by, drops_by, users-as, logged-at, eqb-true, count-none, cases_Bool}
 use Rattle.iobufs_owner.proofs.Soundness.Recovered.{recovered-is}
 use Rattle.iobufs_owner.proofs.Soundness.NewRecord.{ready-live}
 
@@ -10,15 +10,12 @@ freed-none : (s : State) (b : ℕ) → IsSound s → IsFreed s b → users (read
 freed-none s b k f = eqb-true (users (reading s) b) 0 (sym (k.block_log.freed b f.known) ∙ f.logged)
 
 -- a record whose block nobody uses is logged
-dead-logged : (s : State) (r : ℕ) (v : Bool) → IsSound s → r < length s.tables.records → (record_at s.tables r).live ≡ v
-    → ((record_at s.tables r).live ≡ true → users (reading s) (record_at s.tables r).block ≡ 0) → is_logged r s.freed_records ≡ true
-dead-logged s r true k l e f = let u = (k.counted r e).used in let z = f e in absurd (omega (arith, u, z))
-dead-logged s r false k l e f = k.record_log.exact r l ∙ ap not e
-
-logged-dead : (s : State) (r : ℕ) (v : Bool) → IsSound s → r < length s.tables.records → (record_at s.tables r).live ≡ v
-    → is_logged r s.freed_records ≡ true → (record_at s.tables r).live ≡ false
-logged-dead s r true k l e i = let z = sym i ∙ k.record_log.exact r l ∙ ap not e in absurd (cc)
-logged-dead s r false k l e i = e
+dead-logged : (s : State) (r : ℕ) → IsSound s → r < length s.tables.records → users (reading s) (record_at s.tables r).block ≡ 0
+    → is_logged r s.freed_records ≡ true
+dead-logged s r k l f = elim (cases_Bool (record_at s.tables r).live) [
+  | inl e ↦ absurd (let u = (k.counted r e).used in omega (arith, u, f))
+  | inr e ↦ k.record_log.exact r l ∙ ap not e
+]
 
 -- ---- nothing is left
 over-none : (s : State) (b : ℕ) → IsOver s → users (reading s) b ≡ 0
@@ -31,12 +28,9 @@ over-none s b o = omega (
 
 one-maker : (s : State) (r : ℕ) → IsSound s → hidden s.calls r ≤ 1
 one-maker s r k = elim (eqb_tells (hidden s.calls r) 0) [
-  | inl e ↦ (let z = e.1 in omega (arith, z))
-  | inr e ↦ (
-      let d = e.1 in
-      let q = count-find (readies r) None s.calls (omega (arith, d)) in
-      (k.counted r (ready-live s r (get_or s.calls q.place None) q.passes (k.calls_fit q.place None q.inside))).one_maker
-      )
+  | inl e ↦ omega (arith, e.1)
+  | inr e ↦ (let q = count-find (readies r) None s.calls (let d = e.1 in omega (arith, d)) in
+      (k.counted r (ready-live s r _ q.passes (k.calls_fit q.place None q.inside))).one_maker)
 ]
 
 -- of a sound machine all that is promised to its users holds
@@ -53,14 +47,10 @@ promises-of s k = record {
   records_known = All-from_get_or (λ r. (r < length s.tables.records) × ((record_at s.tables r).live ≡ false)) s.freed_records 0
       (λ i l. (let q = get_or s.freed_records i 0 in let n : q < length s.tables.records =
       All-get_or (λ r. r < length s.tables.records) s.freed_records i 0 l k.record_log.known in
-      (n, logged-dead s q (record_at s.tables q).live k n refl (logged-at s.freed_records i 0 l))));
+      (n, grind (arith, k.record_log.exact q n, logged-at s.freed_records i 0 l))));
   never_held = λ b f. (let u = freed-none s b k f in let m = holders-le-users (reading s) b in omega (arith, u, m));
   unused_freed = λ b l e. none-freed s b k l e;
-  records_freed = λ r l f. dead-logged s r (record_at s.tables r).live k l refl (λ e. freed-none s (record_at s.tables r).block k f);
-  none_left = λ o. (
-    λ b l. none-freed s b k l (over-none s b o),
-    λ r l. dead-logged s r (record_at s.tables r).live k l refl
-        (λ e. over-none s (record_at s.tables r).block o),
-  );
+  records_freed = λ r l f. dead-logged s r k l (freed-none s (record_at s.tables r).block k f);
+  none_left = λ o. (λ b l. none-freed s b k l (over-none s b o), λ r l. dead-logged s r k l (over-none s (record_at s.tables r).block o));
   capped = k.capped;
 }

@@ -1,5 +1,5 @@
 -- A clone or slice has loaded a descriptor and makes a record, which nothing shows yet.
-use Rattle.iobufs_owner.proofs.Base.{◌≡◌, inl, inr, ℕ, ◌+◌, ◌^◌, ◌<◌, ◌==◌, true, cond, length, set, sym, ◌∙◌, ap, subst, refl, arith, Option, Some, None, length-append, length-set, State, Tables, record_at, call_at, holders, users, tally, reading, IsSound, IsLoading, SpeaksOf, hidden, readies, releases, called, with_record, part, Record, Share, Pending, Loaded, Ready, count-set, owner-kept, shares-kept, promised-kept, calls-fit-set, at-some, ne_eqb, eq-eqb, fits-at, live-inside, owner-used, record-log-more, sized, alike, drops_by, holders-as, still_by, users-as, all-fit-on, sound-same, leaves}
+use Rattle.iobufs_owner.proofs.Base.{◌≡◌, inl, inr, ℕ, ◌+◌, ◌^◌, ◌<◌, ◌==◌, true, cond, length, set, sym, ◌∙◌, ap, subst, refl, arith, Option, Some, None, length-append, length-set, State, Tables, record_at, call_at, holders, users, tally, reading, IsSound, IsLoading, SpeaksOf, hidden, readies, releases, called, with_record, part, Record, Share, Pending, Loaded, Ready, count-set, owner-kept, shares-kept, promised-kept, calls-fit-set, at-some, ne_eqb, eq-eqb, fits-at, live-inside, owner-used, record-log-more, sized, alike, drops_by, holders-as, still_by, users-as, all-fit-on, sound-same, call-kept}
 use Rattle.iobufs_owner.proofs.Soundness.NewRecord.{recorded, recorded-new, recorded-keeps, recorded-let_go, recorded-live, recorded-either, one-more, unhidden-next}
 use Rattle.iobufs_owner.proofs.Soundness.Called.{count-calls}
 
@@ -41,8 +41,8 @@ sound-readied s p part w b k at ld same few =
       promised = promised-kept g g' ld.view w b e (owner-kept g g' s.calls ld.view e (fits-at s part.handle ld.view k ld.shares.at)) promised;
       live = ap (λ (v : Record). v.live) new;
       same = ap (λ (v : Record). v.block) new;
-    }) (λ i _ _. leaves next (call_at s i) k refl e (λ q j t. recorded-let_go g 2 b q t) (λ n _ t. live n t)
-    (λ n _ t. old n (live-inside g.records n t)) (λ n _. hm (record_at g n).block)) k.calls_fit)
+    }) (λ i _ _. call-kept next (call_at s i) k e (λ q j t. recorded-let_go g 2 b q t) (λ n _ t. live n t)
+    (λ n _ t. old n (live-inside g.records n t)) (λ _ _ _ a. a) (λ n _. hm (record_at g n).block)) k.calls_fit)
     (λ d. rw rel (k.one_release d)) hm um
     (λ q t. elim (recorded-either g 2 b q t) [
       | inl u ↦ rw (u.1, old q u.0, hm, um, v.describes (record_at g q).block)

@@ -1,5 +1,5 @@
 -- The last step of a drop: record and block are freed.
-use Rattle.iobufs_owner.proofs.Base.{◌≡◌, ◌≢◌, inl, inr, ℕ, ◌+◌, ◌<◌, ◌==◌, Bool, true, false, cond, length, set, sym, ◌∙◌, ap, refl, arith, Option, Some, None, nat_eq, length-set, eqb_tells, State, Tables, owner_of, record_at, handle_at, call_at, holds, holders, users, Dropping, still_holds, drops, tally, reading, read_handle, read_call, has_let_go, tables_without, both_freed, called, IsSound, alone, hidden, readies, releases, Handle, Pending, Release, count-set, count-some, count-less, count-most, count-two, count-find, count-sum, holders-le-users, calls-fit-set, at-some, owner-counted, ne_eqb, eq-eqb, live-inside, held_by, still_by, drops_by, holders-as, users-as, alone-holds, lets_go, drops-split, go-releases, block-log-freed, record-log-dead, and_right, call-fits, alike, all-fit-on, leaves}
+use Rattle.iobufs_owner.proofs.Base.{◌≡◌, ◌≢◌, inl, inr, ℕ, ◌+◌, ◌<◌, ◌==◌, Bool, true, false, cond, length, set, sym, ◌∙◌, ap, refl, arith, Option, Some, None, nat_eq, length-set, eqb_tells, State, Tables, owner_of, record_at, handle_at, call_at, holds, holders, users, Dropping, still_holds, drops, tally, reading, read_handle, read_call, has_let_go, tables_without, both_freed, called, IsSound, alone, hidden, readies, releases, Handle, Pending, Release, count-set, count-some, count-less, count-most, count-two, count-find, count-sum, holders-le-users, calls-fit-set, at-some, owner-counted, ne_eqb, eq-eqb, live-inside, held_by, still_by, drops_by, holders-as, users-as, alone-holds, lets_go, drops-split, go-releases, block-log-freed, record-log-dead, and_right, call-fits, alike, all-fit-on, call-kept, cases_Bool}
 use Rattle.iobufs_owner.proofs.Soundness.RecordFreed.{dead-at, dead-block, dead-other, dead-keeps, dead-let_go, dead-live}
 use Rattle.iobufs_owner.proofs.Soundness.Alone.{named, ready-borrows}
 
@@ -23,18 +23,17 @@ release-last s p r k at =
     let split = count-sum (drops_by s.tables b) (still_by s.tables b) (lets_go s.tables b) s.calls (drops-split s.tables b) in
     let ones = k.one_release b in
     let here = count-some (releases s.tables b) s.calls p None l (rw at (eq-eqb b b refl)) in
-    let by : (w : Bool) → has_let_go s.tables r ≡ w → Last s b = λ w. elim w as (λ w. has_let_go s.tables r ≡ w → Last s b) [
-      | true ↦ λ e. (let n1 = rw e at n in
+    elim (cases_Bool (has_let_go s.tables r)) [
+      | inl e ↦ (let n1 = rw e at n in
           let go = count-most (releases s.tables b) (lets_go s.tables b) s.calls (go-releases s.tables b) in
           let some = count-some (lets_go s.tables b) s.calls p None l (rw (at, e, eq-eqb b b refl) refl) in
           record { none = omega arith; one = omega arith; users = omega arith })
-      | false ↦ λ e. (let n1 = rw e at n in
+      | inr e ↦ (let n1 = rw e at n in
           let some = count-some (still_by s.tables b) s.calls p None l (rw (at, e) (eq-eqb b b refl)) in
           let go = count-less (releases s.tables b) (lets_go s.tables b) s.calls p None (go-releases s.tables b) l (rw at (eq-eqb b b refl))
           (rw (at, e) (and_right (b == b) false refl)) in
           record { none = omega arith; one = omega arith; users = omega arith })
-    ] in
-    by (has_let_go s.tables r) refl
+    ]
 
 none-holds : (s : State) (b i : ℕ) (x : Handle) → tally (held_by s.tables b) s.handles ≡ 0 → handle_at s i ≡ Some x → owner_of s.tables x ≢ Some b
 none-holds s b i x z at o =
@@ -94,11 +93,11 @@ sound-released s p r k at =
             (owner-counted g x q w ∙ ap (λ (n : ℕ). Some (record_at g n).block) y)) ∙ f.live,
         hid q ∙ f.shown,
       )) k.fit;
-      calls_fit = calls-fit-set s next p None l tt (λ i ne lo. leaves next (call_at s i) k refl e (λ q j t. dead-let_go g r q)
+      calls_fit = calls-fit-set s next p None l tt (λ i ne lo. call-kept next (call_at s i) k e (λ q j t. dead-let_go g r q)
           (λ q n t. dead-other g r q (λ y. elim (named s r (call_at s i) (k.calls_fit i None lo) (rw y at n)) [
             | inl z ↦ omega (arith, f.shown, count-some (readies r) s.calls i None lo z)
             | inr z ↦ other-drops s p r i b at refl last.one ne lo z.1
-          ]) ∙ t) (λ q _ _. hid q) (λ q y. hm (record_at g q).block
+          ]) ∙ t) (λ q _ _. hid q) (λ _ _ _ a. a) (λ q y. hm (record_at g q).block
           (λ j. other-drops s p r i b at refl last.one ne lo (rw y (eq-eqb b (record_at g q).block (sym j)))))) k.calls_fit;
       one_release = λ c. let n = count-set (releases g' c) s.calls p None None l in let m =
           v.releases c in omega (arith, n, m, k.one_release c);

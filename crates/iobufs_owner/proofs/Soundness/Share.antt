@@ -31,6 +31,6 @@ sound-added-call s p r k x i at h low few =
     let yx : a.view ≡ x = some-same a.view x (sym a.shares.at ∙ h) in
     let sh : Shares s k x = subst (λ (y : Handle). Shares s k y) yx a.shares in
     let xw : x.word ≡ Counted r = subst (λ (y : Handle). y.word ≡ Counted r) yx a.word in
-    let one = sound-added s k.handle r k.lo k.hi x i h sh.view xw sh.order sh.within low few in
+    let one = sound-added s r k x i sh xw low few in
     let s1 : State = with_handle (with_count s r ((record_at s.tables r).count + 1)) (part x k.lo k.hi (Counted r)) in
     sound-called s1 p None one (at-some s.calls p (Add k r) at) (subst (λ (c : Option Pending). IsQuiet s1 c) (sym at) (quiet-add s1 k r)) (quiet-none s1) tt

@@ -40,7 +40,8 @@ pub sound-split_counted : (s : State) (h r at : ℕ) (x : Handle) → IsSound s 
 sound-split_counted s h r at x k t i low on few =
     let g' : Tables = counted s.tables r ((record_at s.tables r).count + 1) in
     let front : Handle = part x 0 at (Counted r) in
-    let one = sound-added s h r 0 at x k t.at t.kind_is i (omega arith) low on few in
+    let one = sound-added s r (record { handle = h; lo = 0; hi = at }) x k
+    (record { at = t.at; view = t.kind_is; order = omega arith; within = low }) i on few in
     let two = sound-part_counted (record s { tables = g'; handles = s.handles ++ Some front ∷ [] }) h x r at x.len one (lends-more s g' front h x t) i low
     (omega arith) in
     rw (set-append_left s.handles (Some front ∷ []) h (Some (part x at x.len (Counted r))) (at-some s.handles h x t.at)) at two
@@ -62,7 +63,8 @@ sound-split_described s h w b at x k t i o low few' few =
     let one : IsSound s1 = sound-promoted s h x w b View k t i o few' in
     let at1 : handle_at s1 h ≡ Some y = get_or-set_same s.handles h (Some y) None l in
     let ceiling = k.size.ceiling in
-    let two = sound-added s1 h r 0 at y one at1 refl refl (omega arith) low (rw (recorded-new s.tables 1 b) (omega (arith, ceiling))) (rw length-set few) in
+    let two = sound-added s1 r (record { handle = h; lo = 0; hi = at }) y one (record { at = at1; view = refl; order = omega arith; within = low }) refl
+    (rw (recorded-new s.tables 1 b) (omega (arith, ceiling))) (rw length-set few) in
     let g2 : Tables = counted (recorded s.tables 1 b) r ((record_at (recorded s.tables 1 b) r).count + 1) in
     let t1 : Lends s1 h View y = record { at = at1; kind_is = refl; free = t.free } in
     let three = sound-part_counted (record s1 { tables = g2; handles = s1.handles ++ Some front ∷ [] }) h y r at x.len two

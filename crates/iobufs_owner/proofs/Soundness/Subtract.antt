@@ -1,5 +1,5 @@
 -- A drop lets go: the count shrinks by one.
-use Rattle.iobufs_owner.proofs.Base.{◌≡◌, ◌≢◌, inl, inr, ℕ, ◌+◌, ◌-◌, ◌<◌, ◌≤◌, ◌==◌, Bool, true, false, cond, length, set, sym, ◌∙◌, ap, subst, refl, arith, All, Option, Some, None, nat_eq, length-set, All-from_get_or, get_or-set_same, nat_tests, eqb_tells, State, Tables, record_at, call_at, holders, users, tally, reading, has_let_go, IsSound, FitsCall, alone, describes, hidden, readies, releases, Pending, Subtract, Release, count-set, count-some, count-most, count-two, holders-le-users, KeepsLetGo, calls-fit-set, at-some, ne_eqb, eq-eqb, counted, with_count, called, live-inside, block-log-alike, record-log-counted, holders-as, users-as, held_by, still_by, drops_by, alone-holds, call-fits, alike, count-change, count-none, all-fit-on, leaves}
+use Rattle.iobufs_owner.proofs.Base.{◌≡◌, ◌≢◌, inl, inr, ℕ, ◌+◌, ◌-◌, ◌<◌, ◌≤◌, ◌==◌, true, false, cond, length, set, sym, ◌∙◌, ap, subst, refl, arith, All, Option, Some, None, nat_eq, length-set, All-from_get_or, get_or-set_same, nat_tests, eqb_tells, State, Tables, record_at, call_at, holders, users, tally, reading, has_let_go, IsSound, FitsCall, alone, describes, hidden, readies, releases, Pending, Subtract, Release, count-set, count-some, count-most, count-two, holders-le-users, KeepsLetGo, calls-fit-set, at-some, ne_eqb, eq-eqb, counted, with_count, called, live-inside, block-log-alike, record-log-counted, holders-as, users-as, held_by, still_by, drops_by, alone-holds, call-fits, alike, count-change, count-none, all-fit-on, call-kept, cases_Bool}
 use Rattle.iobufs_owner.proofs.Soundness.AddHolder.{counted-keeps, counted-block, counted-live, counted-same, counted-other}
 
 -- the call after a subtraction from count n: `Release` if n is 1, else none
@@ -23,14 +23,13 @@ none-release s p r i (Some (Release q)) k at l e f t =
     let h = holders-as s b in
     let one = count-some (still_by s.tables b) s.calls p None lp (rw at (eq-eqb b b refl)) in
     let n = rw (← same) at f.alone in
-    let by : (w : Bool) → has_let_go s.tables q ≡ w → ⊥ = λ w. elim w as (λ w. has_let_go s.tables q ≡ w → ⊥) [
-      | true ↦ λ z. (let m = rw z at n in omega (arith, m, h, one))
-      | false ↦ λ z. (let m = rw z at n in
+    elim (cases_Bool (has_let_go s.tables q)) [
+      | inl z ↦ (let m = rw z at n in omega (arith, m, h, one))
+      | inr z ↦ (let m = rw z at n in
           let two = count-two (still_by s.tables b) s.calls p i None (λ j. let q = sym at ∙ ap (λ (n : ℕ). call_at s n) j ∙ e in cc) lp l
           (rw at (eq-eqb b b refl)) (rw (e, z) (eq-eqb b (record_at s.tables q).block same)) in
           omega (arith, m, h, two))
-    ] in
-    by (has_let_go s.tables q) refl
+    ]
 none-release s p r i c k at l e f t = cc
 
 -- so another count for that block's record leaves each call that frees a record as it was
@@ -45,9 +44,6 @@ counted-drops s p r n k at =
 pub gone-after : (g : Tables) (r : ℕ) → r < length g.records → (record_at g r).count ≡ 1 → has_let_go (counted g r ((record_at g r).count - 1)) r ≡ true
 gone-after g r inside one = eq-eqb (record_at (counted g r ((record_at g r).count - 1)) r).count 0
     (counted-same g r ((record_at g r).count - 1) inside ∙ omega (arith, one))
-
-both-some : (m n : ℕ) → 0 < m → 0 < n → nat_eq m 0 ≡ nat_eq n 0
-both-some m n h i = grind (arith, nat_tests)
 
 -- a drop lowers the count by one, and is over, or has to free where it was the last: the machine stays sound
 pub sound-subtracted : (s : State) (p r : ℕ) → IsSound s → call_at s p ≡ Some (Subtract r) → IsSound (subtracted s p r)
@@ -105,8 +101,8 @@ sound-subtracted s p r k at =
         live = counted-live g r (n - 1) r ∙ f.0;
         shown = hid r ∙ f.1;
         alone = rw (gone-after g r inside one) (ap (λ c. holders (reading next) c) bb ∙ omega (arith, one, is, fewer));
-      }) (λ _. tt)) (λ i _ lo. leaves next (call_at s i) k refl e (gone i None lo) (λ q _ t. counted-live g r (n - 1) q ∙ t) (λ q _ _. hid q)
-          (λ q j. same (record_at g q).block
+      }) (λ _. tt)) (λ i _ lo. call-kept next (call_at s i) k e (gone i None lo) (λ q _ t. counted-live g r (n - 1) q ∙ t) (λ q _ _. hid q)
+          (λ _ _ _ a. a) (λ q j. same (record_at g q).block
           (λ w. none-release s p r i (call_at s i) k at lo refl (k.calls_fit i None lo) (rw j (eq-eqb b (record_at g q).block (sym w)))))) k.calls_fit;
       one_release = λ c. afterwards-by (λ y. tally (releases g' c) (set s.calls p y) ≤ 1) r n
           (λ _. let m = count-set (releases g' c) s.calls p (Some (Release r)) None lp in elim (eqb_tells c b) [
@@ -139,7 +135,7 @@ sound-subtracted s p r k at =
       capped = λ c. omega (arith, hm c, k.capped c);
       known_users = λ c t. elim (eqb_tells c b) [ inl i ↦ rw i.1 me.known | inr i ↦ k.known_users c (rw (others c i.1) at t) ];
       block_log = block-log-alike (λ c t. elim (eqb_tells c b) [
-        | inl i ↦ rw i.1 (sym (both-some (users (reading s) b) (users (reading next) b) me.used some))
+        | inl i ↦ rw i.1 (grind (arith, nat_tests, me.used, some))
         | inr i ↦ ap (λ n. nat_eq n 0) (others c i.1)
       ]) k.block_log;
       record_log = record-log-counted r _ inside refl k.record_log;

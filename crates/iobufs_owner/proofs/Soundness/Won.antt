@@ -1,5 +1,5 @@
 -- A clone or slice wins the race: its record takes the descriptor's place, and counts the handle and the new view.
-use Rattle.iobufs_owner.proofs.Base.{◌≡◌, ◌≢◌, inl, inr, ℕ, ◌+◌, ◌^◌, ◌<◌, ◌≤◌, ◌==◌, true, cond, List, length, get_or, set, sym, ◌∙◌, ap, subst, refl, arith, All, Option, Some, None, nat_eq, length-set, All-from_get_or, get_or-set_same, get_or-set_other, set-set, eqb_tells, State, Tables, owner_of, record_at, block_at, handle_at, call_at, holders, users, is_block, tally, reading, has_let_go, IsSound, Fits, FitsCall, Shares, SpeaksOf, alone, describes, hidden, readies, releases, counted, called, edited, with_handle, part, Handle, Share, View, Pending, Loaded, Ready, Add, Subtract, Release, Descriptor, Counted, count-set, count-some, owner-kept, shares-kept, promised-kept, described-kept, handles-fit-set, at-some, owner-counted, ne_eqb, eq-eqb, fits-at, alone-at, live-inside, lies-still, alone-described, describes-described, describes-counted, alone-shared, describes-few, no_record, record-log-counted, call-fits, count-change, false, alike, drops_by, held_by, holders-as, still_by, users-as, fit-on, sound-same, set-get_or}
+use Rattle.iobufs_owner.proofs.Base.{◌≡◌, ◌≢◌, inl, inr, ℕ, ◌+◌, ◌^◌, ◌<◌, ◌≤◌, ◌==◌, true, cond, List, length, get_or, set, sym, ◌∙◌, ap, subst, refl, arith, All, Option, Some, None, length-set, All-from_get_or, get_or-set_same, get_or-set_other, set-set, eqb_tells, State, Tables, owner_of, record_at, block_at, handle_at, call_at, holders, users, is_block, tally, reading, IsSound, Fits, FitsCall, Shares, SpeaksOf, alone, describes, hidden, readies, releases, counted, called, edited, with_handle, part, Handle, Share, View, Pending, Loaded, Ready, Add, Subtract, Release, Descriptor, Counted, count-set, count-some, owner-kept, shares-kept, promised-kept, described-kept, handles-fit-set, at-some, owner-counted, ne_eqb, eq-eqb, fits-at, alone-at, live-inside, lies-still, alone-described, describes-described, describes-counted, alone-shared, describes-few, no_record, record-log-counted, call-fits, count-change, false, alike, drops_by, held_by, holders-as, still_by, users-as, fit-on, sound-same, set-get_or}
 use Rattle.iobufs_owner.proofs.Soundness.AddHolder.{sound-added, counted-keeps, counted-let_go, counted-block, counted-live, counted-same, counted-other}
 
 -- ---- the record is published in the place of the descriptor, and counts the handle
@@ -57,11 +57,7 @@ share-shown s p h r x b part z y d at l fit o bl sh pr =
       }
     ]
 
--- the count of the shown record isn't 0 before and after
-shown-let_go : (g : Tables) (r : ℕ) → (record_at g r).count ≡ 2 → nat_eq 1 0 ≡ has_let_go g r
-shown-let_go g r e = rw e refl
-
--- the call of another party, where the word of handle h has become a record
+-- the call of another thread, where the word of handle h has become a record
 call-shown : (s : State) (p h r i : ℕ) (x : Handle) (b : ℕ) (c : Option Pending) → handle_at s h ≡ Some x → (w : ℕ) → x.word ≡ Descriptor w
     → h < length s.handles → All (Fits s.tables s.calls) s.handles → owner_of s.tables x ≡ Some b → (record_at s.tables r).block ≡ b
     → (record_at s.tables r).count ≡ 2 → ((q : ℕ) → hidden (set s.calls p None) q ≤ hidden s.calls q)
@@ -96,7 +92,7 @@ call-shown s p h r i x b (Some (Release q)) at w word l fit o bl two hid n f =
     record {
       live = counted-live s.tables r 1 q ∙ f.live;
       shown = (let z = hid q in let y = f.shown in omega arith);
-      alone = rw (counted-block s.tables r 1 q, counted-let_go s.tables r 1 q (shown-let_go s.tables r two), n) f.alone;
+      alone = rw (counted-block s.tables r 1 q, counted-let_go s.tables r 1 q (rw two refl), n) f.alone;
     }
 
 pub sound-shown : (s : State) (p r w : ℕ) (part : Share) (x : Handle) → IsSound s → call_at s p ≡ Some (Ready part w r)
@@ -121,7 +117,7 @@ sound-shown s p r w part x k atp at word =
     let two : (record_at s.tables r).count ≡ 2 =
     (let a = count-some (readies r) s.calls p None lp (ap (readies r) atp ∙ eq-eqb r r refl) in let m =
     (k.counted r f.live).one_maker in (k.counted r f.live).fresh (omega (arith, a, m))) in
-    let v = alike s g' k e (λ i d l q j t. counted-let_go g r 1 q (shown-let_go g r two)) in
+    let v = alike s g' k e (λ i d l q j t. counted-let_go g r 1 q (rw two refl)) in
     let held : (c : ℕ) → tally (held_by g' c) (set s.handles h (Some y)) ≡ tally (held_by g c) s.handles = λ c. let n =
     rw (at, ox, oy) at (count-set (held_by g' c) s.handles h (Some y) None l) in omega (arith, n, v.held c) in
     let hm : (c : ℕ) → holders (reading next) c ≡ holders (reading s) c = λ c. let n =
@@ -229,12 +225,16 @@ sound-won s p r w part' x k at atx xw few =
     let inside = live-inside g.records r f.live in
     let one = sound-shown s p r w part' x k at atx xw in
     let s1 : State = shown s p part'.handle r x in
-    let at1 : handle_at s1 part'.handle ≡ Some (by_record x r) =
-    get_or-set_same s.handles part'.handle (Some (by_record x r)) None (at-some s.handles part'.handle x atx) in
+    let sh1 : Shares s1 part' (by_record x r) = record {
+      at = get_or-set_same s.handles part'.handle (Some (by_record x r)) None (at-some s.handles part'.handle x atx);
+      view = sh.view;
+      order = sh.order;
+      within = sh.within;
+    } in
     let hid : hidden s.calls r
     ≡ 1 = (let a = count-some (readies r) s.calls p None (at-some s.calls p (Ready part' w r) at) (ap (readies r) at ∙ eq-eqb r r refl) in
     let m = (k.counted r f.live).one_maker in omega (arith, a, m)) in
     let count1 : (record_at s1.tables r).count ≡ 1 = counted-same g r 1 inside in
     let ceiling = k.size.ceiling in
-    rw (twice s.tables r inside ((k.counted r f.live).fresh hid)) at (sound-added s1 part'.handle r part'.lo part'.hi (by_record x r) one at1 sh.view refl
-    sh.order sh.within (omega (arith, count1, ceiling)) (rw length-set few))
+    rw (twice s.tables r inside ((k.counted r f.live).fresh hid)) at
+    (sound-added s1 r part' (by_record x r) one sh1 refl (omega (arith, count1, ceiling)) (rw length-set few))

@@ -1,5 +1,5 @@
 -- The test of a good place passes exactly where a block may lie.
-use Rattle.iobufs_owner.proofs.Base.{All, All-cons, All-head, All-tail, ApartFrom, Block, IsGoodPlace, IsPlace, IsPowerOfTwo, List, align-small, and_cases, and_parts, and_right, ap, arith, eq-eqb, eqb-true, eqb_tells, false, false_from_ne_true, inl, inr, is_good_place, is_place, is_power_below, is_taken, le-ltb, log-below, lt-ltb, ltb-false, ltb-true, nat_eq, nat_lt, next_multiple_of, not, not-true, or_cases, or_left, or_parts, or_right, refl, suc, true, zero, ◌≡◌, ℕ, ◌+◌, ◌%◌, ◌^◌, ◌<◌, ◌&&◌, ◌∷◌, ◌∙◌, []}
+use Rattle.iobufs_owner.proofs.Base.{All, All-cons, All-head, All-tail, ApartFrom, Block, IsGoodPlace, IsPlace, IsPowerOfTwo, List, align-small, and_parts, ap, arith, eq-eqb, eqb-true, eqb_tells, false, false_from_ne_true, inl, inr, is_good_place, is_place, is_power_below, is_taken, log-below, ltb-true, nat_eq, next_multiple_of, not, not-true, or_cases, or_left, or_parts, or_right, refl, suc, true, zero, ◌≡◌, ℕ, ◌+◌, ◌%◌, ◌^◌, ◌<◌, ◌∷◌, ◌∙◌, [], nat_tests}
 
 power-is : (k align : ℕ) → is_power_below k align ≡ true → IsPowerOfTwo align
 unfolding is_power_below
@@ -22,23 +22,15 @@ place-yes base size align p =
     let end = p.ends in
     let fits : align < 2 ^ 64 = align-small base align p.above (omega (arith, end)) p.aligned in
     let c : is_power_below 64 align ≡ true = power-below 64 align p.power.0 (log-below align p.power.0 fits p.power.1) p.power.1 in
-    rw (
-      lt-ltb 0 size p.some,
-      lt-ltb 0 base p.above,
-      c,
-      p.aligned,
-      lt-ltb (base + size) (2 ^ 64) p.ends,
-      lt-ltb (next_multiple_of size align) (2 ^ 63) p.rounded,
-    ) refl
+    grind (arith, nat_tests, c, p.some, p.above, p.aligned, p.ends, p.rounded)
 
 place-is : (base size align : ℕ) → is_place base size align ≡ true → IsPlace base size align
 place-is base size align e =
-    let a = and_parts (nat_lt 0 size && nat_lt 0 base && is_power_below 64 align && nat_eq (base % align) 0 && nat_lt (base + size) (2 ^ 64))
-    (nat_lt (next_multiple_of size align) (2 ^ 63)) e in
-    let b = and_parts (nat_lt 0 size && nat_lt 0 base && is_power_below 64 align && nat_eq (base % align) 0) (nat_lt (base + size) (2 ^ 64)) a.0 in
-    let c = and_parts (nat_lt 0 size && nat_lt 0 base && is_power_below 64 align) (nat_eq (base % align) 0) b.0 in
-    let d = and_parts (nat_lt 0 size && nat_lt 0 base) (is_power_below 64 align) c.0 in
-    let f = and_parts (nat_lt 0 size) (nat_lt 0 base) d.0 in
+    let a = and_parts _ _ e in
+    let b = and_parts _ _ a.0 in
+    let c = and_parts _ _ b.0 in
+    let d = and_parts _ _ c.0 in
+    let f = and_parts _ _ d.0 in
     record {
       some = ltb-true 0 size f.0;
       above = ltb-true 0 base f.1;
@@ -48,28 +40,16 @@ place-is base size align e =
       rounded = ltb-true (next_multiple_of size align) (2 ^ 63) a.1;
     }
 
-apart-one : (b : Block) (base size : ℕ) → ApartFrom b base size → (nat_lt base (b.base + b.size) && nat_lt b.base (base + size)) ≡ false
-apart-one b base size (inl l) = rw (le-ltb base (b.base + b.size) l) refl
-apart-one b base size (inr l) = and_right (nat_lt base (b.base + b.size)) (nat_lt b.base (base + size)) (le-ltb b.base (base + size) l)
-
 none-taken : (bs : List Block) (base size : ℕ) → All (λ b. ApartFrom b base size) bs → is_taken bs base size ≡ false
 none-taken [] base size a = refl
-none-taken (b ∷ bs) base size a = rw (
-  apart-one b base size (All-head (λ b. ApartFrom b base size) b bs a),
-  none-taken bs base size (All-tail (λ b. ApartFrom b base size) b bs a),
-) refl
-
-one-apart : (b : Block) (base size : ℕ) → (nat_lt base (b.base + b.size) && nat_lt b.base (base + size)) ≡ false → ApartFrom b base size
-one-apart b base size e = elim (and_cases (nat_lt base (b.base + b.size)) (nat_lt b.base (base + size)) e) [
-  | inl f ↦ inl (ltb-false base (b.base + b.size) f)
-  | inr f ↦ inr (ltb-false b.base (base + size) f)
-]
+none-taken (b ∷ bs) base size a =
+    let one = All-head (λ b. ApartFrom b base size) b bs a in
+    grind (arith, nat_tests, one, none-taken bs base size (All-tail (λ b. ApartFrom b base size) b bs a))
 
 all-apart : (bs : List Block) (base size : ℕ) → is_taken bs base size ≡ false → All (λ b. ApartFrom b base size) bs
 all-apart [] base size e = λ k d l. absurd (omega (arith, l))
 all-apart (b ∷ bs) base size e =
-    let n = or_parts (nat_lt base (b.base + b.size) && nat_lt b.base (base + size)) (is_taken bs base size) e in
-    All-cons (λ b. ApartFrom b base size) b bs (one-apart b base size n.0) (all-apart bs base size n.1)
+    All-cons (λ b. ApartFrom b base size) b bs (grind (arith, nat_tests, e)) (all-apart bs base size (or_parts _ (is_taken bs base size) e).1)
 
 -- the test passes at a good place
 pub good-yes : (bs : List Block) (base size align : ℕ) → IsGoodPlace bs base size align → is_good_place bs base size align ≡ true

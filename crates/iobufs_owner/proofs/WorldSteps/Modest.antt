@@ -191,4 +191,4 @@ at-modest p (Go memory) (Some c) = goes-modest p c memory
 -- handle, a record and, if its call makes one, a block.
 pub modest : (s : State) (step : Step) → IsModest s (adds_block step.act) (moved s step)
 modest s step =
-    either (nat_lt step.party (length s.calls)) (at-modest step.party step.act (call_at s step.party)) (refuses Idle refl)
+    either (nat_lt step.thread (length s.calls)) (at-modest step.thread step.act (call_at s step.thread)) (refuses Idle refl)

@@ -1,5 +1,5 @@
 -- Steps of a machine with room find it.
-use Rattle.iobufs_owner.proofs.Base.{◌≡◌, ◌≢◌, ℕ, ◌+◌, ◌≤◌, arith, List, [], ◌∷◌, ◌++◌, length, subst, Bool, cond, All, inl, inr, sym, ◌∙◌, ap, append_assoc, AllByRecursion as ByRecursion, All-from_recursion, Step, Room, Reply, Refused, Seen, State, KeepsRoom, KeepsLogs, IsBeginning, Moves, WantsRoom, Runs, GrowingRuns, RoomFor, limit, blocks_of, new_blocks, moved}
+use Rattle.iobufs_owner.proofs.Base.{◌≡◌, ◌≢◌, ℕ, ◌+◌, ◌≤◌, arith, List, [], ◌∷◌, ◌++◌, length, subst, Bool, cond, All, inl, inr, sym, ◌∙◌, ap, append_assoc, AllByRecursion as ByRecursion, All-from_recursion, Step, Room, Reply, Refused, Seen, State, KeepsRoom, KeepsLogs, IsBeginning, Moves, WantsRoom, Runs, GrowingRuns, RoomFor, limit, blocks_of, new_blocks, moved, not-full, ◌<◌}
 use Rattle.iobufs_owner.specs.State.{Room as Space}
 use Rattle.iobufs_owner.proofs.WorldSteps.Modest.{adds_block, blocks-made, modest, logs-same}
 
@@ -11,14 +11,11 @@ record HasBoth (m : Seen) (made steps : ℕ) : Type 0 where
 -- no table is full where there is room
 wants-none : (m : Seen) (t : State) (block : Bool) → length t.handles ≤ length m.state.handles + 1 → length t.tables.records ≤ length m.state.tables.records + 1
     → length t.tables.blocks ≤ length m.state.tables.blocks + cond block 1 0 → HasBoth m (cond block 1 0) 1 → WantsRoom m t → ⊥
-wants-none m t block h v b r (inl (grows, full)) =
-    let l = r.memory.handles in let f = r.few.handles in elim full [ inl used ↦ omega (arith, l, used) | inr many ↦ omega (arith, f, many) ]
+wants-none m t block h v b r (inl (grows, full)) = not-full r.memory.handles r.few.handles (omega arith) full
 wants-none m t block h v b r (inr (inl (grows, full))) =
-    let l = r.memory.blocks (omega (arith, b, grows)) in
-    let f = r.few.blocks (omega (arith, b, grows)) in
-    elim full [ inl used ↦ omega (arith, b, grows, l, used) | inr many ↦ omega (arith, b, grows, f, many) ]
-wants-none m t block h v b r (inr (inr (grows, full))) =
-    let l = r.memory.records in let f = r.few.records in elim full [ inl used ↦ omega (arith, l, used) | inr many ↦ omega (arith, f, many) ]
+    let some : 0 < cond block 1 0 = omega (arith, b, grows) in
+    not-full (r.memory.blocks some) (r.few.blocks some) (omega (arith, some)) full
+wants-none m t block h v b r (inr (inr (grows, full))) = not-full r.memory.records r.few.records (omega arith) full
 
 -- a step of a machine with room for its block and for one step isn't refused for want of room
 pub finds : (m : Seen) (step : Step) (reply : Reply) (next : Seen) → Moves m step reply next → RoomFor m.room m.state (new_blocks step.act) 1 1
@@ -41,61 +38,48 @@ keeps-logs m step reply next taken = elim taken [ inl a ↦ rw a.2 (modest m.sta
 
 -- ---- a run
 
--- room for one step less is left after one
-record IsLeft (m next : Seen) (blocks : ℕ) : Type 0 where
-  handles : length next.state.handles ≤ length m.state.handles + 1
-  records : length next.state.tables.records ≤ length m.state.tables.records + 1
-  more : length next.state.tables.blocks ≤ length m.state.tables.blocks + blocks
+-- room for as many entries, where the memory is no less, and no more entries are added than room is taken off
+room-on : (r room : Space) (s t : State) (a b k n : ℕ) → KeepsRoom r room
+    → (0 < b → (0 < a) × (length t.tables.blocks + b ≤ length s.tables.blocks + a)) → length t.handles + n ≤ length s.handles + k
+    → length t.tables.records + n ≤ length s.tables.records + k → RoomFor r s a k k → RoomFor room t b n n
+room-on r room s t a b k n (m, h, v) more few few' i = record {
+  blocks = λ p. (let e = more p in let q = i.blocks e.0 in let f = e.1 in omega (arith, q, m, f));
+  handles = let q = i.handles in omega (arith, q, h, few);
+  records = let q = i.records in omega (arith, q, v, few');
+}
+
+both-on : (m t : Seen) (a b k n : ℕ) → KeepsRoom m.room t.room
+    → (0 < b → (0 < a) × (length t.state.tables.blocks + b ≤ length m.state.tables.blocks + a)) → length t.state.handles + n ≤ length m.state.handles + k
+    → length t.state.tables.records + n ≤ length m.state.tables.records + k → HasBoth m a k → HasBoth t b n
+both-on m t a b k n keep more few few' i = record {
+  memory = room-on m.room t.room m.state t.state a b k n keep more few few' i.memory;
+  few = room-on limit limit m.state t.state a b k n (omega arith, omega arith, omega arith) more few few' i.few;
+}
 
 -- so a step leaves room for one step less
-left : (room : Space) (m next : Seen) (a b k n : ℕ) → k ≡ n + 1 → IsLeft m next a → RoomFor room m.state (a + b) k k → RoomFor room next.state b n n
-left room m next a b k n e l i = record {
-  blocks = λ p. (let q = i.blocks (omega (arith, p)) in let g = l.more in omega (arith, q, g));
-  handles = let q = i.handles in let g = l.handles in omega (arith, e, q, g);
-  records = let q = i.records in let g = l.records in omega (arith, e, q, g);
-}
-
-moves-left : (m : Seen) (step : Step) (reply : Reply) (next : Seen) (b k n : ℕ) → k ≡ n + 1 → Moves m step reply next → next.room ≡ m.room
-    → HasBoth m (new_blocks step.act + b) k → HasBoth next b n
-moves-left m step reply next b k n e taken room i =
+moves-left : (m : Seen) (step : Step) (reply : Reply) (next : Seen) (b n : ℕ) → Moves m step reply next → next.room ≡ m.room
+    → HasBoth m (new_blocks step.act + b) (n + 1) → HasBoth next b n
+moves-left m step reply next b n taken room i =
     let a = modest m.state step in
-    let l : IsLeft m next (new_blocks step.act) = rw (blocks-made step.act) (elim taken [
-      | inl c ↦ record { handles = rw c.2 a.handles; records = rw c.2 a.records; more = rw c.2 a.blocks }
-      | inr c ↦ record { handles = rw c.2 (omega arith); records = rw c.2 (omega arith); more = rw c.2 (omega arith) }
-    ]) in
-    record {
-      memory = rw room (left m.room m next (new_blocks step.act) b k n e l i.memory);
-      few = left limit m next (new_blocks step.act) b k n e l i.few;
-    }
-
--- more memory is room for the same
-more-room : (r room : Space) (s : State) (a k : ℕ) → KeepsRoom r room → RoomFor r s a k k → RoomFor room s a k k
-more-room r room s a k (b, h, v) i = record {
-  blocks = λ p. (let q = i.blocks p in omega (arith, q, b));
-  handles = let q = i.handles in omega (arith, q, h);
-  records = let q = i.records in omega (arith, q, v);
-}
-
-fewer : (room : Space) (s : State) (a b k n : ℕ) → k ≡ n + 1 → RoomFor room s (a + b) k k → RoomFor room s a 1 1
-fewer room s a b k n e i = record {
-  blocks = λ p. (let q = i.blocks (omega (arith, p)) in omega (arith, q));
-  handles = let q = i.handles in omega (arith, e, q);
-  records = let q = i.records in omega (arith, e, q);
-}
+    let e = blocks-made step.act in
+    elim taken [
+      | inl c ↦ both-on m next _ b _ n (rw room (omega arith, omega arith, omega arith))
+          (λ p. (omega (arith, p), rw c.2 (omega (arith, e, a.blocks)))) (rw c.2 (omega (arith, a.handles))) (rw c.2 (omega (arith, a.records))) i
+      | inr c ↦ both-on m next _ b _ n (rw room (omega arith, omega arith, omega arith))
+          (λ p. (omega (arith, p), rw c.2 (omega arith))) (rw c.2 (omega arith)) (rw c.2 (omega arith)) i
+    ]
 
 find-each : (m : Seen) (steps : List Step) (replies : List Reply) (next : Seen) → GrowingRuns m steps replies next
     → HasBoth m (blocks_of steps) (length steps) → ByRecursion (λ reply. reply ≢ Refused Room) replies
 find-each m [] (reply ∷ replies) next r i = absurd r
 find-each m (step ∷ steps) (reply ∷ replies) next (grown, mid, same, more, one, others) i =
-    let e : length (step ∷ steps) ≡ length steps + 1 = omega arith in
     let a = new_blocks step.act in
     let b = blocks_of steps in
-    let g : HasBoth grown (a + b) (length (step ∷ steps)) =
-    record { memory = rw same (more-room m.room grown.room m.state (a + b) _ more i.memory); few = rw same i.few } in (
-      finds grown step reply mid one.moves (fewer grown.room grown.state a b _ (length steps) e g.memory)
-          (fewer limit grown.state a b _ (length steps) e g.few),
-      find-each mid steps replies next others (moves-left grown step reply mid b _ (length steps) e one.moves one.room g),
-    )
+    let g : HasBoth grown (a + b) (length steps + 1) =
+    both-on m grown (a + b) (a + b) (length (step ∷ steps)) _ more (λ p. (p, rw same (omega arith))) (rw same (omega arith)) (rw same (omega arith)) i in
+    let f : HasBoth grown a 1 =
+    both-on grown grown (a + b) a _ 1 (omega arith, omega arith, omega arith) (λ p. (omega (arith, p), omega arith)) (omega arith) (omega arith) g in
+    (finds grown step reply mid one.moves f.memory f.few, find-each mid steps replies next others (moves-left grown step reply mid b _ one.moves one.room g))
 find-each m steps replies next r i = tt
 
 -- no step of a run in which tables may grow is refused for want of room, where the machine has room for its blocks and steps

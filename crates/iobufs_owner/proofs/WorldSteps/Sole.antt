@@ -1,5 +1,5 @@
 -- The answer of `IsUnique` is exact.
-use Rattle.iobufs_owner.proofs.Base.{◌≡◌, ◌≢◌, ◌⊎◌, inl, inr, ℕ, ◌<◌, ◌≤◌, zero, suc, Bool, true, false, nat_eq, List, [], ◌∷◌, length, get_or, set, Option, Some, None, sym, ◌∙◌, subst, refl, arith, eqb_tells, get_or-set_same, get_or-set_other, IsUnique, Act, Begin, Step, Reply, Unique, World, LiveHandle, Unfinished, held_at, going_at, holders, holds, still_holds, tally, Begins, ActsAt, Steps, TellsUnique, count-set, count-some, count-two, eq-eqb, eqb-true, false_from_ne_true, Refusal, ap, count-none, MatchOption, Refused, cause_of, refused_at}
+use Rattle.iobufs_owner.proofs.Base.{◌≡◌, ◌≢◌, inl, inr, ℕ, ◌<◌, ◌≤◌, zero, suc, Bool, true, false, nat_eq, List, [], ◌∷◌, length, get_or, set, Option, Some, None, sym, ◌∙◌, subst, refl, arith, eqb_tells, get_or-set_same, get_or-set_other, IsUnique, Act, Begin, Step, Reply, Unique, World, LiveHandle, Unfinished, held_at, going_at, holders, holds, still_holds, tally, Begins, ActsAt, Steps, TellsUnique, count-set, count-some, count-two, eq-eqb, eqb-true, false_from_ne_true, Refusal, ap, count-none, MatchOption, Refused, cause_of, refused_at}
 
 -- ---- counts
 
@@ -13,8 +13,7 @@ inside p (x ∷ xs) (suc i) n t = let l = inside p xs i n t in omega (arith, l)
 others-fail : {X : Type 0} (p : Option X → Bool) (xs : List (Option X)) (h k : ℕ) → p None ≡ false → p (get_or xs h None) ≡ true → tally p xs ≤ 1
     → k ≢ h → p (get_or xs k None) ≡ false
 others-fail p xs h k n t few d =
-    false_from_ne_true (p (get_or xs k None)) (λ u. (let two = count-two p xs k h None d (inside p xs k n u) (inside p xs h n t) u t in omega
-    (arith, two, few)))
+    false_from_ne_true (p (get_or xs k None)) (λ u. omega (arith, few, count-two p xs k h None d (inside p xs k n u) (inside p xs h n t) u t))
 
 none-pass : {X : Type 0} (p : Option X → Bool) (xs : List (Option X)) (k : ℕ) → p None ≡ false → tally p xs ≡ 0 → p (get_or xs k None) ≡ false
 none-pass p xs k n z = false_from_ne_true (p (get_or xs k None)) (λ u. (let one = count-some p xs k None (inside p xs k n u) u in omega (arith, one, z)))
@@ -22,18 +21,14 @@ none-pass p xs k n z = false_from_ne_true (p (get_or xs k None)) (λ u. (let one
 none-counted : {X : Type 0} (p : Option X → Bool) (xs : List (Option X)) → ((k : ℕ) → p (get_or xs k None) ≡ false) → tally p xs ≡ 0
 none-counted p xs f = count-none p None xs (λ i l t. let z = sym (f i) ∙ t in cc)
 
--- without the handle
-emptied : {X : Type 0} (p : Option X → Bool) (xs : List (Option X)) (h k : ℕ) (v : (k ≡ h) ⊎ (k ≢ h)) → p None ≡ false → h < length xs
-    → ((k : ℕ) → k ≢ h → p (get_or xs k None) ≡ false) → p (get_or (set xs h None) k None) ≡ false
-emptied p xs h k (inl e) n l f = rw (e, get_or-set_same xs h None None l) n
-emptied p xs h k (inr d) n l f = rw (get_or-set_other xs h k None None d) (f k d)
-
 one-counted : {X : Type 0} (p : Option X → Bool) (xs : List (Option X)) (h : ℕ) → p None ≡ false → p (get_or xs h None) ≡ true
     → ((k : ℕ) → k ≢ h → p (get_or xs k None) ≡ false) → tally p xs ≡ 1
 one-counted p xs h n t f =
     let l = inside p xs h n t in
-    let told : (k : ℕ) → (k ≡ h) ⊎ (k ≢ h) = λ k. elim (eqb_tells k h) [ inl e ↦ inl e.1 | inr e ↦ inr e.1 ] in
-    let z = none-counted p (set xs h None) (λ k. emptied p xs h k (told k) n l f) in
+    let z = none-counted p (set xs h None) (λ k. elim (eqb_tells k h) [
+      | inl e ↦ rw (e.1, get_or-set_same xs h None None l) n
+      | inr e ↦ rw (get_or-set_other xs h k None None e.1) (f k e.1)
+    ]) in
     let c = rw (n, t, z) at (count-set p xs h None None l) in
     omega (arith, c)
 
@@ -55,12 +50,12 @@ unique-acts w next p h b memory v x None reply m at block q = unique-begun w nex
 unique-acts w next p h b memory v x (Some c) reply m at block q = absurd m
 
 unique-by : (w next : World) (step : Step) (h b : ℕ) (memory v : Bool) (o : Option Refusal) (x : LiveHandle) (reply : Reply)
-    → MatchOption o (ActsAt w step.party step.act (going_at w step.party) reply next)
-    (λ why. (reply ≡ Refused why) × (next ≡ refused_at w step.party step.act (going_at w step.party)))
+    → MatchOption o (ActsAt w step.thread step.act (going_at w step.thread) reply next)
+    (λ why. (reply ≡ Refused why) × (next ≡ refused_at w step.thread step.act (going_at w step.thread)))
     → step.act ≡ Begin (IsUnique h) memory → held_at w h ≡ Some x → x.block ≡ Some b → reply ≡ Unique v → v ≡ nat_eq (holders w b) 1
 unique-by w next step h b memory v None x reply m act at block q =
-    unique-acts w next step.party h b memory v x (going_at w step.party) reply
-    (subst (λ (a : Act). ActsAt w step.party a (going_at w step.party) reply next) act m) at block q
+    unique-acts w next step.thread h b memory v x (going_at w step.thread) reply
+    (subst (λ (a : Act). ActsAt w step.thread a (going_at w step.thread) reply next) act m) at block q
 unique-by w next step h b memory v (Some why) x reply m act at block q = absurd (let z = sym m.0 ∙ q in cc)
 
 -- a step of the world answers that a handle is unique exactly where no other handle and no unfinished drop holds its block

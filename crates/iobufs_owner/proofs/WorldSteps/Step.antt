@@ -81,18 +81,18 @@ acts s t p (Go memory) (Some (Release r)) reply k n i =
 acts s t p (Begin call memory) (Some (Loaded part w)) reply k n i = same-taken i
 acts s t p act c reply k n i = same-taken i
 
-by-party : (s t : State) (step : Step) (reply : Reply) (v : Bool) → IsSound s → nat_lt step.party (length s.calls) ≡ v
-    → IsAnswered s (cond v (moved_at s step.party step.act (call_at s step.party)) (refused s Idle)) reply t
-    → MatchOption (cond v (cause_at (reading s) step.act (read_call s.tables (call_at s step.party))) (Some Idle))
-    (ActsAt (reading s) step.party step.act (read_call s.tables (call_at s step.party)) reply (reading t))
-    (λ why. (reply ≡ Refused why) × (reading t ≡ refused_at (reading s) step.party step.act (read_call s.tables (call_at s step.party))))
-by-party s t step reply true k e i = acts s t step.party step.act (call_at s step.party) reply k refl i
-by-party s t step reply false k e i =
+by-thread : (s t : State) (step : Step) (reply : Reply) (v : Bool) → IsSound s → nat_lt step.thread (length s.calls) ≡ v
+    → IsAnswered s (cond v (moved_at s step.thread step.act (call_at s step.thread)) (refused s Idle)) reply t
+    → MatchOption (cond v (cause_at (reading s) step.act (read_call s.tables (call_at s step.thread))) (Some Idle))
+    (ActsAt (reading s) step.thread step.act (read_call s.tables (call_at s step.thread)) reply (reading t))
+    (λ why. (reply ≡ Refused why) × (reading t ≡ refused_at (reading s) step.thread step.act (read_call s.tables (call_at s step.thread))))
+by-thread s t step reply true k e i = acts s t step.thread step.act (call_at s step.thread) reply k refl i
+by-thread s t step reply false k e i =
     let r = same-taken i in
-    rw (get_or_past s.calls step.party None (ltb-false step.party (length s.calls) e)) (r.0, r.1 ∙ sym (refused-none (reading s) step.party step.act))
+    rw (get_or_past s.calls step.thread None (ltb-false step.thread (length s.calls) e)) (r.0, r.1 ∙ sym (refused-none (reading s) step.thread step.act))
 
 -- users of a sound machine see a move of it as a step of the world
 pub steps-of : (m n : Seen) (step : Step) (reply : Reply) → IsSound m.state → Moves m step reply n → Steps (reading m.state) step reply (reading n.state)
 steps-of m n step reply k i =
-    rw (length-map, get_or-read (read_call m.state.tables) m.state.calls step.party None)
-    (by-party m.state n.state step reply (nat_lt step.party (length m.state.calls)) k refl (answered m (moved m.state step) reply n.state i))
+    rw (length-map, get_or-read (read_call m.state.tables) m.state.calls step.thread None)
+    (by-thread m.state n.state step reply (nat_lt step.thread (length m.state.calls)) k refl (answered m (moved m.state step) reply n.state i))

@@ -11,7 +11,7 @@ pub replaced-in : {w : World} {z : Option LiveHandle} (s : State) (h : ℕ) (o :
     → reading (replaced s h o) ≡ record w { handles = set w.handles h z }
 replaced-in s h o r e = rw (← r, ← e, map-set (read_handle s.tables) s.handles h o) refl
 
--- another call of a party is, read, that in the world
+-- another call of a thread is, read, that in the world
 pub called-in : {w : World} (s : State) (p : ℕ) (c : Option Pending) → reading s ≡ w → reading (called s p c) ≡ call_set w p (read_call s.tables c)
 called-in s p c r = rw (← r, map-set (read_call s.tables) s.calls p c) refl
 

@@ -1,5 +1,5 @@
 -- The effect of an abstract step on the calls, and the cause of its refusal, if any: one walk over all steps.
-use Rattle.iobufs_owner.proofs.Base.{Act, ActsAt, ltb-false, set, nat_eq, Advance, Begin, Begins, Block, Bool, Call, Ceiling, Clone, Demote, Done, Drop, Dropping, External, Freeze, Go, Goes, GoesOn, GoesOnWithin, LiveHandle, Idle, IsBeside, IsCaused, IsUnique, List, MatchBool, MatchOption, Memory, More, New, None, Option, Put, Refusal, Refused, Reply, SharesOn, Sharing, Slice, Some, SplitTo, Static, Step, Steps, TryIntoMut, Unfinished, World, ap, arith, cause_at, cause_gone, cause_if, cause_of, cond, false, going_at, held_at, holders, inl, inr, is_over_at, length, ltb-true, may_take, nat_lt, refl, subst, sym, taken_after, true, ◌≡◌, ◌≢◌, ◌⊎◌, ℕ, ◌<◌, ◌≤◌, ◌&&◌, ◌∙◌, refused_at, get_or_past}
+use Rattle.iobufs_owner.proofs.Base.{Act, ActsAt, ltb-false, set, nat_eq, Advance, Begin, Begins, Block, Bool, Call, Ceiling, Clone, Demote, Done, Drop, Dropping, External, Freeze, Go, Goes, GoesOn, GoesOnWithin, LiveHandle, Idle, IsBeside, IsCaused, IsUnique, List, MatchBool, MatchOption, Memory, More, New, None, Option, Put, Refusal, Refused, Reply, SharesOn, Sharing, Slice, Some, SplitTo, Static, Step, Steps, TryIntoMut, Unfinished, World, ap, arith, cause_at, cause_gone, cause_of, cond, false, going_at, held_at, holders, inl, inr, length, ltb-true, may_take, nat_lt, refl, subst, sym, taken_after, true, ◌≡◌, ◌≢◌, ◌⊎◌, ℕ, ◌<◌, ◌≤◌, ◌∙◌, refused_at, get_or_past}
 use Rattle.iobufs_owner.specs.Steps as world
 
 -- how many steps more a call may take
@@ -14,7 +14,7 @@ IsLess (Some d) c = left_of c < left_of d
 
 -- the call of thread p goes on, nearer to its end
 pub record GoesNearer (w : World) (p : ℕ) (o : Option Unfinished) (reply : Reply) (next : World) : Type 0 where
-  pub party : p < length w.calls
+  pub thread : p < length w.calls
   pub call : Unfinished
   pub calls : next.calls ≡ set w.calls p (Some call)
   pub more : reply ≡ More
@@ -23,7 +23,7 @@ pub record GoesNearer (w : World) (p : ℕ) (o : Option Unfinished) (reply : Rep
 
 -- the call of thread p has ended
 pub record HasEnded (w : World) (p : ℕ) (reply : Reply) (next : World) : Type 0 where
-  pub party : p < length w.calls
+  pub thread : p < length w.calls
   pub calls : next.calls ≡ set w.calls p None
   pub none : (n : ℕ) → taken_after n reply ≡ 0
 
@@ -87,7 +87,7 @@ goes-on : {w next : World} {p : ℕ} {o : Option Unfinished} {memory : Bool} {re
     → GoesOn u p c reply next → u.calls ≡ w.calls → 0 < left_of c → IsLess o c → IsTold w p o memory reply next
 goes-on {p} u c l (m, f) e some less = record {
   calls = inr (inl (record {
-    party = l;
+    thread = l;
     call = c;
     calls = ap (λ (w : World). w.calls) f ∙ ap (λ (cs : List (Option Unfinished)). set cs p (Some c)) e;
     more = m;
@@ -100,7 +100,7 @@ goes-on {p} u c l (m, f) e some less = record {
 -- a step that ends the call
 ended : {w u next : World} {p : ℕ} {o : Option Unfinished} {answer reply : Reply} → p < length w.calls → (reply ≡ answer) × (next ≡ u)
     → u.calls ≡ set w.calls p None → ((n : ℕ) → taken_after n answer ≡ 0) → Changes w p o reply next
-ended l (e, f) c z = inr (inr (record { party = l; calls = ap (λ (w : World). w.calls) f ∙ c; none = λ n. ap (taken_after n) e ∙ z n }))
+ended l (e, f) c z = inr (inr (record { thread = l; calls = ap (λ (w : World). w.calls) f ∙ c; none = λ n. ap (taken_after n) e ∙ z n }))
 
 ends : {w u next : World} {p : ℕ} {o : Option Unfinished} {memory : Bool} {answer reply : Reply} → p < length w.calls
     → (reply ≡ answer) × (next ≡ u) → u.calls ≡ set w.calls p None → ((n : ℕ) → taken_after n answer ≡ 0) → is_plain answer ≡ true
@@ -179,8 +179,7 @@ acts-told (Go memory) (Some c) l r = gone-told c memory l r
 
 -- only a holder too many stands against a call that goes on
 only-ceiling : (w : World) (c : Unfinished) (why : Refusal) → cause_gone w c ≡ Some why → why ≡ Ceiling
-only-ceiling w (Sharing h lo hi left) why e = elim (nat_eq left 1 && is_over_at w (held_at w h)) as (λ v. cause_if v Ceiling ≡ Some why → why ≡ Ceiling)
-    [ true ↦ λ e. cc | false ↦ λ e. absurd (cc) ] e
+only-ceiling w (Sharing h lo hi left) why e = grind (arith, e)
 only-ceiling w (Dropping b let_go left) why e = absurd (cc)
 
 refused-calls : (w next : World) (p : ℕ) (act : Act) (o : Option Unfinished) (why : Refusal) (reply : Reply) → p < length w.calls
@@ -214,5 +213,5 @@ told-by w next p act o false reply g e m =
 -- A step changes the call of its thread alone. The step is refused by its cause if one holds, and else only for denied
 -- memory or a full table.
 pub told : (w next : World) (step : Step) (reply : Reply) → Steps w step reply next
-    → Changes w step.party (going_at w step.party) reply next × IsCaused (may_take step.act) (cause_of w step) reply
-told w next step reply m = told-by w next step.party step.act (going_at w step.party) (nat_lt step.party (length w.calls)) reply refl refl m
+    → Changes w step.thread (going_at w step.thread) reply next × IsCaused (may_take step.act) (cause_of w step) reply
+told w next step reply m = told-by w next step.thread step.act (going_at w step.thread) (nat_lt step.thread (length w.calls)) reply refl refl m

@@ -6,7 +6,7 @@ ghost use Rattle.iobufs_owner.specs.State as state;
 ghost use Rattle.iobufs_owner.specs.State.{handle_at, record_at, block_at, owner_of, owned_by};
 
 use crate::owner::handle::end;
-use crate::owner::{Block, Handle, Machine, Record};
+use crate::owner::{Block, Freed, Handle, Machine, Record};
 
 // The first block with this base.
 fn block_with(blocks: &[Block], base: u64) -> Option<usize>
@@ -48,15 +48,26 @@ impl Machine {
         self.blocks[b]
     }
 
+    /// The base, size and alignment that the descriptor and its handle give.
+    pub(super) fn recovered(&self, x: Handle, word: u64) -> Freed
+        requires { DescribesBlock self.now.state.tables x word }
+        ensures { result ≡ state.recovered self.now.state.tables x word }
+    {
+        let fields = self.format.unpack(word);
+        Freed {
+            base: end(x, fields.tail) - fields.size,
+            size: fields.size,
+            align: fields.align,
+        }
+    }
+
     /// The number of the block that a descriptor of this handle describes: the one at the base that both give.
     pub(super) fn described(&self, x: Handle, word: u64) -> usize
         requires word { x.word ≡ Descriptor word }
         requires says { DescribesBlock self.now.state.tables x word }
         ensures { owner_of self.now.state.tables x ≡ Some result }
     {
-        let fields = self.format.unpack(word);
-        let base = end(x, fields.tail) - fields.size;
-        match block_with(&self.blocks, base) {
+        match block_with(&self.blocks, self.recovered(x, word).base) {
             Some(number) => number,
             None => unreachable!(),
         }

@@ -1,35 +1,13 @@
 //! Handles as a call asks for them: there, of the right kind, and not borrowed.
 ghost use Rattle.std.specs.Prelude.{◌≡◌, ◌+◌, ◌^◌, ◌<◌, length, IfOk, IfSome};
 ghost use Rattle.iobufs_owner.specs.declared.owner.types.Kind.TheVariants.{View};
-ghost use Rattle.iobufs_owner.specs.Lending as lending;
-ghost use Rattle.iobufs_owner.specs.Lending.{is_lent, lend_of, lend_any_of, lend_owning_of, lend_owning_view_of, Lends};
+ghost use Rattle.iobufs_owner.specs.Lending.{lend_of, lend_any_of, lend_owning_of, lend_owning_view_of, Lends};
 ghost use Rattle.iobufs_owner.specs.Sound.{IsSound};
 ghost use Rattle.iobufs_owner.specs.State.{handle_at};
 
-use crate::owner::{Handle, Kind, Machine, Pending, Refusal, Word};
-
-// Whether a call borrows the handle.
-fn borrows_it(h: usize, call: Option<Pending>) -> bool
-    ensures { result ≡ lending.borrows_it h call }
-{
-    match call {
-        Some(Pending::Loaded(range, _)) => range.handle == h,
-        Some(Pending::Ready(range, _, _)) => range.handle == h,
-        Some(Pending::Add(range, _)) => range.handle == h,
-        Some(Pending::Subtract(_)) => false,
-        Some(Pending::Release(_)) => false,
-        None => false,
-    }
-}
+use crate::owner::{Handle, Kind, Machine, Refusal, Word};
 
 impl Machine {
-    /// Whether an unfinished call borrows the handle.
-    fn is_lent(&self, h: usize) -> bool
-        ensures { result ≡ is_lent h self.now.state.calls }
-    {
-        self.calls.iter().any(|call| borrows_it(h, *call))
-    }
-
     /// The handle of this number, where it was given and isn't gone.
     pub(super) fn find(&self, h: usize) -> Option<Handle>
         ensures value { result ≡ handle_at self.now.state h }
@@ -56,7 +34,7 @@ impl Machine {
         if x.kind != kind {
             return Err(Refusal::WrongKind);
         }
-        if self.is_lent(h) {
+        if self.calls.is_lent(h) {
             return Err(Refusal::Borrowed);
         }
         Ok(x)
@@ -71,7 +49,7 @@ impl Machine {
         let Some(x) = self.find(h) else {
             return Err(Refusal::NoHandle);
         };
-        if self.is_lent(h) {
+        if self.calls.is_lent(h) {
             return Err(Refusal::Borrowed);
         }
         Ok(x)
@@ -89,7 +67,7 @@ impl Machine {
         if let Word::Empty = x.word {
             return Err(Refusal::WrongKind);
         }
-        if self.is_lent(h) {
+        if self.calls.is_lent(h) {
             return Err(Refusal::Borrowed);
         }
         Ok(x)

@@ -12,7 +12,6 @@ ghost use Rattle.iobufs_owner.specs.LongCalls.{drop_of, subtract_of, release_of}
 ghost use Rattle.iobufs_owner.specs.ShortCalls.{IsLoose};
 ghost use Rattle.iobufs_owner.specs.State.{call_at, record_at, recovered};
 
-use crate::owner::handle::end;
 use crate::owner::{Freed, Handle, Kind, Machine, Pending, Record, Reply, Word};
 
 /// Returns the next state of a drop that loaded this count.
@@ -28,11 +27,11 @@ fn after_count(count: u64, r: usize) -> Pending
 
 impl Machine {
     /// A drop begins: the handle is gone. What it holds alone is freed at once, but for a view with a record.
-    pub(super) fn drop_handle(&mut self, party: usize, h: usize) -> Reply
-        requires there { party < length self.old.state.calls }
-        requires idle { call_at self.old.state party ≡ None }
-        ensures reply { result ≡ (drop_of self.old.state party h).reply }
-        ensures state { self.new.state ≡ (drop_of self.old.state party h).state }
+    pub(super) fn drop_handle(&mut self, thread: usize, h: usize) -> Reply
+        requires there { thread < length self.old.state.calls }
+        requires idle { call_at self.old.state thread ≡ None }
+        ensures reply { result ≡ (drop_of self.old.state thread h).reply }
+        ensures state { self.new.state ≡ (drop_of self.old.state thread h).state }
         ensures room { self.new.room ≡ self.old.room }
     {
         let x = match self.lend_any(h) {
@@ -45,7 +44,7 @@ impl Machine {
                 self.free_described(h, x, word, None);
                 Reply::Done
             }
-            Word::Record(r) => self.drop_counted(party, h, x, r),
+            Word::Record(r) => self.drop_counted(thread, h, x, r),
         }
     }
 
@@ -62,13 +61,13 @@ impl Machine {
     }
 
     /// A handle with a record is gone: a writable one frees record and block, a view loads the count.
-    fn drop_counted(&mut self, party: usize, h: usize, x: Handle, r: usize) -> Reply
-        requires there { party < length self.old.state.calls }
-        requires idle { call_at self.old.state party ≡ None }
+    fn drop_counted(&mut self, thread: usize, h: usize, x: Handle, r: usize) -> Reply
+        requires there { thread < length self.old.state.calls }
+        requires idle { call_at self.old.state thread ≡ None }
         requires lent { Lends self.old.state h x.kind x }
         requires word { x.word ≡ Counted r }
-        ensures reply { result ≡ (long.drop_counted self.old.state party h r x.kind).reply }
-        ensures state { self.new.state ≡ (long.drop_counted self.old.state party h r x.kind).state }
+        ensures reply { result ≡ (long.drop_counted self.old.state thread h r x.kind).reply }
+        ensures state { self.new.state ≡ (long.drop_counted self.old.state thread h r x.kind).state }
         ensures room { self.new.room ≡ self.old.room }
     {
         match x.kind {
@@ -76,34 +75,34 @@ impl Machine {
                 self.free_counted(h, x, r, None);
                 Reply::Done
             }
-            Kind::View => self.drop_view(party, h, x, r),
+            Kind::View => self.drop_view(thread, h, x, r),
         }
     }
 
     /// A view with a record is gone; its drop loads the count.
-    fn drop_view(&mut self, party: usize, h: usize, x: Handle, r: usize) -> Reply
-        requires there { party < length self.old.state.calls }
-        requires idle { call_at self.old.state party ≡ None }
+    fn drop_view(&mut self, thread: usize, h: usize, x: Handle, r: usize) -> Reply
+        requires there { thread < length self.old.state.calls }
+        requires idle { call_at self.old.state thread ≡ None }
         requires lent { Lends self.old.state h View x }
         requires word { x.word ≡ Counted r }
         ensures reply { result ≡ More }
         ensures state { self.new.state
-            ≡ called (state_without self.old.state h) party
+            ≡ called (state_without self.old.state h) thread
             (Some (long.after_count (record_at self.old.state.tables r).count r)) }
         ensures room { self.new.room ≡ self.old.room }
     {
         let record = self.record(r);
         let next = after_count(record.count, r);
         self.handles[h] = None;
-        self.calls[party] = Some(next);
+        self.calls.set(thread, Some(next));
         Reply::More
     }
 
     /// A drop lets go; who saw the count at 1 will free.
-    pub(super) fn subtract(&mut self, party: usize, r: usize) -> Reply
-        requires { call_at self.old.state party ≡ Some (Subtract r) }
-        ensures reply { result ≡ (subtract_of self.old.state party r).reply }
-        ensures state { self.new.state ≡ (subtract_of self.old.state party r).state }
+    pub(super) fn subtract(&mut self, thread: usize, r: usize) -> Reply
+        requires { call_at self.old.state thread ≡ Some (Subtract r) }
+        ensures reply { result ≡ (subtract_of self.old.state thread r).reply }
+        ensures state { self.new.state ≡ (subtract_of self.old.state thread r).state }
         ensures room { self.new.room ≡ self.old.room }
     {
         let record = self.record(r);
@@ -112,18 +111,18 @@ impl Machine {
             ..record
         };
         if record.count == 1 {
-            self.calls[party] = Some(Pending::Release(r));
+            self.calls.set(thread, Some(Pending::Release(r)));
             return Reply::More;
         }
-        self.calls[party] = None;
+        self.calls.set(thread, None);
         Reply::Done
     }
 
     /// The last step of a drop: record and block are freed.
-    pub(super) fn release(&mut self, party: usize, r: usize) -> Reply
-        requires { call_at self.old.state party ≡ Some (Release r) }
-        ensures reply { result ≡ (release_of self.old.state party r).reply }
-        ensures state { self.new.state ≡ (release_of self.old.state party r).state }
+    pub(super) fn release(&mut self, thread: usize, r: usize) -> Reply
+        requires { call_at self.old.state thread ≡ Some (Release r) }
+        ensures reply { result ≡ (release_of self.old.state thread r).reply }
+        ensures state { self.new.state ≡ (release_of self.old.state thread r).state }
         ensures room { self.new.room ≡ self.old.room }
     {
         let record = self.record(r);
@@ -138,7 +137,7 @@ impl Machine {
             align: block.align,
         });
         self.freed_records.push_reserved(r);
-        self.calls[party] = None;
+        self.calls.set(thread, None);
         Reply::Done
     }
 
@@ -150,14 +149,9 @@ impl Machine {
         ensures state { self.new.state ≡ replaced (block_freed self.old.state (recovered self.old.state.tables x word)) h rest }
         ensures room { self.new.room ≡ self.old.room }
     {
-        let fields = self.format.unpack(word);
-        let base = end(x, fields.tail) - fields.size;
+        let freed = self.recovered(x, word);
         self.handles[h] = rest;
-        self.freed_blocks.push_reserved(Freed {
-            base,
-            size: fields.size,
-            align: fields.align,
-        });
+        self.freed_blocks.push_reserved(freed);
     }
 
     /// A writable handle with a record is replaced, and its record and block are freed.

@@ -1,9 +1,10 @@
 //! Room in the machine's tables, as it is made: in all of them, or in none.
-ghost use Rattle.std.specs.Prelude.{◌≡◌, ◌⊎◌, ◌+◌, ◌*◌, ◌^◌, ◌<◌, ◌≤◌, length, vec_capacity, None, true, IfOk, IfSome, IsOk, OnErr, OnOk};
+ghost use Rattle.std.specs.Prelude.{◌≡◌, ◌⊎◌, ◌+◌, ◌*◌, ◌^◌, ◌<◌, ◌≤◌, length, vec_capacity, None, true, IfOk, IfSome, IsOk, IsOkUnless, OnErr, OnOk};
 ghost use Rattle.iobufs_owner.specs.Reserved.{RoomFor};
 ghost use Rattle.iobufs_owner.specs.State.{KeepsRoom};
 
 use crate::owner::Machine;
+use iobufs_core::codec::BufError;
 use std::alloc::AllocError;
 
 impl Machine {
@@ -25,22 +26,22 @@ impl Machine {
     /// Makes space for this many entries more in each table and its log. If it fails, nothing has changed, capacities
     /// included. A table that grows becomes at least twice as large, so space for one entry before each step costs
     /// little.
-    pub fn reserve(
-        &mut self,
-        blocks: usize,
-        handles: usize,
-        records: usize,
-    ) -> Result<(), AllocError>
+    pub fn reserve(&mut self, blocks: usize, handles: usize, records: usize) -> Result<(), BufError>
         ensures state { self.new.state ≡ self.old.state }
         ensures room { KeepsRoom self.old.room self.new.room }
         ensures blocks { OnOk result (length self.old.state.tables.blocks + blocks ≤ self.new.room.blocks) }
         ensures handles { OnOk result (length self.old.state.handles + handles ≤ self.new.room.handles) }
         ensures records { OnOk result (length self.old.state.tables.records + records ≤ self.new.room.records) }
+        ensures memory { IsOkUnless result BufError.Memory }
         ensures unchanged { OnErr result (self.new ≡ self.old) }
         ensures enough { length self.old.state.tables.blocks + blocks ≤ self.old.room.blocks
             → length self.old.state.handles + handles ≤ self.old.room.handles
             → length self.old.state.tables.records + records ≤ self.old.room.records
             → IsOk result }
+        ensures same { length self.old.state.tables.blocks + blocks ≤ self.old.room.blocks
+            → length self.old.state.handles + handles ≤ self.old.room.handles
+            → length self.old.state.tables.records + records ≤ self.old.room.records
+            → self.new ≡ self.old }
     {
         if self.has_room(blocks, handles, records) {
             return Ok(());
@@ -51,6 +52,7 @@ impl Machine {
             self.handles.len().checked_add(handles).ok_or(AllocError)?,
         )?;
         let (new_records, new_freed_records) = grown(&self.records, &self.freed_records, records)?;
+        self.calls.reserve(capacity(&new_handles))?;
         move_into(&mut self.blocks, new_blocks);
         move_into(&mut self.freed_blocks, new_freed_blocks);
         move_into(&mut self.handles, new_handles);
@@ -101,6 +103,16 @@ fn larger<T: Copy>(table: &Vec<T>, entries: usize) -> Result<Option<Vec<T>>, All
     Ok(Some(new))
 }
 
+// The capacity of larger memory, if there is some.
+fn capacity<T>(larger: &Option<Vec<T>>) -> usize
+    ensures { IfSome larger.now (λ new. result ≡ vec_capacity new) }
+{
+    match larger {
+        Some(new) => new.capacity(),
+        None => 0,
+    }
+}
+
 // The table moves to its larger memory, if there is one.
 fn move_into<T: Drop>(table: &mut Vec<T>, larger: Option<Vec<T>>)
     requires items { IfSome larger (λ new. new.items ≡ table.old.items) }
@@ -108,6 +120,7 @@ fn move_into<T: Drop>(table: &mut Vec<T>, larger: Option<Vec<T>>)
     ensures items { table.new.items ≡ table.old.items }
     ensures capacity { vec_capacity table.old ≤ vec_capacity table.new }
     ensures room { IfSome larger (λ new. vec_capacity table.new ≡ vec_capacity new) }
+    ensures same { larger ≡ None → vec_capacity table.new ≡ vec_capacity table.old }
 {
     if let Some(new) = larger {
         *table = new;

@@ -36,10 +36,10 @@ impl Machine {
     }
 
     /// A clone begins.
-    pub(super) fn clone_view(&mut self, party: usize, h: usize) -> Result<Reply, Full>
-        requires there { party < length self.old.state.calls }
-        requires idle { call_at self.old.state party ≡ None }
-        ensures { Took self.old (clone_of self.old.state party h) result self.new }
+    pub(super) fn clone_view(&mut self, thread: usize, h: usize) -> Result<Reply, Full>
+        requires there { thread < length self.old.state.calls }
+        requires idle { call_at self.old.state thread ≡ None }
+        ensures { Took self.old (clone_of self.old.state thread h) result self.new }
     {
         let x = match self.view(h) {
             Ok(x) => x,
@@ -50,20 +50,20 @@ impl Machine {
             lo: 0,
             hi: x.len,
         };
-        self.share(party, whole, x)
+        self.share(thread, whole, x)
     }
 
     /// A slice begins; an empty one ends at once.
     pub(super) fn slice_view(
         &mut self,
-        party: usize,
+        thread: usize,
         h: usize,
         lo: u64,
         hi: u64,
     ) -> Result<Reply, Full>
-        requires there { party < length self.old.state.calls }
-        requires idle { call_at self.old.state party ≡ None }
-        ensures { Took self.old (slice_of self.old.state party h lo hi) result self.new }
+        requires there { thread < length self.old.state.calls }
+        requires idle { call_at self.old.state thread ≡ None }
+        ensures { Took self.old (slice_of self.old.state thread h lo hi) result self.new }
     {
         let x = match self.view(h) {
             Ok(x) => x,
@@ -76,20 +76,20 @@ impl Machine {
             return self.add_detached(0);
         }
         let range = Share { handle: h, lo, hi };
-        self.share(party, range, x)
+        self.share(thread, range, x)
     }
 
     /// The word is loaded: a view without block is shared at once.
-    fn share(&mut self, party: usize, range: Share, x: Handle) -> Result<Reply, Full>
-        requires there { party < length self.old.state.calls }
-        requires idle { call_at self.old.state party ≡ None }
+    fn share(&mut self, thread: usize, range: Share, x: Handle) -> Result<Reply, Full>
+        requires there { thread < length self.old.state.calls }
+        requires idle { call_at self.old.state thread ≡ None }
         requires fits { Shares self.old.state range x }
-        ensures { Took self.old (share_by self.old.state party range x x.word) result self.new }
+        ensures { Took self.old (share_by self.old.state thread range x x.word) result self.new }
     {
         match x.word {
             Word::Empty => self.share_empty(range, x),
-            Word::Descriptor(word) => Ok(self.load(party, range, x, word)),
-            Word::Record(r) => Ok(self.will_add(party, range, x, r)),
+            Word::Descriptor(word) => Ok(self.load(thread, range, x, word)),
+            Word::Record(r) => Ok(self.will_add(thread, range, x, r)),
         }
     }
 
@@ -107,36 +107,36 @@ impl Machine {
     }
 
     /// A descriptor was loaded.
-    fn load(&mut self, party: usize, range: Share, x: Handle, word: u64) -> Reply
-        requires there { party < length self.old.state.calls }
-        requires idle { call_at self.old.state party ≡ None }
+    fn load(&mut self, thread: usize, range: Share, x: Handle, word: u64) -> Reply
+        requires there { thread < length self.old.state.calls }
+        requires idle { call_at self.old.state thread ≡ None }
         requires fits { Shares self.old.state range x }
         requires word { x.word ≡ Descriptor word }
         ensures reply { result ≡ More }
-        ensures state { self.new.state ≡ called self.old.state party (Some (Loaded range word)) }
+        ensures state { self.new.state ≡ called self.old.state thread (Some (Loaded range word)) }
         ensures room { self.new.room ≡ self.old.room }
     {
-        self.calls[party] = Some(Pending::Loaded(range, word));
+        self.calls.set(thread, Some(Pending::Loaded(range, word)));
         Reply::More
     }
 
     /// A record's number was loaded.
-    fn will_add(&mut self, party: usize, range: Share, x: Handle, r: usize) -> Reply
-        requires there { party < length self.old.state.calls }
-        requires idle { call_at self.old.state party ≡ None }
+    fn will_add(&mut self, thread: usize, range: Share, x: Handle, r: usize) -> Reply
+        requires there { thread < length self.old.state.calls }
+        requires idle { call_at self.old.state thread ≡ None }
         requires fits { Shares self.old.state range x }
         requires word { x.word ≡ Counted r }
         ensures reply { result ≡ More }
-        ensures state { self.new.state ≡ called self.old.state party (Some (Add range r)) }
+        ensures state { self.new.state ≡ called self.old.state thread (Some (Add range r)) }
         ensures room { self.new.room ≡ self.old.room }
     {
-        self.calls[party] = Some(Pending::Add(range, r));
+        self.calls.set(thread, Some(Pending::Add(range, r)));
         Reply::More
     }
 
     /// The number of the block that a loaded descriptor describes.
-    fn loaded_block(&self, party: usize, range: Share, word: u64) -> usize
-        requires { call_at self.now.state party ≡ Some (Loaded range word) }
+    fn loaded_block(&self, thread: usize, range: Share, word: u64) -> usize
+        requires { call_at self.now.state thread ≡ Some (Loaded range word) }
         ensures { result ≡ long.loaded_block self.now.state range word }
     {
         let Some(x) = self.find(range.handle) else {
@@ -152,19 +152,19 @@ impl Machine {
     /// A record is made for the block of the loaded descriptor.
     pub(super) fn make_ready(
         &mut self,
-        party: usize,
+        thread: usize,
         range: Share,
         word: u64,
         memory: bool,
     ) -> Result<Reply, Full>
-        requires { call_at self.old.state party ≡ Some (Loaded range word) }
-        ensures { Took self.old (ready_of self.old.state party range word memory) result self.new }
+        requires { call_at self.old.state thread ≡ Some (Loaded range word) }
+        ensures { Took self.old (ready_of self.old.state thread range word memory) result self.new }
     {
         if !memory {
-            self.calls[party] = None;
+            self.calls.set(thread, None);
             return Ok(Reply::Refused(Refusal::Memory));
         }
-        let block = self.loaded_block(party, range, word);
+        let block = self.loaded_block(thread, range, word);
         room_for_record(&self.records, &self.freed_records)?;
         let r = self.records.len();
         self.records.push_reserved(Record {
@@ -172,27 +172,27 @@ impl Machine {
             block,
             live: true,
         });
-        self.calls[party] = Some(Pending::Ready(range, word, r));
+        self.calls.set(thread, Some(Pending::Ready(range, word, r)));
         Ok(Reply::More)
     }
 
     /// The record is put in the descriptor's place, where that still stands; else another record stands there.
     pub(super) fn race(
         &mut self,
-        party: usize,
+        thread: usize,
         range: Share,
         word: u64,
         r: usize,
     ) -> Result<Reply, Full>
-        requires { call_at self.old.state party ≡ Some (Ready range word r) }
-        ensures { Took self.old (race_of self.old.state party range r) result self.new }
+        requires { call_at self.old.state thread ≡ Some (Ready range word r) }
+        ensures { Took self.old (race_of self.old.state thread range r) result self.new }
     {
         let Some(x) = self.find(range.handle) else {
             unreachable!()
         };
         match x.word {
-            Word::Descriptor(now) if now == word => self.win(party, range, word, r, x),
-            Word::Record(winner) => Ok(self.lose(party, range, word, r, x, winner)),
+            Word::Descriptor(now) if now == word => self.win(thread, range, word, r, x),
+            Word::Record(winner) => Ok(self.lose(thread, range, word, r, x, winner)),
             _ => unreachable!(),
         }
     }
@@ -200,17 +200,17 @@ impl Machine {
     /// The record is published: it counts the handle and the new view.
     fn win(
         &mut self,
-        party: usize,
+        thread: usize,
         range: Share,
         word: u64,
         r: usize,
         x: Handle,
     ) -> Result<Reply, Full>
-        requires call { call_at self.old.state party ≡ Some (Ready range word r) }
+        requires call { call_at self.old.state thread ≡ Some (Ready range word r) }
         requires at { handle_at self.old.state range.handle ≡ Some x }
         requires word { x.word ≡ Descriptor word }
         ensures { Took self.old
-            (shared (edited self.old.state range.handle (record x { word = Counted r })) party range x r)
+            (shared (edited self.old.state range.handle (record x { word = Counted r })) thread range x r)
             result self.new }
     {
         room_for_handle(&self.handles)?;
@@ -221,25 +221,25 @@ impl Machine {
         });
         self.handles
             .push_reserved(Some(part(x, range.lo, range.hi, Word::Record(r))));
-        self.calls[party] = None;
+        self.calls.set(thread, None);
         Ok(Reply::Made(new))
     }
 
     /// The record is freed, and the call will add to the winner's.
     fn lose(
         &mut self,
-        party: usize,
+        thread: usize,
         range: Share,
         word: u64,
         r: usize,
         x: Handle,
         winner: usize,
     ) -> Reply
-        requires call { call_at self.old.state party ≡ Some (Ready range word r) }
+        requires call { call_at self.old.state thread ≡ Some (Ready range word r) }
         requires at { handle_at self.old.state range.handle ≡ Some x }
         requires word { x.word ≡ Counted winner }
         ensures reply { result ≡ More }
-        ensures state { self.new.state ≡ called (record_freed self.old.state r) party (Some (Add range winner)) }
+        ensures state { self.new.state ≡ called (record_freed self.old.state r) thread (Some (Add range winner)) }
         ensures room { self.new.room ≡ self.old.room }
     {
         let record = self.record(r);
@@ -248,33 +248,39 @@ impl Machine {
             ..record
         };
         self.freed_records.push_reserved(r);
-        self.calls[party] = Some(Pending::Add(range, winner));
+        self.calls.set(thread, Some(Pending::Add(range, winner)));
         Reply::More
     }
 
     /// One holder more, unless the count is above the ceiling.
-    pub(super) fn add(&mut self, party: usize, range: Share, r: usize) -> Result<Reply, Full>
-        requires { call_at self.old.state party ≡ Some (Add range r) }
-        ensures { Took self.old (add_of self.old.state party range r) result self.new }
+    pub(super) fn add(&mut self, thread: usize, range: Share, r: usize) -> Result<Reply, Full>
+        requires { call_at self.old.state thread ≡ Some (Add range r) }
+        ensures { Took self.old (add_of self.old.state thread range r) result self.new }
     {
         let Some(x) = self.find(range.handle) else {
             unreachable!()
         };
         let record = self.record(r);
         if record.count > self.ceiling {
-            self.calls[party] = None;
+            self.calls.set(thread, None);
             return Ok(Reply::Refused(Refusal::Ceiling));
         }
-        self.add_holder(party, range, r, x)
+        self.add_holder(thread, range, r, x)
     }
 
     /// One holder more.
-    fn add_holder(&mut self, party: usize, range: Share, r: usize, x: Handle) -> Result<Reply, Full>
-        requires call { call_at self.old.state party ≡ Some (Add range r) }
+    fn add_holder(
+        &mut self,
+        thread: usize,
+        range: Share,
+        r: usize,
+        x: Handle,
+    ) -> Result<Reply, Full>
+        requires call { call_at self.old.state thread ≡ Some (Add range r) }
         requires at { handle_at self.old.state range.handle ≡ Some x }
         requires low { (record_at self.old.state.tables r).count ≤ self.old.state.ceiling }
         ensures { Took self.old
-            (shared (with_count self.old.state r ((record_at self.old.state.tables r).count + 1)) party range x r)
+            (shared (with_count self.old.state r ((record_at self.old.state.tables r).count + 1)) thread range x r)
             result self.new }
     {
         let record = self.record(r);
@@ -286,7 +292,7 @@ impl Machine {
         };
         self.handles
             .push_reserved(Some(part(x, range.lo, range.hi, Word::Record(r))));
-        self.calls[party] = None;
+        self.calls.set(thread, None);
         Ok(Reply::Made(new))
     }
 }

@@ -143,7 +143,7 @@ pub enum Act {
 #[derive(Clone, Copy, Debug, PartialEq, Eq, Drop)]
 pub struct Step {
     /// The thread.
-    pub party: usize,
+    pub thread: usize,
     /// Its act.
     pub act: Act,
 }

@@ -1,11 +1,11 @@
-use Rattle.iobufs_owner.proofs.Base.{◌≡◌, Some, length, length-append, arith, View, Lends, State, owner_of, before}
+use Rattle.iobufs_owner.proofs.Base.{◌≡◌, length, length-append, arith}
 use Rattle.iobufs_owner.proofs.Soundness.{sound-split_described}
 use Rattle.iobufs_owner.proofs.owner.Machine.split_described.Goals as goal
 
 pub invariant_of-self : goal.invariant_of-self
 invariant_of-self c =
-    let t = before (λ (s : State). Lends s c.args.h View c.args.x) c.self.inside _ c.self.view_is c.requires.lent in
-    let o = before (λ (s : State). owner_of s.tables c.args.x ≡ Some c.owned-block.result) c.self.inside _ c.self.view_is c.owned-block.ensures.owner in
+    let t = rw (← c.self.view_is) at c.requires.lent in
+    let o = rw (← c.self.view_is) at c.owned-block.ensures.owner in
     let r : c.len-r.result ≡ length c.self.inside.records.items = omega (arith, c.len-r.ensures) in
     record {
       sound = rw (c.push_reserved-2.ensures.items, c.part.ensures, c.part-2.ensures, c.push_reserved.ensures.items, r)
@@ -14,4 +14,5 @@ invariant_of-self c =
           (omega (arith, c.in_ok-room_for_handle.ensures.few, c.in_ok-room_for_record.ensures.few)));
       block_room = c.self.invariant.block_room;
       record_room = rw (c.push_reserved.ensures.items, length-append) (omega (arith, c.in_ok-room_for_record.ensures.freed_room));
+      lent_room = rw c.push_reserved-2.ensures.capacity c.self.invariant.lent_room;
     }
