@@ -75,12 +75,12 @@ building_room b = b.capacity - (items_inline b.front + length b.last)
 abbrev pub room_for_pushes : Building → ℕ
 room_for_pushes b = 2 ^ 64 - 1 - b.capacity - items_pushed b.front
 
--- the views of items: an inline text is native, with the room after its place
+-- the views of items: an inline text is native, with the capacity after its place
 abbrev pub views_from : ℕ → List PutOrPush → List View
 views_from room [] = []
 views_from room (put_item bytes ∷ items) = record { bytes = bytes; mark = native_mark room } ∷ views_from (room - length bytes) items
 views_from room (push_item view ∷ items) = view ∷ views_from room items
 
--- all items as one text
+-- all items as one `IoBufs`
 abbrev pub finished : Building → MarkedText
 finished b = joined (views_from b.capacity (building_items b))

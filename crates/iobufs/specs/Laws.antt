@@ -1,4 +1,4 @@
--- The laws that the traits ask for, as their impls cite them.
+-- The laws that the traits require, as their impls cite them.
 pub mod Building
 pub mod Draining
 pub mod Filling

@@ -55,12 +55,12 @@ abbrev pub parts_fill : List Part → List ℕ → List Part
 parts_fill [] bytes = []
 parts_fill (part ∷ parts) bytes = part_put part (take part.spare bytes) ∷ parts_fill parts (drop part.spare bytes)
 
--- each part loses its share of the first n bytes, and keeps its room
+-- each part loses its share of the first n bytes, and keeps its spare capacity
 abbrev pub parts_shared_out : List Part → ℕ → List Part
 parts_shared_out [] n = []
 parts_shared_out (part ∷ parts) n = part_drained part n ∷ parts_shared_out parts (n - length part.filled)
 
--- without the first n bytes: each part loses its share of them and keeps its room; with two or more, those that can't
+-- without the first n bytes: each part loses its share of them and keeps its spare capacity; with two or more, those that can't
 -- hold a byte any more go
 abbrev pub parts_drained : List Part → ℕ → List Part
 parts_drained [] n = []
@@ -82,7 +82,7 @@ parts_overwritten (part ∷ parts) bytes =
 abbrev pub parts_chunks : List Part → List (List ℕ)
 parts_chunks parts = full_chunks (map (λ part. part.filled) parts)
 
--- the parts that hold bytes as native pieces, in order
+-- the parts that hold bytes as native chunks, in order
 abbrev pub parts_frozen : List Part → MarkedText
 parts_frozen parts = joined (map part_frozen parts)
 
@@ -91,7 +91,7 @@ abbrev pub single_part : List Part → Option Part
 single_part (part ∷ []) = Some part
 single_part parts = None
 
--- one part as it is, more as a copy with no room after it
+-- one part as it is, more as a copy with no capacity after it
 abbrev pub parts_coalesced : List Part → Part
 parts_coalesced [] = empty_part 0
 parts_coalesced (part ∷ []) = part

@@ -1,6 +1,6 @@
 -- Rising end places, and the first past a place.
 --     IsRising       each end is greater than those before it
---     IsFirstPast    the piece that a place is in: its end is past the place, and none before it is
+--     IsFirstPast    the chunk that a place is in: its end is past the place, and none before it is
 use Rattle.std.specs.Prelude.{ℕ, ◌<◌, ◌≤◌, List, length, get_or}
 
 abbrev pub IsRising : List ℕ → Type 0

@@ -1,4 +1,4 @@
-// Texts in several pieces.
+// Buffers of several chunks. A clause sees the bytes, and where each chunk begins and how it is stored.
 ghost use Rattle.iobufs.specs.Inside.Pieces.{AreViews, of_pieces};
 ghost use Rattle.iobufs.specs.Located.{greatest_key, keys_upto};
 ghost use Rattle.iobufs.specs.Refusals.{IsRefusedAt};
@@ -39,8 +39,8 @@ use std::{fmt, mem};
 /// the offset of its end:
 ///
 /// ```text
-/// text     | a b c | d e | f g h i |
-/// piece        0      1       2
+/// bytes    | a b c | d e | f g h i |
+/// chunk        0      1       2
 /// end          3      5       9       less the base: how many bytes there are up to there
 /// ```
 ///
@@ -50,7 +50,7 @@ pub struct IoBufs {
     pieces: Pieces,
 }
 
-// Written out, so that what a caller proves about a text that it drops names no field.
+// Written out, so that what a caller proves about an `IoBufs` that it drops names no field.
 impl Drop for IoBufs {
     fn drop(self) {
         let IoBufs { pieces: _ } = self;
@@ -70,7 +70,7 @@ impl Model for IoBufs {
 }
 
 impl IoBufs {
-    /// The pieces of a row, at least one.
+    /// The chunks of a row, at least one.
     pub(crate) fn from_row(row: Row) -> IoBufs
         requires some { 0 < length row.views }
         requires roomy { AreViews row.views }
@@ -82,6 +82,7 @@ impl IoBufs {
     }
 
     /// Converts a writable buffer (`From<IoBufMut>`).
+    /// If allocation fails, returns `BufError::Memory` and drops the buffer.
     pub fn from_mut(part: IoBufMut) -> Result<IoBufs, BufError>
         ensures ok { IfOk result (λ text. text ≡ of_view (part_frozen part)) }
         ensures memory { IsOkUnless result BufError.Memory }
@@ -91,6 +92,7 @@ impl IoBufs {
     }
 
     /// Takes a `Vec` over without copying (`From<Vec<u8>>`).
+    /// If allocation fails, returns `BufError::Memory` and drops the `Vec`.
     pub fn from_vec(bytes: Vec<u8>) -> Result<IoBufs, BufError>
         ensures ok { IfOk result (λ text. (view : View) × IsAdopted bytes.items view × (text ≡ of_view view)) }
         ensures memory { IsOkUnless result BufError.Memory }
@@ -213,6 +215,8 @@ impl IoBufs {
     }
 
     /// Adds a buffer at the end (`IoBufs::append`). An empty one changes nothing, and empty bytes are replaced.
+    /// If it fails, the buffer comes back and nothing changes: `BufError::TooLong` if the length would pass
+    /// `usize::MAX`, `BufError::Memory` if allocation fails.
     #[inline(always)]
     pub fn append(&mut self, alloc: Global, piece: IoBuf) -> Result<(), Refused<IoBuf>>
         ensures done { OnOk result (self.new ≡ text_append self.old piece) }
@@ -269,6 +273,7 @@ impl IoBufs {
     }
 
     /// Adds a buffer at the start (`IoBufs::prepend`). An empty one changes nothing, and empty bytes are replaced.
+    /// Fails as `append`.
     #[inline(always)]
     pub fn prepend(&mut self, alloc: Global, piece: IoBuf) -> Result<(), Refused<IoBuf>>
         ensures done { OnOk result (self.new ≡ text_prepend self.old piece) }
@@ -326,6 +331,7 @@ impl IoBufs {
 
     /// Takes the first `at` bytes: moves whole chunks, and splits the one that contains the offset
     /// (`IoBufs::split_to`).
+    /// If allocation fails, returns `BufError::Memory` and changes nothing.
     pub fn split_to(&mut self, alloc: Global, at: usize) -> Result<IoBufs, BufError>
         requires { at ≤ text_len self.old }
         ensures front { IfOk result (λ front. front ≡ text_split_front self.old at) }
@@ -350,6 +356,7 @@ impl IoBufs {
     }
 
     /// Keeps at most the first `len` bytes (own; `BytesMut::truncate`). It drops the rest as `split_to` does.
+    /// If allocation fails, returns `BufError::Memory` and changes nothing.
     pub fn truncate(&mut self, alloc: Global, len: usize) -> Result<(), BufError>
         ensures kept { OnOk result (len < text_len self.old → self.new ≡ text_split_front self.old len) }
         ensures longer { text_len self.old ≤ len → (self.new ≡ self.old) × IsOk result }
@@ -371,6 +378,7 @@ impl IoBufs {
 
     /// Returns the bytes of a range, sharing their storage (own; `IoBuf::slice`). Two searches find the chunks, which
     /// are cloned and cut at both ends.
+    /// Returns `BufError::Memory` if allocation fails.
     pub fn slice(&self, alloc: Global, range: Range<usize>) -> Result<IoBufs, BufError>
         requires order { range.start ≤ range.end }
         requires inside { range.end ≤ text_len self.now }
@@ -413,6 +421,7 @@ impl IoBufs {
     }
 
     /// Copies the bytes into one vector (own).
+    /// Returns `BufError::Memory` if allocation fails.
     pub fn to_vec(&self, alloc: Global) -> Result<Vec<u8>, BufError>
         ensures ok { IfOk result (λ copy. copy.items ≡ self.now.bytes) }
         ensures memory { IsOkUnless result BufError.Memory }
@@ -442,14 +451,14 @@ impl IoBufs {
         }
     }
 
-    // The old text goes here, and not in each place that puts a new one.
+    // The old value is dropped here, and not in each place that puts a new one.
     fn set(&mut self, text: IoBufs)
         ensures { self.new ≡ text }
     {
         *self = text;
     }
 
-    // A copy of several pieces as one.
+    // A copy of several chunks as one.
     fn gathered(&self, alloc: Global) -> Result<IoBuf, BufError>
         requires { is_single self.now ≡ false }
         ensures ok { IfOk result (λ view. of_view view ≡ text_coalesced self.now) }
@@ -474,7 +483,7 @@ impl From<IoBuf> for IoBufs {
     ghost from_gives = { λ piece b. b ≡ of_view piece };
 
     fn from(piece: IoBuf) -> IoBufs {
-        // A view's value has no bound of its length; a text's has one, which is known of a length that was asked for.
+        // A view's value has no bound of its length; that of an `IoBufs` has one, which is known of a length that was asked for.
         let _len = piece.len();
         IoBufs {
             pieces: Pieces::one(piece),
@@ -501,7 +510,7 @@ impl From<&'static [u8]> for IoBufs {
 impl Clone for IoBufs {
     ghost is_clone = { λ a b. b ≡ a };
 
-    // One piece whose clone asks for no memory.
+    // One chunk whose clone allocates nothing.
     ghost is_infallible = { λ text. (is_single text ≡ true) × IsFreelyShared (record { bytes = text.bytes; mark = text.mark }) };
 
     fn clone(&self) -> Result<IoBufs, AllocError> {
@@ -578,5 +587,34 @@ impl<'a> Iterator for Chunks<'a> {
         let chunk = self.text.chunk_at(self.next)?;
         self.next += 1;
         Some(chunk)
+    }
+}
+
+impl<'a> IntoIterator for &'a IoBufs {
+    type Item = &'a [u8];
+
+    type IntoIter = Chunks<'a>;
+
+    ghost into_iter_gives = { λ bufs chunks. chunks ≡ text_chunks bufs.now };
+
+    fn into_iter(self) -> Chunks<'a> {
+        self.chunks()
+    }
+}
+
+/// Fails also if a sum of lengths would pass `usize::MAX`.
+impl FromIterator<IoBuf> for IoBufs {
+    type Alloc = Global;
+
+    ghost from_iter_gives = { λ views bufs. bufs ≡ joined views };
+
+    fn from_iter<U: IntoIterator<Item = IoBuf>>(
+        alloc: Global,
+        iter: U,
+    ) -> Result<IoBufs, AllocError> {
+        match IoBufs::from_chunks(alloc, iter.into_iter()) {
+            Ok(bufs) => Ok(bufs),
+            Err(_) => Err(AllocError),
+        }
     }
 }

@@ -1,5 +1,6 @@
-// Writable parts strung together.
-ghost use Rattle.std.specs.Prelude.{◌≡◌, ◌+◌, ◌<◌, ◌≤◌, ◌==◌, ◌^◌, ◌++◌, ◌∷◌, [], length, slice_get, Err, IfErr, IfOk, IsOk, IsOkUnless, MatchResult};
+// Writable buffers, read and filled in order. A clause sees a list of them (`Part`), each its bytes and spare capacity.
+ghost use Rattle.std.specs.Prelude.{◌≡◌, ◌+◌, ◌<◌, ◌≤◌, ◌==◌, ◌^◌, ◌++◌, ◌∷◌, [], length, slice_get, Err, IfErr, IfOk, IsOk, IsOkUnless, MatchResult, Some, codes};
+ghost use Rattle.std.specs.Fmt.{decimal};
 ghost use Rattle.std.specs.Iterator.{IsFinite};
 ghost use Rattle.std.specs.Iterator.Runs.{SomeRun, WholeRun};
 ghost use Rattle.std.specs.Option.{option_copied, option_map};
@@ -18,7 +19,8 @@ use few::Few;
 use iobufs_core::buf::IoBufMut;
 use iobufs_core::codec::{Buf, BufError, BufMut};
 use several::Several;
-use std::alloc::Global;
+use std::alloc::{AllocError, Global};
+use std::fmt;
 use std::marker::Model;
 
 /// Writable buffers, read in order and filled in order (`IoBufsMut`). If there are two or more, each can hold a byte:
@@ -42,7 +44,7 @@ impl Drop for IoBufsMut {
     }
 }
 
-// One part, or up to three in place, which ask for no memory of their own; or a row of more.
+// One part, or up to three in place, which need no allocation of their own; or a deque of more.
 #[derive(Drop)]
 enum Shape {
     One(IoBufMut),
@@ -284,6 +286,7 @@ impl IoBufsMut {
     }
 
     /// Converts the buffers that hold bytes into the chunks of an `IoBufs` (`IoBufsMut::freeze`).
+    /// If allocation fails, returns `BufError::Memory` and drops the buffers.
     #[tactic(auto, using(crate::proofs::Parts::Frozen::freezing, crate::proofs::Parts::FewLaws::freezing_few))]
     pub fn freeze(self, alloc: Global) -> Result<IoBufs, BufError>
         ensures ok { IfOk result (λ text. text ≡ parts_frozen self) }
@@ -312,7 +315,7 @@ impl IoBufsMut {
         let IoBufsMut { shape } = self;
         match shape {
             Shape::One(whole) => Ok(whole),
-            Shape::Few(parts) => parts.coalesce(alloc),
+            Shape::Few(mut parts) => parts.coalesce(alloc),
             Shape::Many(parts) => parts.coalesce(alloc),
         }
     }
@@ -482,4 +485,31 @@ impl BufMut for IoBufsMut {
     ghost composes = { filled_composes };
 
     ghost lessens = { filled_lessens };
+}
+
+/// Fails also if a sum of capacities would pass `usize::MAX`.
+impl FromIterator<IoBufMut> for IoBufsMut {
+    type Alloc = Global;
+
+    ghost from_iter_gives = { λ parts bufs. bufs ≡ kept_parts parts };
+
+    fn from_iter<U: IntoIterator<Item = IoBufMut>>(
+        alloc: Global,
+        iter: U,
+    ) -> Result<IoBufsMut, AllocError> {
+        match IoBufsMut::from_parts(alloc, iter.into_iter()) {
+            Ok(bufs) => Ok(bufs),
+            Err(_) => Err(AllocError),
+        }
+    }
+}
+
+impl fmt::Debug for IoBufsMut {
+    ghost debug_output = { λ parts. Some (codes "IoBufsMut { len: " ++ decimal (length (parts_filled parts)) ++ codes ", cap: " ++ decimal (parts_capacity parts) ++ codes " }") };
+
+    fn fmt<W: fmt::Write>(&self, f: &mut fmt::Formatter<W>) -> fmt::Result {
+        let len = self.len();
+        let cap = self.capacity();
+        write!(f, "IoBufsMut {{ len: {len}, cap: {cap} }}")
+    }
 }

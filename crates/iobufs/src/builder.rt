@@ -1,4 +1,4 @@
-// Encoded bytes and existing buffers, put together as one text.
+// Encoded bytes and existing buffers, put together as one `IoBufs`.
 ghost use Rattle.std.specs.Prelude.{◌≡◌, ◌+◌, ◌<◌, ◌≤◌, ◌^◌, [], length, Err, IfErr, IsErrAnd, IfOk, IsOk, IsOkUnless, OnOk};
 ghost use Rattle.iobufs_core.specs.Items.{items_inline};
 ghost use Rattle.iobufs.specs.Building.{IsBuilding, building_items, building_room, building_after, empty_building, finished, building_bytes, room_for_pushes};
@@ -91,6 +91,7 @@ impl Builder {
 
     /// Returns all that was put and pushed, in order, without copying (`Builder::finish`). The pushes have made space
     /// for all chunks.
+    /// A contract admits `BufError::Memory`, with all bytes dropped.
     #[tactic(auto, using(crate::proofs::Building::FinishLaws::finishing))]
     pub fn finish(self) -> Result<IoBufs, BufError>
         ensures ok { IfOk result (λ text. text ≡ finished self) }

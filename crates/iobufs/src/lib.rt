@@ -11,6 +11,7 @@
 pub mod bufs;
 pub mod bufs_mut;
 pub mod builder;
+mod traits;
 
 pub use bufs::{Ends, IoBufs, Located, find_end};
 pub use bufs_mut::IoBufsMut;

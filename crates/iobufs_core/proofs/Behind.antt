@@ -1,12 +1,6 @@
 -- Bytes after the first of an input.
-use Rattle.std.proofs.Common.{◌≡◌, ℕ, zero, suc, ◌+◌, ◌-◌, ◌<◌, ◌≤◌, List, [], ◌∷◌, length, drop, slice_get, Some, None, ap, sym, refl, ◌∙◌, arith, length-drop}
-use Rattle.std.proofs.lemmas.List.{get_or-drop}
-use Rattle.std.proofs.lemmas.Option.{slice_get-get_or, slice_get_past}
-
-pub get_behind : (xs : List ℕ) (k i : ℕ) → k + i < length xs → slice_get (drop k xs) i ≡ slice_get xs (k + i)
-get_behind xs k i h =
-    let len = length-drop k xs in
-    slice_get-get_or (drop k xs) i 0 (omega (arith, len)) ∙ ap Some (get_or-drop k xs i 0) ∙ sym (slice_get-get_or xs (k + i) 0 h)
+use Rattle.std.proofs.Common.{◌≡◌, ℕ, zero, suc, ◌-◌, ◌≤◌, List, [], ◌∷◌, length, drop, slice_get, None, refl, arith, length-drop}
+use Rattle.std.proofs.lemmas.Option.{slice_get_past}
 
 pub none_behind : (xs : List ℕ) (k i : ℕ) → length xs - k ≤ i → slice_get (drop k xs) i ≡ None
 none_behind xs k i h = let len = length-drop k xs in slice_get_past (drop k xs) i (omega (arith, len))

@@ -7,7 +7,7 @@ use Rattle.std.specs.List.{flat_map}
 use Rattle.std.proofs.Common.{ap, sym, arith, take_all, append-nil}
 use Rattle.iobufs_core.specs.Chunks.{full_chunks, first_chunk, IsChunkOf}
 
--- the chunks that hold bytes join to the same text
+-- the chunks that hold bytes join to the same bytes
 pub joined-full_chunks : (chunks : List (List ℕ)) → flat_map (λ chunk. chunk) (full_chunks chunks) ≡ flat_map (λ chunk. chunk) chunks
 joined-full_chunks [] = refl
 joined-full_chunks ([] ∷ chunks) = joined-full_chunks chunks
@@ -18,7 +18,7 @@ full_chunks-twice [] = refl
 full_chunks-twice ([] ∷ chunks) = full_chunks-twice chunks
 full_chunks-twice ((byte ∷ bytes) ∷ chunks) = ap (λ rest. (byte ∷ bytes) ∷ rest) (full_chunks-twice chunks)
 
--- a text of one chunk
+-- bytes of one chunk
 pub joined-one : (bytes : List ℕ) → flat_map (λ chunk. chunk) (full_chunks (bytes ∷ [])) ≡ bytes
 joined-one [] = refl
 joined-one (byte ∷ bytes) = append-nil (byte ∷ bytes)

@@ -1,7 +1,7 @@
--- Texts in chunks: what a reader of a text sees piece by piece.
+-- Bytes in chunks: what a reader sees of them, chunk by chunk.
 --     is_full, full_chunks    a chunk that holds bytes; those of several that do, in order
 --     first_chunk             what a reader is shown: the first of several, or no bytes
---     IsChunkOf               a beginning of the text, which is empty only where the text is
+--     IsChunkOf               a prefix of the bytes, which is empty only if there are none
 use Rattle.std.specs.Prelude.{◌≡◌, ℕ, Bool, true, false, List, [], ◌∷◌, filter, length, take}
 
 -- whether a chunk holds bytes
@@ -18,7 +18,7 @@ abbrev pub first_chunk : List (List ℕ) → List ℕ
 first_chunk [] = []
 first_chunk (chunk ∷ chunks) = chunk
 
--- a beginning of the text, empty only for the empty text
+-- a prefix of the bytes, empty only if there are none
 pub record IsChunkOf (chunk text : List ℕ) : Type 0 where
   pub front : chunk ≡ take (length chunk) text
   pub some : length chunk ≡ 0 → length text ≡ 0

@@ -122,7 +122,7 @@ bytes-dropped text (by_copy n ∷ more) within =
     omega (arith, within, ap (λ (xs : List ℕ). length xs) first, length-drop n text.bytes) in
     bytes-dropped (text_rest text n) more (omega (arith, within, len)) ∙ ap (drop (dropped_len more)) first ∙ drop-drop (dropped_len more) n text.bytes
 
--- a text that begins with what was written is left without it
+-- bytes that begin with what was written are left without it
 pub left_behind : (text left : MarkedText) (droppings : List Dropping) (written rest : List ℕ) → text.bytes ≡ written ++ rest
     → left ≡ dropped text_advanced text_rest text droppings
     → dropped_len droppings ≡ length written → left.bytes ≡ rest

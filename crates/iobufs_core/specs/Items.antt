@@ -37,7 +37,7 @@ abbrev pub items_pushed : List PutOrPush → ℕ
 items_pushed [] = 0
 items_pushed (item ∷ items) = item_pushed item + items_pushed items
 
--- a text after which a beginning of some bytes was written
+-- bytes after which a prefix of others was written
 pub record IsBegun (old bytes new : List ℕ) : Type 0 where
   pub front : List ℕ
   pub back : List ℕ

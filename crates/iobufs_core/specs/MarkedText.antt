@@ -21,19 +21,19 @@ use Rattle.std.specs.List.{list_any}
 use Rattle.iobufs_core.specs.Chunks.{full_chunks}
 use Rattle.iobufs_core.specs.View.{Mark, View, ReachesEnd, mark_after, native_mark, default_view}
 
--- the bytes, the mark of the first piece, and the places where the further pieces begin, with their marks
+-- the bytes, the mark of the first chunk, and the offsets where the further chunks begin, with their marks
 pub record MarkedText : Type 0 where
   pub bytes : List ℕ
   pub mark : Mark
   pub cuts : List (ℕ × Mark)
 
--- a cut lies after a key and below the end, and the piece between them has room
+-- a cut is after a key and below the end, and the chunk between them fits its storage
 pub record IsCut (key : ℕ) (mark : Mark) (cut : ℕ × Mark) (end : ℕ) : Type 0 where
   pub rises : key < cut.0
   pub below : cut.0 < end
   pub room : ReachesEnd mark (cut.0 - key)
 
--- from a key with its mark on: the cuts rise, lie below the end, and each piece has room
+-- from a key with its mark on: the cuts rise and are below the end, and each chunk fits its storage
 abbrev pub AreCuts : ℕ → Mark → List (ℕ × Mark) → ℕ → Type 0
 AreCuts key mark [] end = ReachesEnd mark (end - key)
 AreCuts key mark (cut ∷ cuts) end = IsCut key mark cut end × AreCuts cut.0 cut.1 cuts end
@@ -97,7 +97,7 @@ text_advanced text n = if is_single text && (n == text_len text) then text_right
 abbrev pub has_cut_between : MarkedText → ℕ → ℕ → Bool
 has_cut_between text from to = list_any (λ cut. nat_lt from cut.0 && nat_lt cut.0 to) text.cuts
 
--- n bytes from `skip` on, as one view: of their piece, or native where they span pieces
+-- n bytes from `skip` on, as one view: of their chunk, or native if they span chunks
 unfoldable pub taken_view : MarkedText → ℕ → ℕ → View
 taken_view text skip n =
     if n == 0 then default_view
@@ -107,7 +107,7 @@ taken_view text skip n =
 unfoldable pub text_glue : MarkedText → MarkedText → MarkedText
 text_glue x y = record { bytes = x.bytes ++ y.bytes; mark = x.mark; cuts = x.cuts ++ (text_len x, y.mark) ∷ map (moved_up (text_len x)) y.cuts }
 
--- a buffer added at the end of a text, or at its start: an empty buffer changes nothing, an empty text becomes the
+-- a buffer added at the end, or at the start: an empty buffer changes nothing, an empty `IoBufs` becomes the
 -- buffer
 abbrev pub text_append : MarkedText → View → MarkedText
 text_append text view = if length view.bytes == 0 then text else if text_len text == 0 then of_view view else text_glue text (of_view view)
@@ -119,11 +119,11 @@ text_prepend text view = if length view.bytes == 0 then text else if text_len te
 abbrev pub joined : List View → MarkedText
 joined views = fold text_append default_text views
 
--- as one piece: without cuts the same, else a copy
+-- as one chunk: without cuts the same, else a copy
 abbrev pub text_coalesced : MarkedText → MarkedText
 text_coalesced text = if is_single text then text else of_view (record { bytes = text.bytes; mark = native_mark (text_len text) })
 
--- none for the empty text, else one more than there are cuts
+-- none if there are no bytes, else one more than there are cuts
 abbrev pub chunk_count : MarkedText → ℕ
 chunk_count text = if text_len text == 0 then 0 else length text.cuts + 1
 
@@ -132,6 +132,6 @@ abbrev pub cut_up : List ℕ → ℕ → List (ℕ × Mark) → List (List ℕ)
 cut_up bytes key [] = bytes ∷ []
 cut_up bytes key (cut ∷ cuts) = take (cut.0 - key) bytes ∷ cut_up (drop (cut.0 - key) bytes) cut.0 cuts
 
--- the bytes of each piece that holds some
+-- the bytes of each chunk that holds some
 unfoldable pub text_chunks : MarkedText → List (List ℕ)
 text_chunks text = full_chunks (cut_up text.bytes 0 text.cuts)

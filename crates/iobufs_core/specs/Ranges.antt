@@ -1,5 +1,5 @@
 -- Ranges of lengths, and of places.
---     in_range                           a length is one that a reader was told to admit, both ends included
+--     in_range                           a length is one that a reader admits, both ends included
 --     is_above, is_below, lies_within    a number satisfies the lower bound, the upper bound, and both
 --     highest_place                      the last number that an upper bound admits, if any
 use Rattle.std.specs.Prelude.{ℕ, ◌-◌, ◌^◌, Bool, true, ◌&&◌, ◌==◌, nat_le, nat_lt, Option, Some, None, if◌then◌else◌}
@@ -11,7 +11,7 @@ use Rattle.iobufs_core.specs.declared.codec.base.RangeCfg.{RangeCfg}
 abbrev pub in_range : RangeCfg → ℕ → Bool
 in_range range n = nat_le range.lo n && nat_le n range.hi
 
--- a number lies between two bounds
+-- a number is between two bounds
 abbrev pub is_above : Bound ℕ → ℕ → Bool
 is_above (Included low) n = nat_le low n
 is_above (Excluded low) n = nat_lt low n

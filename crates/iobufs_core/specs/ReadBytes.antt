@@ -1,5 +1,5 @@
 -- The rest of a reader after a length and its bytes are read.
---     bytes-taken_view, length-taken_view    what is taken as one view is these bytes, and as many as were asked for
+--     bytes-taken_view, length-taken_view    what is taken as one view has these bytes, and this length
 --     bytes-rest, bytes-advanced             what a copy or an advance leaves
 --     IsThere, view_there                    a view of n bytes follows its varint length at the front
 --     left_by_copy, rest_by_copy             a value made of the bytes after a length is dropped by one copy of
@@ -69,7 +69,7 @@ pub bytes-advanced : (text : MarkedText) (n : ℕ) → n ≤ length text.bytes �
 unfolding text_right
 bytes-advanced text n h = grind (arith, nat_tests, common_steps, drop_all)
 
--- a view with n bytes follows its length before a text
+-- a view with n bytes follows its length, before other bytes
 pub record IsThere (text : MarkedText) (n : ℕ) (view : View) : Type 0 where
   pub long : length view.bytes ≡ n
   pub within : length (view_written view) ≤ length text.bytes

@@ -24,14 +24,14 @@ use Rattle.iobufs_core.specs.declared.codec.base.RangeCfg.{RangeCfg}
 
 -- ---- lengths
 
--- a length outside the range is spelled, and the error tells it
+-- the bytes begin with the varint of a length outside the range, which the error has
 pub record IsOutside (bytes : List ℕ) (range : RangeCfg) (error : Error) : Type 0 where
   pub n : ℕ
   pub told : error ≡ InvalidLength n
   pub at : IsSpelledAt bytes n
   pub outside : in_range range n ≡ false
 
--- why a length is not read: it is outside the range, or none is spelled, and more bytes may spell one or not
+-- why a length is not read: it is outside the range, or no varint is whole, and more bytes may make one or not
 LengthFault : List ℕ → RangeCfg → Error → Type 0
 LengthFault bytes range error =
     IsOutside bytes range error ⊎ (HasNoLength bytes × (((error ≡ EndOfBuffer) × IsOpen bytes) ⊎ ((error ≡ InvalidVarint) × (IsOpen bytes → ⊥))))
@@ -54,7 +54,7 @@ not_both bytes range n error at inside out =
 pub one_outside : (bytes : List ℕ) (range : RangeCfg) (a b : Error) → IsOutside bytes range a → IsOutside bytes range b → a ≡ b
 one_outside bytes range a b out other = out.told ∙ ap InvalidLength (spelled_as_one bytes out.n other.n out.at other.at) ∙ sym other.told
 
--- a length that is at the front in the range is not refused
+-- reading a length that is first, and in the range, succeeds
 pub no_fault : (bytes : List ℕ) (range : RangeCfg) (n : ℕ) (error : Error) → IsLengthRead bytes range (Ok n) → IsLengthRead bytes range (Err error) → ⊥
 unfolding LengthFault
 no_fault bytes range n error found fault =
@@ -105,7 +105,7 @@ length_back n range bytes rest answer small inside e read =
 
 -- ---- views, and bytes after their length
 
--- a length in the range is spelled, and fewer bytes follow it than it says
+-- the bytes begin with a length in the range, and fewer follow than it says
 record IsShort (bytes : List ℕ) (range : RangeCfg) : Type 0 where
   n : ℕ
   read : IsLengthRead bytes range (Ok n)
@@ -229,7 +229,7 @@ view_back view range text rest (Err error) small inside e h =
 
 -- ---- numbers
 
--- numbers that fit are written in so many bytes, and each differently
+-- numbers that fit have this many bytes, and each its own
 pub record IsNumberForm (written : ℕ → List ℕ) (size : ℕ) : Type 0 where
   pub long : (n : ℕ) → length (written n) ≡ size
   pub one : (m n : ℕ) → m < 256 ^ size → n < 256 ^ size → written m ≡ written n → m ≡ n

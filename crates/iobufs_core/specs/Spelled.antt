@@ -15,9 +15,9 @@ use Rattle.std.proofs.Math.Seq.{take-append_seam}
 use Rattle.std.proofs.lemmas.Bool.{ltb-true, ltb-false}
 use Rattle.iobufs_core.specs.Spelling.{spell_within, spell, IsSpelledAt, IsSpelling, AreHigh, HasNoLength}
 
--- ---- each number has a spelling
+-- ---- each number has a varint
 
--- a byte with the top bit before a spelling
+-- a byte with the top bit before a varint
 pub grow : (b high n : ℕ) (xs : List ℕ) → 128 ≤ b → b < 256 → 0 < high → n + 128 ≡ b + 128 * high → IsSpelling xs high → IsSpelling (b ∷ xs) n
 grow b high n [] top byte some sum is = elim is [ ]
 grow b high n (c ∷ bs) top byte some sum is = record { top = top; byte = byte; high = high; some = some; sum = sum; rest = is }
@@ -28,7 +28,7 @@ step false n xs e next =
     let big : 128 ≤ n = ltb-false n 128 e in
     grow (128 + n % 128) (n / 128) n xs (omega arith) (omega arith) (omega arith) (omega arith) (next big)
 
--- a number of so many digits of seven bits is spelled within as many bytes
+-- a number of n digits of seven bits has a varint of at most n bytes
 spelled_within : (more n : ℕ) → n < 128 * 128 ^ more → IsSpelling (spell_within more n) n
 spelled_within zero n h = (h, refl)
 spelled_within (suc more) n h =
@@ -60,7 +60,7 @@ one_form (b ∷ c ∷ bs) (d ∷ f ∷ ds) x y m n p q e =
     let rest = one_form (c ∷ bs) (f ∷ ds) x y p.high q.high p.rest q.rest t in
     (cc (rest.0, h), omega (arith, h, rest.1, p.sum, q.sum))
 
--- a number has one spelling
+-- a number has one varint
 pub same_form : (a b : List ℕ) (n : ℕ) → IsSpelling a n → IsSpelling b n → a ≡ b
 same_form [] b n p q = elim p [ ]
 same_form a [] n p q = elim q [ ]
@@ -75,7 +75,7 @@ same_form (b ∷ c ∷ bs) (d ∷ f ∷ ds) n p q =
     let rest : IsSpelling (f ∷ ds) p.high = subst (IsSpelling (f ∷ ds)) high q.rest in
     cc (first, same_form (c ∷ bs) (f ∷ ds) p.high p.rest rest)
 
--- ---- what is read is a spelling
+-- ---- what is read is a varint
 
 short : (t : Bool) (more n : ℕ) → length (spell_within more (n / 128)) ≤ more + 1
     → length (if t then n ∷ [] else (128 + n % 128) ∷ spell_within more (n / 128)) ≤ suc more + 1
@@ -88,25 +88,25 @@ length-spell_within (suc more) n =
     let ih = length-spell_within more (n / 128) in
     short (nat_lt n 128) more n ih
 
--- a spelling has ten bytes at most
+-- a varint has at most ten bytes
 pub length-spell : (n : ℕ) → length (spell n) ≤ 10
 unfolding spell
 length-spell n = length-spell_within 9 n
 
--- a text whose first k bytes spell n begins with the spelling of n
+-- bytes whose first k are a varint of n begin with the varint of n
 pub read_off : (text : List ℕ) (k n : ℕ) → k ≤ length text → n < 2 ^ 64 → IsSpelling (take k text) n → IsSpelledAt text n × (k ≡ length (spell n))
 read_off text k n within small is =
     let same = same_form (spell n) (take k text) n (spelled n small) is in
     let len : length (spell n) ≡ k = ap length same ∙ length-take-le k text within in
     ((small, ap (λ m. take m text) len ∙ sym same), sym len)
 
--- bytes that begin with a varint have its spelling as a prefix
+-- bytes that begin with a varint have it as a prefix
 pub spelled_front : (text : List ℕ) (n : ℕ) → IsSpelledAt text n → IsSpelling (take (length (spell n)) text) n
 spelled_front text n at = subst (λ xs. IsSpelling xs n) (sym at.1) (spelled n at.0)
 
 -- ---- bytes that spell no length
 
--- a beginning of bytes with the top bit set is no spelling
+-- first bytes with the top bit set are no varint
 no_end : (xs : List ℕ) (n : ℕ) → AreHigh xs → IsSpelling xs n → ⊥
 no_end [] n high is = is
 no_end (b ∷ []) n high is = let low = is.0 in let up = high.0 in absurd (omega arith)
@@ -121,7 +121,7 @@ pub AreHigh-append : (xs ys : List ℕ) → AreHigh xs → AreHigh ys → AreHig
 AreHigh-append [] ys p q = q
 AreHigh-append (b ∷ bs) ys p q = (p.0, AreHigh-append bs ys p.1 q)
 
--- a 0 after bytes with the top bit set ends no spelling
+-- a 0 after bytes with the top bit set ends no varint
 zero_end : (k : ℕ) (h : ℕ) (hs more : List ℕ) (n : ℕ) → AreHigh (h ∷ hs) → IsSpelling (take k ((h ∷ hs) ++ 0 ∷ more)) n → ⊥
 zero_end zero h hs more n high is = is
 zero_end (suc zero) h hs more n high is = let low = is.0 in let up = high.0 in absurd (omega arith)
@@ -145,7 +145,7 @@ pub none_zero : (hs more : List ℕ) → 0 < length hs → AreHigh hs → HasNoL
 none_zero [] more some high n at = absurd (omega arith)
 none_zero (h ∷ hs) more some high n at = zero_end (length (spell n)) h hs more n high (spelled_front ((h ∷ hs) ++ 0 ∷ more) n at)
 
--- nor does the spelling of a number that is too large
+-- bytes of a number that is too large are no varint
 pub none_large : (text : List ℕ) (k m : ℕ) → IsSpelling (take k text) m → 2 ^ 64 ≤ m → HasNoLength text
 none_large text k m is large n at =
     let whole = take-append-drop k text in
@@ -166,11 +166,11 @@ spell-more n big small =
 pub spell-last : (n : ℕ) → n < 128 → spell n ≡ n ∷ []
 spell-last n small = same_form (spell n) (n ∷ []) n (spelled n (omega arith)) (small, refl)
 
--- the spelling of a number begins that of no other
+-- the varint of a number is no prefix of another's
 pub spell_begins : (n m : ℕ) (x y : List ℕ) → n < 2 ^ 64 → m < 2 ^ 64 → spell n ++ x ≡ spell m ++ y → n ≡ m
 spell_begins n m x y p q e = (one_form (spell n) (spell m) x y n m (spelled n p) (spelled m q) e).1
 
--- no text begins with two spellings, and each text that begins with one says so
+-- no bytes begin with two varints, and those that begin with one say so
 pub spelled_as_one : (text : List ℕ) (m n : ℕ) → IsSpelledAt text m → IsSpelledAt text n → m ≡ n
 spelled_as_one text m n p q =
     let k = length (spell m) in

@@ -6,16 +6,16 @@
 --     HasNoLength, IsOpen    no varint is at the front; more bytes could still make one
 use Rattle.std.specs.Prelude.{◌≡◌, ℕ, zero, suc, ◌+◌, ◌/◌, ◌%◌, ◌*◌, ◌^◌, ◌<◌, ◌≤◌, nat_lt, if◌then◌else◌, List, [], ◌∷◌, length, take}
 
--- the spelling of a number, with so many bytes before the last at most
+-- the varint of a number, with at most this many bytes before the last
 abbrev pub spell_within : ℕ → ℕ → List ℕ
 spell_within zero n = n ∷ []
 spell_within (suc more) n = if nat_lt n 128 then n ∷ [] else (128 + n % 128) ∷ spell_within more (n / 128)
 
--- the spelling of a length: a number below 2 ^ 64 needs nine bytes before the last at most
+-- the varint of a length: a number below 2 ^ 64 needs at most nine bytes before the last
 unfoldable pub spell : ℕ → List ℕ
 spell n = spell_within 9 n
 
--- the bytes begin with the spelling of a length
+-- the bytes begin with the varint of a length
 abbrev pub IsSpelledAt : List ℕ → ℕ → Type 0
 IsSpelledAt bytes n = (n < 2 ^ 64) × (take (length (spell n)) bytes ≡ spell n)
 
@@ -39,10 +39,10 @@ abbrev pub AreHigh : List ℕ → Type 0
 AreHigh [] = Unit {0}
 AreHigh (b ∷ bs) = (128 ≤ b) × AreHigh bs
 
--- no length is spelled at the front
+-- the bytes begin with no varint
 abbrev pub HasNoLength : List ℕ → Type 0
 HasNoLength bytes = (n : ℕ) → IsSpelledAt bytes n → ⊥
 
--- a spelling may have begun, and has not ended
+-- a varint may have begun, and has not ended
 abbrev pub IsOpen : List ℕ → Type 0
 IsOpen bytes = (length bytes < 10) × AreHigh bytes

@@ -40,7 +40,7 @@ bytes_items bytes = put_item (spell (length bytes)) ∷ push_item (view_of_bytes
 abbrev pub flag : Bool → ℕ
 flag truth = if truth then 1 else 0
 
--- a byte tells whether a value follows it
+-- a byte says whether a value follows it
 abbrev pub option_written : {Value : Type 0} → (Value → List ℕ) → Option Value → List ℕ
 option_written written None = 0 ∷ []
 option_written written (Some value) = 1 ∷ written value

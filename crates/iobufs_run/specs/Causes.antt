@@ -103,7 +103,7 @@ inline_len [] = 0
 inline_len (Inline bytes ∷ items) = length bytes.items + inline_len items
 inline_len (Push name ∷ items) = inline_len items
 
--- the causes to refuse to build a text of these items
+-- the causes to refuse to build an `IoBufs` of these items
 abbrev pub build_causes : List Slot → ℕ → ℕ → List Item → List Cause
 build_causes names dst capacity items =
     gathered View names dst (pushed_names items)
@@ -111,7 +111,7 @@ build_causes names dst capacity items =
     ∷ (nat_le (2 ^ 63) capacity, BadLayout)
     ∷ (is_too_long (capacity + total_extent names (pushed_names items)), TooLong) ∷ [])
 
--- the causes to refuse to put a view after or before a text
+-- the causes to refuse to put a view after or before an `IoBufs`
 abbrev pub join_causes : List Slot → ℕ → ℕ → List Cause
 join_causes names target src =
     (is_no_name names target || is_no_name names src, NoName)
@@ -165,7 +165,7 @@ abbrev pub first_cause : List Cause → Option Refusal
 first_cause [] = None
 first_cause (cause ∷ others) = if cause.0 then Some cause.1 else first_cause others
 
--- the command is refused for this; where there is none, only for a failed allocation, for a fault of what it reads, or as
+-- the command is refused for this; if there is none, only for a failed allocation, for a fault of what it reads, or as
 -- declined by a view that may be shared
 abbrev pub refusal_for : List Slot → Cmd → Option Refusal
 refusal_for names command = first_cause (causes names command)

@@ -23,7 +23,7 @@ use Rattle.iobufs_run.specs.Causes.{is_listed, refusal_for}
 use Rattle.iobufs_run.specs.Slots.{slot_named, slot_recovered, is_native_view, shown_piece}
 use Rattle.iobufs_run.specs.Run.{consumed, MayFree, MayWantMemory, moved_to, Step, with_bytes}
 
--- the reply is want of memory; it is a refusal for another reason
+-- the reply is an allocation failure; it is a refusal for another reason
 abbrev pub is_want_of_memory : Reply → Bool
 is_want_of_memory (Refused Memory) = true
 is_want_of_memory _ = false
@@ -33,7 +33,7 @@ is_other_refusal (Refused Memory) = false
 is_other_refusal (Refused refusal) = true
 is_other_refusal _ = false
 
--- replies that say the same: what is shown by its kind, and the bytes and the room of each piece
+-- replies that say the same: what is shown by its kind, and the bytes and the capacity of each chunk
 abbrev pub SameReply : Reply → Reply → Type 0
 SameReply (Shown kind pieces) (Shown kind' pieces') = (kind ≡ kind') × (map shown_piece pieces.items ≡ map shown_piece pieces'.items)
 SameReply reply other = reply ≡ other
@@ -44,7 +44,7 @@ IsRecoveredOrDeclined old src dst Done new = new ≡ moved_to old src dst (slot_
 IsRecoveredOrDeclined old src dst (Refused Declined) new = new ≡ old
 IsRecoveredOrDeclined old src dst reply new = ⊥
 
--- two outcomes of a command, neither of them want of memory, are the same, but for the room after adopted bytes, and for
+-- two outcomes of a command, neither of them an allocation failure, are the same, but for the capacity after adopted bytes, and for
 -- whether a native view is recovered
 abbrev pub SameOutcome : List Slot → Cmd → (reply other : Reply) → (new another : List Slot) → Type 0
 SameOutcome old (Adopt dst bytes) reply other new another =
@@ -67,7 +67,7 @@ OnlyWants =
     → (refusal_for old command ≡ None) × MayWantMemory old command × MayFree (consumed command) old new
     × ((other : Reply) (another : List Slot) → Step old command other another → is_other_refusal other ≡ false)
 
--- a refused command leaves what each name holds, bytes and all, but for names that it consumes: want of memory may free
+-- a refused command leaves what each name holds, bytes and all, but for names that it consumes: an allocation failure may free
 -- them
 abbrev pub RefusalsKeep : Type 0
 RefusalsKeep =

@@ -37,7 +37,7 @@ use Rattle.iobufs_run.specs.declared.command.Reply.TheVariants.{Done, Bytes, Ref
 use Rattle.iobufs_run.specs.declared.command.Refusal.{Refusal}
 use Rattle.iobufs_run.specs.declared.command.Refusal.TheVariants.{Declined, Codec, Memory}
 
--- reading a view from a text meets this fault
+-- reading a view from an `IoBufs` meets this fault
 abbrev pub IsFault : MarkedText → RangeCfg → Refusal → Type 0
 IsFault text range (Codec fault.Memory) = ⊥
 IsFault text range (Codec error) = IsViewRead text range (Err error)
@@ -221,7 +221,7 @@ Run old [] [] new = new ≡ old
 Run old (command ∷ commands) (reply ∷ replies) new = (mid : List Slot) × Step old command reply mid × Run mid commands replies new
 Run old _ _ new = ⊥
 
--- the command that puts a view at this end of a text
+-- the command that puts a view at this end of an `IoBufs`
 abbrev pub joining : End → ℕ → ℕ → Cmd
 joining Back target src = Append target src
 joining Front target src = Prepend target src

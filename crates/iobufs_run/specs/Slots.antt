@@ -16,7 +16,7 @@
 --     slot_sliced, is_empty_range                   a range of a view; whether it has no bytes
 --     slot_split_front, slot_rest                   what a split returns and leaves
 --     slot_advanced, slot_copied                    without the first n bytes: skipped, and copied out
---     view_held, text_held, part_held,              what is held as one kind, or the empty one; and a view or a text
+--     view_held, text_held, part_held,              what is held as one kind, or the empty one; and a view or an `IoBufs`
 --     marked_held                                   as a marked text
 --     slot_read                                     what is left after a view was read
 --     slot_joined                                   an `IoBufs` with a view added at one end
@@ -162,7 +162,7 @@ slot_frozen (Part part) = View (part_frozen part)
 slot_frozen (Parts parts) = Text (parts_frozen parts)
 slot_frozen slot = slot
 
--- the part that a view recovers to: its bytes, and the room after them
+-- the part that a view recovers to: its bytes, and the capacity after them
 abbrev pub recovered_spare : Mark → ℕ → ℕ
 recovered_spare (native_mark room) len = room - len
 recovered_spare _ len = 0
@@ -205,7 +205,7 @@ slot_copied (View view) n = View (view_rest view n)
 slot_copied (Text text) n = Text (text_rest text n)
 slot_copied (Parts parts) n = Parts (parts_drained parts n)
 
--- the view that is held, the default one where there is none; so the text and the part
+-- the view that is held, the default one if there is none; so the `IoBufs` and the part
 abbrev pub view_held : Slot → ViewValue
 view_held (View view) = view
 view_held _ = default_view
@@ -228,19 +228,19 @@ slot_read (View view) taken = View (record { bytes = (view_left (of_view view) t
 slot_read (Text text) taken = Text (view_left text taken)
 slot_read slot taken = slot
 
--- a text at an end of which a view is put
+-- an `IoBufs` at an end of which a view is put
 abbrev pub slot_joined : End → Slot → Slot → Slot
 slot_joined Back (Text text) slot = Text (text_append text (view_held slot))
 slot_joined Front (Text text) slot = Text (text_prepend text (view_held slot))
 slot_joined end other slot = other
 
--- a text as one piece, and parts as one
+-- an `IoBufs` as one chunk, and parts as one
 abbrev pub slot_coalesced : Slot → Slot
 slot_coalesced (Text text) = View (record { bytes = (text_coalesced text).bytes; mark = (text_coalesced text).mark })
 slot_coalesced (Parts parts) = Part (parts_coalesced parts)
 slot_coalesced slot = slot
 
--- a text in several pieces, or several parts that hold bytes; and whether no storage has room for all of its bytes
+-- an `IoBufs` in several chunks, or several parts that hold bytes; and whether no storage can hold all of its bytes
 abbrev pub is_in_pieces : Slot → Bool
 is_in_pieces (Text text) = not (is_single text)
 is_in_pieces (Parts parts) = nat_lt 1 (length parts) && not (length (parts_filled parts) == 0)
@@ -265,11 +265,11 @@ abbrev pub extent : Slot → ℕ
 extent (Part part) = part_capacity part
 extent slot = readable slot
 
--- a piece that is shown: its bytes, and the room after them
+-- a chunk that is shown: its bytes, and the capacity after them
 abbrev pub shown_piece : Piece → List ℕ × ℕ
 shown_piece piece = (piece.bytes.items, piece.spare)
 
--- the kind of what is held, and its pieces: one of a part or a view, the chunks of a text, and each of several parts
+-- the kind of what is held, and its chunks: one of a part or a view, the chunks of an `IoBufs`, and each of several parts
 abbrev pub kind_of : Slot → Option Kind
 kind_of Free = None
 kind_of (Part part) = Some kind.Part

@@ -31,7 +31,7 @@ pub enum Slot {
     Part(IoBufMut),
     /// A read-only buffer.
     View(IoBuf),
-    /// Several read-only buffers as one text.
+    /// Several read-only buffers as one `IoBufs`.
     Text(IoBufs),
     /// Several writable buffers in a row.
     Parts(IoBufsMut),
@@ -57,7 +57,7 @@ pub struct Table {
     slots: Vec<Slot>,
 }
 
-// An end of a text.
+// An end of an `IoBufs`.
 #[derive(Clone, Copy)]
 enum End {
     Front,
@@ -157,6 +157,7 @@ fn are_well_formed(slots: &[Slot]) -> bool
 
 impl Table {
     /// Makes the names 0 to `n - 1`, which hold nothing.
+    /// Returns `BufError::Memory` if allocation fails.
     pub fn new(alloc: Global, n: usize) -> Result<Table, BufError>
         ensures ok { IfOk result (λ table. table ≡ replicate n Slot.Free) }
         ensures slots { IfOk result AreSlots }

@@ -27,6 +27,7 @@ pub trait Look: EncodeSize + Sized {
     ghost same: { Self → Self → Type 0 } = { λ x y. x ≡ y };
 
     /// Decodes the value after the first `skip` bytes, and returns it with its number of bytes. All of them stay.
+    /// Returns the `Fault` if the bytes are no such value, or if allocation fails.
     fn look<B: Peek>(
         alloc: Global,
         buf: &B,

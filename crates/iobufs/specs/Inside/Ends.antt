@@ -44,11 +44,11 @@ pub record IsSearch (ends : List ℕ) (place : ℕ) : Type 0 where
   pub some : 0 < length ends
   pub inside : place < get_or ends (length ends - 1) 0
 
--- the first piece without its first n bytes; it ends where it did
+-- the first chunk without its first n bytes; it ends where it did
 abbrev pub shortened : List Piece → ℕ → List Piece
 shortened [] n = []
 shortened (piece ∷ pieces) n = record { view = view_advanced piece.view n; end = piece.end } ∷ pieces
 
--- the first bytes of a piece that is cut; none where the place is its first
+-- the first bytes of a chunk that is cut; none where the place is its first
 abbrev pub cut_piece : View → ℕ → ℕ → List Piece
 cut_piece view end offset = if offset == 0 then [] else record { view = view; end = end } ∷ []

@@ -17,11 +17,11 @@ use Rattle.iobufs_core.specs.MarkedText.{MarkedText, of_view, default_text, text
 abbrev pub view_len : View → ℕ
 view_len view = length view.bytes
 
--- the bytes of all pieces
+-- the bytes of all chunks
 abbrev pub pieces_bytes : List View → List ℕ
 pieces_bytes pieces = flat_map (λ v. v.bytes) pieces
 
--- the number of bytes before the i-th piece
+-- the number of bytes before the i-th chunk
 abbrev pub piece_start : List View → ℕ → ℕ
 piece_start pieces i = length (pieces_bytes (take i pieces))
 
@@ -30,7 +30,7 @@ of_pieces [] = default_text
 of_pieces (v ∷ []) = of_view v
 of_pieces (v ∷ w ∷ vs) = text_glue (of_view v) (of_pieces (w ∷ vs))
 
--- no piece is empty
+-- no chunk is empty
 abbrev pub AreFull : List View → Type 0
 AreFull [] = Unit {0}
 AreFull (v ∷ vs) = (0 < view_len v) × AreFull vs
@@ -40,7 +40,7 @@ IsPieces [] = ⊥
 IsPieces (v ∷ []) = Unit {0}
 IsPieces (v ∷ w ∷ vs) = AreFull (v ∷ w ∷ vs)
 
--- the room of each piece reaches its end
+-- the capacity of each chunk reaches its end
 abbrev pub AreViews : List View → Type 0
 AreViews [] = Unit {0}
 AreViews (v ∷ vs) = IsView v × AreViews vs
@@ -59,17 +59,17 @@ right_pieces (v ∷ vs) at = if nat_lt at (view_len v) then view_advanced v at �
 abbrev pub rest_pieces : List View → ℕ → List View
 rest_pieces pieces n = if n == length (pieces_bytes pieces) then default_view ∷ [] else right_pieces pieces n
 
--- the pieces after the first; an only one leaves the default view
+-- the chunks after the first; an only one leaves the default view
 abbrev pub behind_first : List View → List View
 behind_first [] = []
 behind_first (v ∷ []) = default_view ∷ []
 behind_first (v ∷ w ∷ vs) = w ∷ vs
 
--- the i-th piece
+-- the i-th chunk
 abbrev pub piece_at : List View → ℕ → View
 piece_at pieces i = get_or pieces i default_view
 
--- a place, as a piece and the number of bytes before the place in it
+-- a place, as a chunk and the number of bytes before the place in it
 pub record IsChunkPlace (pieces : List View) (at index offset : ℕ) : Type 0 where
   pub sum : piece_start pieces index + offset ≡ at
   pub inside : offset < view_len (piece_at pieces index)

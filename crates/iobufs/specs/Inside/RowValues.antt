@@ -6,7 +6,7 @@
 use Rattle.std.specs.Prelude.{ℕ, List}
 use Rattle.iobufs_core.specs.View.{View}
 
--- views in order, and how many there is room for
+-- views in order, and how many fit
 pub record ViewRow : Type 0 where
   pub views : List View
   pub room : ℕ
@@ -16,7 +16,7 @@ pub data Segment : Type 0 where
   gap : ℕ → Segment
   standing : View → Segment
 
--- segments in order, and how many there is room for
+-- segments in order, and how many fit
 pub record SegmentRow : Type 0 where
   pub segments : List Segment
   pub room : ℕ

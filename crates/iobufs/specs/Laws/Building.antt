@@ -4,7 +4,7 @@
 --     items_bytes-append, items_inline-append,    of items joined, the bytes join and the counts add up
 --     items_pushed-append
 --     run-bytes, run-inline, run-pushed           inline bytes as an item are these bytes, all of them copied
---     put-append, put_nothing, put_unchanged,     two puts are one, none changes nothing, each uses up its room
+--     put-append, put_nothing, put_unchanged,     two puts are one, none changes nothing, each lessens the capacity
 --     put_lessens, put_composes
 --     built-append, bytes-built, room-built,      what a list of items adds, and what a push of nothing and of
 --     pushes-built, push-none, push-some          something does
@@ -58,7 +58,7 @@ put-nothing b = ap (λ (last : List ℕ). record { capacity = b.capacity; front 
 pub put-append : (b : Building) (u v : List ℕ) → building_put (building_put b u) v ≡ building_put b (u ++ v)
 put-append b u v = ap (λ (last : List ℕ). record { capacity = b.capacity; front = b.front; last = last }) (append_assoc b.last u v)
 
--- the laws of the trait to fill room
+-- the laws of the trait to fill capacity
 pub put_nothing : (b : Building) → IsBuilderPut b [] b
 put_nothing b = (omega arith, put-nothing b)
 

@@ -93,7 +93,7 @@ spare-fill (p ∷ parts) w l =
     let ih = spare-fill parts (drop p.spare w) (omega arith) in
     omega arith
 
--- the laws of the trait to fill room
+-- the laws of the trait to fill capacity
 pub filled_nothing : (parts : List Part) → AreFilled parts [] parts
 filled_nothing parts = (omega arith, sym (fill-nil parts))
 

@@ -1,5 +1,5 @@
 -- The laws of a reader, for marked texts.
---     joined-chunks, full-chunks    the chunks join to the text, and none is empty
+--     joined-chunks, full-chunks    the chunks join to the `IoBufs`, and none is empty
 use Rattle.std.specs.Prelude.{◌≡◌, ℕ, ◌-◌, List, [], ◌∷◌, ◌++◌, take, drop}
 use Rattle.std.specs.List.{flat_map}
 use Rattle.std.proofs.Common.{ap, ◌∙◌, append-nil}
@@ -14,7 +14,7 @@ joined-cut_up bytes key [] = append-nil bytes
 joined-cut_up bytes key (cut ∷ cuts) =
     ap (λ rest. take (cut.0 - key) bytes ++ rest) (joined-cut_up (drop (cut.0 - key) bytes) cut.0 cuts) ∙ take-append-drop (cut.0 - key) bytes
 
--- the chunks join to the text, and none is empty
+-- the chunks join to the `IoBufs`, and none is empty
 pub joined-chunks : (t : MarkedText) → flat_map (λ piece. piece) (text_chunks t) ≡ t.bytes
 unfolding text_chunks
 joined-chunks t = joined-full_chunks (cut_up t.bytes 0 t.cuts) ∙ joined-cut_up t.bytes 0 t.cuts

@@ -1,4 +1,4 @@
-// One piece, or a row of several.
+// One chunk, or a row of several.
 ghost use Rattle.iobufs.specs.Inside.Pieces.{AreFull, IsPieces, IsChunkPlace, behind_first, left_pieces, rest_pieces, right_pieces, piece_at, pieces_bytes, view_len, bytes_behind};
 ghost use Rattle.iobufs.specs.Inside.Several.{views, IsPieced};
 ghost use Rattle.iobufs_core.specs.Part.{part_frozen, part_put};
@@ -14,19 +14,19 @@ use std::alloc::{AllocError, AllocFailed, Global};
 use std::marker::Model;
 use std::mem;
 
-/// The pieces of a text, in order: at least one, and of several none is empty.
+/// The chunks of an `IoBufs`, in order: at least one, and of several none is empty.
 pub(super) struct Pieces {
     pub(super) form: Form,
 }
 
-/// One piece, or a row of two and more.
+/// One chunk, or a row of two and more.
 #[derive(Drop)]
 pub(super) enum Form {
     One(IoBuf),
     Many(Row),
 }
 
-// Written out, so that what a caller proves about pieces that it drops names no field.
+// Written out, so that what a caller proves about chunks that it drops names no field.
 impl Drop for Pieces {
     fn drop(self) {
         let Pieces { form: _ } = self;
@@ -61,7 +61,7 @@ impl Form {
         *self = form;
     }
 
-    // A row of one piece becomes that piece.
+    // A row of one chunk becomes that chunk.
     fn settle(&mut self)
         requires { 0 < length (views self.old) }
         ensures same { views self.new ≡ views self.old }
@@ -77,7 +77,7 @@ impl Form {
 }
 
 impl Pieces {
-    /// One piece.
+    /// One chunk.
     pub(super) fn one(piece: IoBuf) -> Pieces
         ensures { result ≡ piece ∷ [] }
     {
@@ -86,7 +86,7 @@ impl Pieces {
         }
     }
 
-    /// The pieces of a row, at least one.
+    /// The chunks of a row, at least one.
     pub(super) fn from_row(row: Row) -> Pieces
         requires { 0 < length row.views }
         ensures { result ≡ row.views }
@@ -130,7 +130,7 @@ impl Pieces {
         }
     }
 
-    /// The first piece: there is one.
+    /// The first chunk: there is one.
     pub(super) fn first(&self) -> &IoBuf
         ensures value { result.now ≡ piece_at self.now 0 }
         ensures pieces { IsPieces self.now }
@@ -148,7 +148,7 @@ impl Pieces {
         self.get(i).unwrap()
     }
 
-    /// The only piece; the pieces themselves where there are more.
+    /// The only chunk; the chunks themselves where there are more.
     pub(super) fn into_single(self) -> Result<IoBuf, Pieces>
         ensures { MatchResult result (λ piece. self ≡ piece ∷ []) (λ pieces. (pieces ≡ self) × (1 < length self)) }
     {
@@ -335,7 +335,7 @@ impl Pieces {
         }
     }
 
-    /// The piece that holds a place.
+    /// The chunk that holds a place.
     pub(super) fn locate(&self, at: usize) -> Located
         requires { at < length (pieces_bytes self.now) }
         ensures full { AreFull self.now }
@@ -476,7 +476,7 @@ impl Pieces {
         }
     }
 
-    /// The bytes of the first pieces, at most `max` of these.
+    /// The bytes of the first chunks, at most `max` of these.
     pub(super) fn chunks(&self, alloc: Global, max: usize) -> Result<Vec<&[u8]>, AllocError>
         ensures ok { IfOk result (λ chunks. map (λ chunk. chunk.now) chunks.items ≡ take max (map (λ piece. piece.bytes) self.now)) }
         ensures nothing { max ≡ 0 → IsOk result }

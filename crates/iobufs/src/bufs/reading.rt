@@ -1,4 +1,4 @@
-// Reading a text: its first piece here, those after it through `pieces`.
+// Reading an `IoBufs`: its first chunk here, those after it through `pieces`.
 ghost use Rattle.iobufs_core.specs.Chunks.{first_chunk};
 ghost use Rattle.iobufs_core.specs.MarkedText.{taken_view, text_chunks, text_len, text_rest, text_advanced};
 ghost use Rattle.iobufs_core.specs.View.{bytes_mark, static_mark};
@@ -163,7 +163,7 @@ impl IoBufs {
         }
     }
 
-    // A byte after the first piece.
+    // A byte after the first chunk.
     #[inline(never)]
     fn byte_behind(&self, i: usize) -> Option<u8>
         ensures { result ≡ slice_get self.now.bytes i }
@@ -176,7 +176,7 @@ impl IoBufs {
         Some(bytes[place.offset])
     }
 
-    // Copies more than the first piece.
+    // Copies more than the first chunk.
     #[inline(never)]
     fn copy_pieces(&mut self, dst: &mut [u8])
         requires { length dst.old ≤ text_len self.old }
@@ -188,7 +188,7 @@ impl IoBufs {
         self.advance(n);
     }
 
-    // Takes bytes of the first piece out, and drops those at the front too.
+    // Takes bytes of the first chunk out, and drops those at the front too.
     #[inline(always)]
     fn take_inside<T: OwnedBytes>(
         &mut self,

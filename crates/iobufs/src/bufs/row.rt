@@ -1,4 +1,4 @@
-// Pieces in a deque, found by where they end.
+// Chunks in a deque, found by where they end.
 ghost use Rattle.std.specs.Fn.{CalledAt};
 ghost use Rattle.std.specs.List.{FoldsTo};
 ghost use Rattle.std.specs.Option.{option_copied};
@@ -21,7 +21,7 @@ use std::marker::Model;
 use std::mem;
 use std::ops::Bound;
 
-// A piece, and its end: the base of its row more than the number of bytes up to where it ends, modulo 2^64.
+// A chunk, and its end: the base of its row more than the number of bytes up to where it ends, modulo 2^64.
 #[derive(Drop)]
 struct Piece {
     view: IoBuf,
@@ -140,7 +140,7 @@ impl Row {
         self.pieces.len() < self.pieces.capacity()
     }
 
-    /// Shows the bytes of each piece, in order.
+    /// Shows the bytes of each chunk, in order.
     pub(super) fn for_each<F: FnMut(&[u8])>(&self, visit: F)
         requires { F.IsAlwaysCallable visit }
         ensures { (last : F)
@@ -266,7 +266,7 @@ impl Row {
         }
     }
 
-    /// Drops the first `n` bytes where the first piece has more. Else nothing changes.
+    /// Drops the first `n` bytes where the first chunk has more. Else nothing changes.
     pub(super) fn shorten(&mut self, n: usize) -> bool
         requires { 0 < length self.old.views }
         ensures answer { result ≡ nat_lt n (view_len (piece_at self.old.views 0)) }
@@ -292,7 +292,7 @@ impl Row {
         }
     }
 
-    /// The piece that holds a place.
+    /// The chunk that holds a place.
     pub(super) fn locate(&self, at: usize) -> Located
         requires { at < length (pieces_bytes self.now.views) }
         ensures place { IsChunkPlace self.now.views at result.index result.offset }
@@ -326,7 +326,7 @@ impl Row {
         Ok(Row { base, pieces })
     }
 
-    // The number of bytes before a piece.
+    // The number of bytes before a chunk.
     fn start(&self, index: usize) -> usize
         requires { index < length self.now.views }
         ensures { result ≡ piece_start self.now.views index }
@@ -338,7 +338,7 @@ impl Row {
         before.end.wrapping_sub(self.base) as usize
     }
 
-    /// Takes the first bytes, of the first piece alone.
+    /// Takes the first bytes, of the first chunk alone.
     pub(super) fn split_first(&mut self, at: usize) -> Result<IoBuf, BufError>
         requires some { 0 < at }
         requires inside { at ≤ view_len (piece_at self.old.views 0) }
@@ -357,7 +357,7 @@ impl Row {
         Ok(front)
     }
 
-    /// Takes the bytes of the last piece from a place on.
+    /// Takes the bytes of the last chunk from a place on.
     pub(super) fn split_last(&mut self, place: Located, at: usize) -> Result<IoBuf, BufError>
         requires place { IsChunkPlace self.old.views at place.index place.offset }
         requires last { place.index + 1 ≡ length self.old.views }
@@ -454,7 +454,7 @@ pub(super) fn split_inside(piece: &mut IoBuf, at: usize) -> Result<IoBuf, BufErr
     piece.split_to(at)
 }
 
-// The bytes before a place in its piece.
+// The bytes before a place in its chunk.
 fn front_of(row: &VecDeque<Piece>, index: usize, offset: usize) -> Result<IoBuf, BufError>
     requires { offset < view_len (piece_at (views_in row.now.items) index) }
     ensures inside { 0 < offset → IfOk result (λ front. front ≡ view_front (piece_at (views_in row.now.items) index) offset) }
@@ -465,7 +465,7 @@ fn front_of(row: &VecDeque<Piece>, index: usize, offset: usize) -> Result<IoBuf,
     piece.view.slice(Bound::Unbounded, Bound::Excluded(offset))
 }
 
-// Shows the bytes of each piece, in order, and hands the closure back.
+// Shows the bytes of each chunk, in order, and hands the closure back.
 fn show<F: FnMut(&[u8])>(pieces: &[Piece], mut visit: F) -> F
     requires { F.IsAlwaysCallable visit }
     ensures callable { F.IsAlwaysCallable result }
@@ -477,7 +477,7 @@ fn show<F: FnMut(&[u8])>(pieces: &[Piece], mut visit: F) -> F
     visit
 }
 
-// Puts the bytes of each piece after those of a buffer that has room for them.
+// Puts the bytes of each chunk after those of a buffer that has space for them.
 fn put_all(pieces: &[Piece], copy: &mut IoBufMut)
     requires { length (pieces_bytes (views_in pieces.now)) ≤ copy.old.spare }
     ensures { copy.new ≡ part_put copy.old (pieces_bytes (views_in pieces.now)) }
@@ -487,7 +487,7 @@ fn put_all(pieces: &[Piece], copy: &mut IoBufMut)
     }
 }
 
-// Drops bytes of the first piece, which has more.
+// Drops bytes of the first chunk, which has more.
 fn drop_inside(row: &mut VecDeque<Piece>, n: usize)
     requires { n < view_len (piece_at (views_in row.old.items) 0) }
     ensures { row.new.items ≡ shortened row.old.items n }
@@ -498,7 +498,7 @@ fn drop_inside(row: &mut VecDeque<Piece>, n: usize)
     }
 }
 
-// Takes the first bytes off the first piece, which has more.
+// Takes the first bytes off the first chunk, which has more.
 fn split_first_inside(row: &mut VecDeque<Piece>, at: usize) -> Result<IoBuf, BufError>
     requires some { 0 < at }
     requires inside { at < view_len (piece_at (views_in row.old.items) 0) }
@@ -538,7 +538,7 @@ fn split_off(pieces: &mut VecDeque<Piece>, at: usize) -> Result<VecDeque<Piece>,
     Ok(VecDeque::from_vec(rest?))
 }
 
-// Cuts a piece in two: its first bytes go after the front pieces, and the first of those after keeps the others.
+// Cuts a chunk in two: its first bytes go after the front chunks, and the first of those after keeps the others.
 fn cut(
     front: &mut VecDeque<Piece>,
     behind: &mut VecDeque<Piece>,
@@ -558,7 +558,7 @@ fn cut(
     drop_inside(behind, offset);
 }
 
-// Moves the first pieces from one row to the end of the other.
+// Moves the first chunks from one row to the end of the other.
 fn move_front(row: &mut VecDeque<Piece>, front: &mut VecDeque<Piece>, count: usize)
     requires some { count ≤ deque_len row.old }
     requires room { deque_len front.old + count ≤ deque_capacity front.old }
@@ -574,7 +574,7 @@ fn move_front(row: &mut VecDeque<Piece>, front: &mut VecDeque<Piece>, count: usi
     }
 }
 
-// Puts clones of the pieces from one on, so many, after those of another row, which has room for them.
+// Puts clones of the chunks from one on, so many, after those of another row, which has space for them.
 fn clone_run(
     row: &VecDeque<Piece>,
     run: &mut VecDeque<Piece>,

@@ -1,4 +1,4 @@
-// A search among rising end places, and what it finds in a text.
+// A search among rising ends, and what it finds in an `IoBufs`.
 ghost use Rattle.std.specs.Prelude.{◌≡◌, ℕ, ◌+◌, ◌-◌, ◌*◌, ◌^◌, ◌<◌, ◌≤◌, nat_lt, List, length, get_or};
 ghost use Rattle.iobufs.specs.Search.{IsFirstPast, IsRising};
 

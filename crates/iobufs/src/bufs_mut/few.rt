@@ -37,7 +37,7 @@ impl Model for Few {
     ghost invariant = { λ f. parts_capacity (f.first ∷ f.second ∷ f.third ∷ []) < 2 ^ 64 };
 }
 
-// Fills the room of a part as far as it goes, and answers the bytes that are left.
+// Fills the spare capacity of a part as far as it goes, and returns the bytes that are left.
 #[inline(always)]
 fn put_share<'a>(part: &mut IoBufMut, src: &'a [u8]) -> &'a [u8]
     ensures put { part.new ≡ part_put part.old (take part.old.spare src.now) }
@@ -48,7 +48,7 @@ fn put_share<'a>(part: &mut IoBufMut, src: &'a [u8]) -> &'a [u8]
         return src;
     }
     let n = src.len().min(room);
-    part.put_slice(&src[..n]);
+    part.put_share(&src[..n]);
     &src[n..]
 }
 
@@ -62,7 +62,7 @@ fn put_bytes_share(part: &mut IoBufMut, value: u8, n: usize) -> usize
     n - share
 }
 
-// Makes `n` bytes readable as far as the capacity goes, and answers how many are left.
+// Makes `n` bytes readable as far as the capacity goes, and returns how many are left.
 fn len_share(part: &mut IoBufMut, n: usize) -> usize
     ensures set { part.new ≡ part_with_len part.old (min n (part_capacity part.old)) }
     ensures left { result ≡ n - part_capacity part.old }
@@ -72,7 +72,7 @@ fn len_share(part: &mut IoBufMut, n: usize) -> usize
     n - share
 }
 
-// Writes over the readable bytes of a part, and answers the bytes that are left.
+// Writes over the readable bytes of a part, and returns the bytes that are left.
 fn copy_share<'a>(part: &mut IoBufMut, src: &'a [u8]) -> &'a [u8]
     requires { length part.old.filled ≤ length src.now }
     ensures written { part.new ≡ part_overwritten part.old (take (length part.old.filled) src.now) }
@@ -83,7 +83,7 @@ fn copy_share<'a>(part: &mut IoBufMut, src: &'a [u8]) -> &'a [u8]
     rest
 }
 
-// Drops the first `n` bytes of a part, at most all, and answers how many are left to drop.
+// Drops the first `n` bytes of a part, at most all, and returns how many are left to drop.
 #[inline(always)]
 fn drain_share(part: &mut IoBufMut, n: usize) -> usize
     ensures drained { part.new ≡ part_drained part.old n }
@@ -114,7 +114,7 @@ fn count_of(part: &IoBufMut) -> usize
     0
 }
 
-// Copies the bytes of a part to a place of `dst`, as many as there is room for, and answers the place after them.
+// Copies the bytes of a part to a place of `dst`, as many as fit, and returns the place after them.
 #[inline(always)]
 fn read_share(part: &IoBufMut, dst: &mut [u8], at: usize) -> usize
     requires { at ≤ length dst.old }
@@ -127,7 +127,7 @@ fn read_share(part: &IoBufMut, dst: &mut [u8], at: usize) -> usize
     at + n
 }
 
-// Puts the first `n` bytes of a part after others, and answers how many are left.
+// Puts the first `n` bytes of a part after others, and returns how many are left.
 #[inline(always)]
 fn extend_share(bytes: &mut Vec<u8>, part: &IoBufMut, n: usize) -> Result<usize, AllocError>
     ensures put { IfOk result (λ left. bytes.new.items ≡ bytes.old.items ++ take n part.now.filled) }
@@ -156,7 +156,7 @@ fn push_chunk<'a>(
     Ok(chunks)
 }
 
-// Puts a part as a piece after others that end at a place, unless it holds no bytes, and answers where it ends.
+// Puts a part as a chunk after others that end at a place, unless it holds no bytes, and returns where it ends.
 #[inline(always)]
 fn add_frozen(
     alloc: Global,
@@ -320,7 +320,7 @@ impl Few {
         if rest.is_empty() {
             return;
         }
-        self.third.put_slice(rest);
+        self.third.put_share(rest);
     }
 
     #[tactic(auto, using(crate::proofs::Parts::FewLaws::capacities))]
@@ -362,7 +362,7 @@ impl Few {
         }
     }
 
-    // Drops the first `n` bytes if the first part that holds some holds more, and tells whether it does.
+    // Drops the first `n` bytes if the first part that holds some holds more, and returns whether it does.
     #[inline(always)]
     #[tactic(auto, using(crate::proofs::Parts::FewLaws::capacities))]
     fn shorten(&mut self, n: usize) -> bool
@@ -487,13 +487,14 @@ impl Few {
 
     /// All bytes in one buffer, without spare capacity.
     #[tactic(auto, using(crate::proofs::Parts::Coalesced::coalescing))]
-    pub(super) fn coalesce(&self, alloc: Global) -> Result<IoBufMut, BufError>
-        ensures ok { IfOk result (λ part. part ≡ record { filled = parts_filled self.now; spare = 0 }) }
-        ensures bad_layout { 2 ^ 63 ≤ length (parts_filled self.now) → result ≡ Err BufError.BadLayout }
-        ensures good_layout { length (parts_filled self.now) < 2 ^ 63 → IsOkUnless result BufError.Memory }
-        ensures nothing { length (parts_filled self.now) ≡ 0 → IsOk result }
+    pub(super) fn coalesce(&mut self, alloc: Global) -> Result<IoBufMut, BufError>
+        ensures ok { IfOk result (λ part. part ≡ record { filled = parts_filled self.old; spare = 0 }) }
+        ensures bad_layout { 2 ^ 63 ≤ length (parts_filled self.old) → result ≡ Err BufError.BadLayout }
+        ensures good_layout { length (parts_filled self.old) < 2 ^ 63 → IsOkUnless result BufError.Memory }
+        ensures nothing { length (parts_filled self.old) ≡ 0 → IsOk result }
     {
-        let mut whole = IoBufMut::with_capacity(alloc, self.len())?;
+        let len = self.len();
+        let mut whole = IoBufMut::with_capacity_from(alloc, len, &mut self.second)?;
         whole.put_slice(self.first.as_ref());
         whole.put_slice(self.second.as_ref());
         whole.put_slice(self.third.as_ref());

@@ -375,7 +375,7 @@ fn put(parts: &mut VecDeque<IoBufMut>, full: usize, src: &[u8])
         }
         let part = &mut parts[i];
         let n = left.len().min(part.remaining_mut());
-        part.put_slice(&left[..n]);
+        part.put_share(&left[..n]);
         left = &left[n..];
     }
 }
@@ -447,7 +447,7 @@ fn turn_back(row: &mut VecDeque<IoBufMut>, used: usize)
     row.rotate_right(used);
 }
 
-// Drops the first `n` bytes if the first part of the row holds more, and tells whether it does.
+// Drops the first `n` bytes if the first part of the row holds more, and returns whether it does.
 fn shorten(row: &mut VecDeque<IoBufMut>, n: usize) -> bool
     requires { 0 < length row.old.items }
     ensures tells { result ≡ nat_lt n (length (slice_index_or row.old.items 0 (empty_part 0)).filled) }
@@ -463,7 +463,7 @@ fn shorten(row: &mut VecDeque<IoBufMut>, n: usize) -> bool
 }
 
 // Drops the first `n` bytes. A part that is drained goes after the others, where `used` stand already, if it can still
-// hold a byte or none is left beside it. Answers how many stand there then. No part is looked at after the last byte
+// hold a byte or none is left beside it. Returns how many stand there then. No part is looked at after the last byte
 // that goes.
 #[inline(never)]
 fn drain(row: &mut VecDeque<IoBufMut>, n: usize, used: usize) -> usize
@@ -491,7 +491,7 @@ fn drain(row: &mut VecDeque<IoBufMut>, n: usize, used: usize) -> usize
     behind
 }
 
-// A piece, and after it the parts that hold bytes. Room for all is made at once.
+// A chunk, and after it the parts that hold bytes. Space for all is made at once.
 #[tactic(auto, using(crate::proofs::Parts::Frozen::freezing))]
 fn freeze_behind(
     alloc: Global,

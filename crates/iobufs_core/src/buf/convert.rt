@@ -25,6 +25,7 @@ impl IoBufMut {
     }
 
     /// Converts into a read-only view without copying; the default view if there are no bytes (`IoBufMut::freeze`).
+    /// If allocation fails, returns `BufError::Memory` and drops the buffer.
     #[inline(always)]
     pub fn freeze(self) -> Result<IoBuf, BufError>
         ensures ok { IfOk result (λ b. b ≡ part_frozen self) }

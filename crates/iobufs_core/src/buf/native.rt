@@ -1,4 +1,4 @@
-// A text in native storage.
+// Bytes in native storage. A clause sees them and their capacity (`NativeText`).
 ghost use Rattle.std.specs.Arc.{arc_value};
 ghost use Rattle.std.specs.Prelude.{◌≡◌, ◌≤◌, ◌+◌, ◌-◌, length, drop, vec_len, vec_capacity, IfOk, OnErr, OnOk, MatchOption, MatchResult};
 ghost use Rattle.iobufs_core.specs.Native.{native_advanced, native_cut};
@@ -20,7 +20,7 @@ pub(super) struct Native {
     limit: usize,
 }
 
-// A block with this storage: the shell, if nobody else has it, else a new one.
+// A block with this storage: the empty block, if no other handle has it, else a new one.
 fn block_of(
     alloc: Global,
     shell: Option<Arc<Vec<u8>>>,
@@ -137,46 +137,29 @@ impl Native {
         Ok(front)
     }
 
-    /// The bytes as a `Bytes`: in their storage, if no other text is in the block and its room ends with them, else a copy.
-    pub(super) fn into_bytes(self, alloc: Global) -> Result<Bytes, Native>
+    /// The bytes as a `Bytes`: in their storage, if no other handle has the block and its capacity ends with them, else a copy.
+    pub(super) fn into_bytes(mut self, alloc: Global) -> Result<Bytes, Native>
         ensures { MatchResult result (λ bytes. bytes ≡ self.bytes) (λ n. n ≡ self) }
     {
-        let Native {
-            mut block,
-            start,
-            len,
-            limit,
-        } = self;
-        if start + len == limit {
-            if let Some(place) = Arc::get_mut(&mut block) {
+        if self.start + self.len == self.limit {
+            if let Some(place) = Arc::get_mut(&mut self.block) {
                 match Bytes::from_vec(mem::replace(place, Vec::new(alloc))) {
                     Ok(mut bytes) => {
-                        bytes.advance(start);
+                        bytes.advance(self.start);
                         return Ok(bytes);
                     }
                     Err(refused) => *place = refused.value,
                 }
-                return Err(Native {
-                    block,
-                    start,
-                    len,
-                    limit,
-                });
+                return Err(self);
             }
         }
-        let native = Native {
-            block,
-            start,
-            len,
-            limit,
-        };
-        match Bytes::copy_from_slice(alloc, native.as_slice()) {
+        match Bytes::copy_from_slice(alloc, self.as_slice()) {
             Ok(bytes) => Ok(bytes),
-            Err(_) => Err(native),
+            Err(_) => Err(self),
         }
     }
 
-    /// The text as a buffer to write, if no other text is in its block.
+    /// The bytes as a writable buffer, if no other handle has their block.
     pub(super) fn try_into_mut(self) -> Result<IoBufMut, Native>
         ensures { MatchResult result (λ b. b ≡ record { filled = self.bytes; spare = self.room - length self.bytes }) (λ n. n ≡ self) }
     {

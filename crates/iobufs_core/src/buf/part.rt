@@ -28,7 +28,7 @@ use std::sync::Arc;
 ///
 /// It shares its storage with no other buffer. No put allocates.
 pub struct IoBufMut {
-    // It may have more room than up to `limit`, which is never used.
+    // Capacity beyond `limit` is never used.
     storage: Vec<u8>,
     start: usize,
     limit: usize,
@@ -83,6 +83,7 @@ impl IoBufMut {
     }
 
     /// Allocates an empty buffer of exactly this capacity (`IoBufMut::with_capacity`).
+    /// Returns `BufError::BadLayout` above `isize::MAX`, and `BufError::Memory` if allocation fails.
     pub fn with_capacity(alloc: Global, n: usize) -> Result<IoBufMut, BufError>
         ensures ok { IfOk result (λ b. b ≡ empty_part n) }
         ensures bad_layout { IsTrue (bad_layout n 1) → result ≡ Err BufError.BadLayout }
@@ -93,6 +94,8 @@ impl IoBufMut {
     }
 
     /// Allocates an empty buffer, after testing the alignment (`IoBufMut::with_alignment`). Addresses are not promised.
+    /// Returns `BufError::BadLayout` if the alignment is no power of two or the capacity, rounded up to it, passes
+    /// `isize::MAX`; else `BufError::Memory` if allocation fails.
     pub fn with_alignment(alloc: Global, n: usize, align: usize) -> Result<IoBufMut, BufError>
         ensures ok { IfOk result (λ b. b ≡ empty_part n) }
         ensures bad_layout { IsTrue (bad_layout n align) → result ≡ Err BufError.BadLayout }
@@ -111,6 +114,7 @@ impl IoBufMut {
     }
 
     /// Allocates a buffer of exactly this capacity, filled with zeros (`IoBufMut::zeroed`).
+    /// Fails as `with_capacity`.
     pub fn zeroed(alloc: Global, n: usize) -> Result<IoBufMut, BufError>
         ensures ok { IfOk result (λ b. b ≡ record { filled = replicate n 0; spare = 0 }) }
         ensures bad_layout { IsTrue (bad_layout n 1) → result ≡ Err BufError.BadLayout }
@@ -121,6 +125,7 @@ impl IoBufMut {
     }
 
     /// Allocates a buffer filled with zeros, after testing the alignment (`IoBufMut::zeroed_with_alignment`).
+    /// Fails as `with_alignment`.
     pub fn zeroed_with_alignment(
         alloc: Global,
         n: usize,
@@ -143,6 +148,7 @@ impl IoBufMut {
     }
 
     /// Copies the bytes, without spare capacity (`From<&[u8]>`).
+    /// Returns `BufError::Memory` if allocation fails.
     pub fn copy_from_slice(alloc: Global, src: &[u8]) -> Result<IoBufMut, BufError>
         ensures ok { IfOk result (λ b. b ≡ record { filled = src.now; spare = 0 }) }
         ensures memory { IsOkUnless result BufError.Memory }
@@ -157,6 +163,7 @@ impl IoBufMut {
     }
 
     /// Takes a `Bytes` over, and copies it if it is shared (`From<Bytes>`).
+    /// If allocation fails, returns `BufError::Memory` and drops the `Bytes`.
     pub fn from_bytes(alloc: Global, bytes: Bytes) -> Result<IoBufMut, BufError>
         ensures ok { IfOk result (λ b. b.filled ≡ bytes) }
         ensures memory { IsOkUnless result BufError.Memory }
@@ -169,6 +176,7 @@ impl IoBufMut {
     }
 
     /// Takes a `BytesMut` over (`From<BytesMut>`).
+    /// If allocation fails, returns `BufError::Memory` and drops the `BytesMut`.
     pub fn from_bytes_mut(bytes: BytesMut) -> Result<IoBufMut, BufError>
         ensures ok { IfOk result (λ b. b.filled ≡ bytes.items) }
         ensures memory { IsOkUnless result BufError.Memory }
@@ -182,7 +190,7 @@ impl IoBufMut {
         }
     }
 
-    /// The storage, where the bytes begin in it, where their room ends, and the empty block, if there is one.
+    /// The storage, where the bytes begin in it, where their capacity ends, and the empty block, if there is one.
     #[inline(always)]
     pub(super) fn into_storage(self) -> (Vec<u8>, usize, usize, Option<Arc<Vec<u8>>>)
         ensures filled { drop result.1 result.0.items ≡ self.filled }
@@ -214,6 +222,32 @@ impl IoBufMut {
         let alloc = *storage.allocator();
         let shell = Arc::new(alloc, Vec::new(alloc))?;
         Ok(IoBufMut::from_shell(Some(shell), storage, 0, limit))
+    }
+
+    /// Acts as `with_capacity`, and takes over what a drained buffer keeps beside its storage, if there is any (own).
+    /// Fails as `with_capacity`.
+    pub fn with_capacity_from(
+        alloc: Global,
+        n: usize,
+        spent: &mut IoBufMut,
+    ) -> Result<IoBufMut, BufError>
+        ensures ok { IfOk result (λ b. b ≡ empty_part n) }
+        ensures bad_layout { IsTrue (bad_layout n 1) → result ≡ Err BufError.BadLayout }
+        ensures good_layout { bad_layout n 1 ≡ false → IsOkUnless result BufError.Memory }
+        ensures nothing { n ≡ 0 → IsOk result }
+        ensures same { spent.new ≡ spent.old }
+    {
+        if n == 0 {
+            return Ok(IoBufMut::default(alloc));
+        }
+        if is_bad_layout(n, 1) {
+            return Err(BufError::BadLayout);
+        }
+        let block = Vec::with_capacity(alloc, n)?;
+        match spent.shell.take() {
+            Some(shell) => Ok(IoBufMut::from_shell(Some(shell), block, 0, n)),
+            None => IoBufMut::with_shell(block, n),
+        }
     }
 
     pub(super) fn from_shell(
@@ -276,6 +310,15 @@ impl IoBufMut {
         ensures { self.new ≡ part_with_len self.old n }
     {
         self.storage.resize(self.start + n, 0).unwrap();
+    }
+
+    /// Acts as `put_slice`. Takes fewer instructions after a test of the remaining capacity, more without (own).
+    #[inline(always)]
+    pub fn put_share(&mut self, src: &[u8])
+        requires { length src.now ≤ self.old.spare }
+        ensures { self.new ≡ part_put self.old src.now }
+    {
+        self.storage.extend_from_slice(src).unwrap();
     }
 
     /// Keeps at most the first `n` bytes, and the capacity (`IoBufMut::truncate`).
@@ -385,9 +428,13 @@ impl BufMut for IoBufMut {
         self.limit - self.storage.len()
     }
 
+    // The test takes the path on which the vector grows out of the compiled code.
     #[inline(always)]
     fn put_slice(&mut self, src: &[u8]) {
-        self.storage.extend_from_slice(src).unwrap();
+        if self.storage.capacity() - self.storage.len() < src.len() {
+            unreachable!()
+        }
+        self.put_share(src);
     }
 
     #[inline(always)]
@@ -397,6 +444,9 @@ impl BufMut for IoBufMut {
 
     fn put_bytes(&mut self, value: u8, n: usize) {
         let end = self.storage.len() + n;
+        if self.storage.capacity() < end {
+            unreachable!()
+        }
         self.storage.resize(end, value).unwrap();
     }
 

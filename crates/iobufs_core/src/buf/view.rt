@@ -1,4 +1,4 @@
-// A text of one piece that is read and shared.
+// Bytes that are read and shared. A clause sees them and how they are stored (`View`).
 ghost use Rattle.std.specs.Prelude.{◌≡◌, ◌≤◌, ◌-◌, ◌==◌, if◌then◌else◌, [], ◌∷◌, length, take, IsTrue, IfOk, OnOk, OnErr, IsOk, IsOkUnless, MatchResult, nat_eq, Some, codes, ◌++◌};
 ghost use Rattle.iobufs_core.specs.View.{IsView, default_view, view_advanced, view_front, view_of_bytes, view_rest, view_slice, view_split_front, start_place, end_place, range_fits, static_mark, bytes_mark, native_mark, IsFreelyShared};
 ghost use Rattle.iobufs_core.specs.Recovery.{IsAdopted, IsRecovery};
@@ -78,6 +78,7 @@ impl IoBuf {
     }
 
     /// Copies the bytes into native storage (`IoBuf::copy_from_slice`).
+    /// Returns `BufError::Memory` if allocation fails.
     pub fn copy_from_slice(alloc: Global, src: &[u8]) -> Result<IoBuf, BufError>
         ensures ok { IfOk result (λ b. b ≡ (if length src.now == 0 then default_view else record { bytes = src.now; mark = native_mark (length src.now) })) }
         ensures memory { IsOkUnless result BufError.Memory }
@@ -90,6 +91,7 @@ impl IoBuf {
     }
 
     /// Takes a `Vec` over without copying (`From<Vec<u8>>`).
+    /// If allocation fails, returns `BufError::Memory` and drops the `Vec`.
     pub fn from_vec(bytes: Vec<u8>) -> Result<IoBuf, BufError>
         ensures ok { IfOk result (IsAdopted bytes.items) }
         ensures memory { IsOkUnless result BufError.Memory }
@@ -99,6 +101,7 @@ impl IoBuf {
     }
 
     /// Takes a `BytesMut` over (`From<BytesMut>`).
+    /// If allocation fails, returns `BufError::Memory` and drops the `BytesMut`.
     pub fn from_bytes_mut(bytes: BytesMut) -> Result<IoBuf, BufError>
         ensures ok { IfOk result (IsAdopted bytes.items) }
         ensures memory { IsOkUnless result BufError.Memory }
@@ -168,6 +171,7 @@ impl IoBuf {
     }
 
     /// Returns the bytes of a range, in the same storage (`IoBuf::slice`). Test the range by `fits_range`.
+    /// Returns `BufError::Memory` if the storage can't be shared.
     #[inline(always)]
     pub fn slice(&self, lo: Bound<usize>, hi: Bound<usize>) -> Result<IoBuf, BufError>
         requires { IsTrue (range_fits lo hi (length self.now.bytes)) }
@@ -196,6 +200,7 @@ impl IoBuf {
     }
 
     /// Takes the first `at` bytes, in the same storage (`IoBuf::split_to`).
+    /// If the storage can't be shared, returns `BufError::Memory` and changes nothing.
     #[inline(always)]
     pub fn split_to(&mut self, at: usize) -> Result<IoBuf, BufError>
         requires { at ≤ length self.old.bytes }
@@ -246,6 +251,7 @@ impl IoBuf {
     }
 
     /// Copies the bytes (`Vec::from`).
+    /// Returns `BufError::Memory` if allocation fails.
     pub fn to_vec(&self, alloc: Global) -> Result<Vec<u8>, BufError>
         ensures ok { IfOk result (λ v. v.items ≡ self.now.bytes) }
         ensures memory { IsOkUnless result BufError.Memory }

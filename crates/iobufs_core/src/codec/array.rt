@@ -1,4 +1,4 @@
-// So many bytes, as they are.
+// Arrays of bytes, written as they are.
 ghost use Rattle.std.specs.Prelude.{[], ◌∷◌};
 ghost use Rattle.iobufs_core.specs.Items.{put_item};
 ghost use Rattle.iobufs_core.specs.WireLaws.{joins-put};

@@ -17,7 +17,7 @@ pub trait Buf {
 
     ghost copied: { Self → ℕ → Self };
 
-    // The pieces that hold bytes, in order.
+    // The chunks that hold bytes, in order.
     ghost pieces: { Self → List (List ℕ) };
 
     /// Returns how many bytes remain (`Buf::remaining`).
@@ -45,6 +45,7 @@ pub trait Buf {
         ensures rest { self.new ≡ advanced self.old (length dst.old) };
 
     /// Takes the first `n` bytes (`Buf::copy_to_bytes`). It shares them if the chunk is a `Bytes`.
+    /// If allocation fails, returns `BufError::Memory` and changes nothing.
     fn copy_to_bytes(&mut self, alloc: Global, n: usize) -> Result<Bytes, BufError>
         requires { n ≤ length (text self.old) }
         ensures ok { IfOk result (λ bytes. bytes ≡ take n (text self.old)) }
@@ -54,6 +55,7 @@ pub trait Buf {
         ensures nothing { n ≡ 0 → IsOk result };
 
     /// Lists the first chunks that hold bytes, at most `max` (`Buf::chunks_vectored`, which fills `IoSlice`s).
+    /// Returns `BufError::Memory` if allocation fails.
     fn chunks_vectored(&self, alloc: Global, max: usize) -> Result<Vec<&[u8]>, BufError>
         ensures ok { IfOk result (λ chunks. map (λ chunk. chunk.now) chunks.items ≡ take max (pieces self.now)) }
         ensures memory { IsOkUnless result BufError.Memory }
@@ -64,7 +66,7 @@ pub trait Buf {
 
     ghost copies: { (s : Self) (n : ℕ) → n ≤ length (text s) → text (copied s n) ≡ drop n (text s) };
 
-    // The pieces are the text, and none is empty.
+    // The chunks join to the bytes, and none is empty.
     ghost joins: { (s : Self) → flat_map (λ piece. piece) (pieces s) ≡ text s };
 
     ghost full: { (s : Self) → full_chunks (pieces s) ≡ pieces s };

@@ -1,4 +1,4 @@
-// The trait to fill room with bytes, in order.
+// The trait to fill capacity with bytes, in order.
 ghost use Rattle.std.specs.Prelude.{◌≡◌, ℕ, ◌+◌, ◌≤◌, List, [], ◌∷◌, ◌++◌, length, replicate};
 ghost use Rattle.std.specs.Int.{w16, w32, w64, w128, to_be_bytes};
 

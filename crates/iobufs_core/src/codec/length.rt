@@ -1,11 +1,11 @@
-// Lengths, as they are spelled: seven bits a byte, lowest first.
+// Lengths as varints: seven bits a byte, lowest first.
 ghost use Rattle.std.specs.Prelude.{◌≡◌, ℕ, ◌+◌, ◌/◌, ◌%◌, ◌<◌, ◌≤◌, ◌∷◌, ◌++◌, [], List, length, take, drop, slice_get, Some, Ok, Err, IfOk, IfErr};
 ghost use Rattle.iobufs_core.specs.Spelling.{IsSpelledAt, spell};
 ghost use Rattle.iobufs_core.specs.Wire.{IsLengthRead, IsNoLength};
 
 use super::{Buf, BufMut, Error, RangeCfg};
 
-/// A length that a text begins with, and how many bytes spell it.
+/// A length that some bytes begin with, and how many bytes its varint has.
 #[derive(Clone, Copy)]
 pub(super) struct Spelled {
     pub value: usize,
@@ -47,7 +47,7 @@ pub(super) fn spelled_len(n: usize) -> usize
     len
 }
 
-/// Puts the spelling of a length.
+/// Puts the varint of a length.
 pub(super) fn put_length<B: BufMut>(buf: &mut B, n: usize)
     requires { length (spell n) ≤ B.room buf.old }
     ensures { B.filled buf.old (spell n) buf.new }
@@ -69,7 +69,7 @@ fn byte_behind<B: Buf>(buf: &B, skip: usize, i: usize) -> Option<u8>
     }
 }
 
-/// The length that a text begins with.
+/// The length that a reader's bytes begin with.
 #[inline(always)]
 fn length_at<B: Buf>(buf: &B, skip: usize) -> Result<Spelled, Error>
     requires { skip ≤ length (B.text buf.now) }
@@ -126,7 +126,7 @@ fn long_length_at<B: Buf>(buf: &B, skip: usize, first: u8) -> Result<Spelled, Er
     }
 }
 
-/// The length that a text begins with, if it is in a range.
+/// The length that a reader's bytes begin with, if it is in a range.
 #[inline(always)]
 pub(super) fn length_behind<B: Buf>(
     buf: &B,
@@ -145,7 +145,7 @@ pub(super) fn length_behind<B: Buf>(
     }
 }
 
-/// The length that a text begins with, if it is in a range.
+/// The length that a reader's bytes begin with, if it is in a range.
 #[inline(always)]
 pub(super) fn length_in<B: Buf>(buf: &B, range: &RangeCfg) -> Result<Spelled, Error>
     ensures ok { IfOk result (λ s. IsLengthRead (B.text buf.now) range.now (Ok s.value) × (s.len ≡ length (spell s.value))) }
@@ -155,6 +155,7 @@ pub(super) fn length_in<B: Buf>(buf: &B, range: &RangeCfg) -> Result<Spelled, Er
 }
 
 /// Reads the varint after the first `skip` bytes, and returns it with its number of bytes (own). All bytes stay.
+/// Returns `Error::EndOfBuffer`, `Error::InvalidVarint` or `Error::InvalidLength`, as reading a length does.
 pub fn peek_length<B: Buf>(buf: &B, skip: usize, range: &RangeCfg) -> Result<(usize, usize), Error>
     requires { skip ≤ length (B.text buf.now) }
     ensures ok { IfOk result (λ s. IsLengthRead (drop skip (B.text buf.now)) range.now (Ok s.0)) }

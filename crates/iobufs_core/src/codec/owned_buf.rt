@@ -1,4 +1,4 @@
-// The traits to take pieces of a text out and keep them.
+// The traits to take bytes of a reader out, and keep them.
 ghost use Rattle.std.specs.Prelude.{◌≡◌, ◌⊎◌, ⊤, ℕ, ◌+◌, ◌≤◌, ◌<◌, List, length, Err, IfOk, IsOk, OnOk, OnErr, IsOkUnless};
 ghost use Rattle.iobufs_core.specs.Chunks.{first_chunk};
 ghost use Rattle.iobufs_core.specs.View.{View, static_mark, bytes_mark, default_view};
@@ -24,11 +24,13 @@ pub trait OwnedBytes: Sized {
     ghost is_free: { View → Type 0 };
 
     /// Converts a `Bytes` (`From`).
+    /// If allocation fails, returns `BufError::Memory` and drops the `Bytes`.
     fn from_bytes(bytes: Bytes) -> Result<Self, BufError>
         ensures ok { IfOk result (λ made. bytes_of made ≡ bytes) }
         ensures memory { IsOkUnless result BufError.Memory };
 
     /// Converts a view, and shares its storage if the type can (the codec's `claim`).
+    /// If allocation fails, returns `BufError::Memory` and drops the view.
     fn from_view(alloc: Global, view: IoBuf) -> Result<Self, BufError>
         ensures ok { IfOk result (makes view) }
         ensures memory { IsOkUnless result BufError.Memory }
@@ -51,7 +53,8 @@ pub trait OwnedBytes: Sized {
 pub trait OwnedBuf: Buf {
     ghost marked: { Self → MarkedText };
 
-    /// Takes the `n` bytes after the first `skip`, and drops all of them (own). The whole first chunk is moved.
+    /// Takes the `n` bytes after the first `skip`, and drops all of them (own). A whole first chunk is moved, not cloned.
+    /// If allocation fails, returns `BufError::Memory` and changes nothing.
     fn take_owned_after<T: OwnedBytes>(
         &mut self,
         alloc: Global,
@@ -76,6 +79,7 @@ pub trait OwnedBuf: Buf {
     ghost copies_marked: { (s : Self) (n : ℕ) → n ≤ length (Self.text s) → marked (Self.copied s n) ≡ text_rest (marked s) n };
 
     /// Takes the first `n` bytes (`take_owned`).
+    /// If allocation fails, returns `BufError::Memory` and changes nothing.
     #[inline(always)]
     final fn take_owned<T: OwnedBytes>(&mut self, alloc: Global, n: usize) -> Result<T, BufError>
     where

@@ -16,6 +16,7 @@ pub trait Peek: OwnedBuf {
         ensures marked { IsMarked (Self.marked self.now) };
 
     /// Returns the `n` bytes after the first `skip`, which stay (own).
+    /// Returns `BufError::Memory` if allocation fails.
     fn peek_owned<T: OwnedBytes>(&self, alloc: Global, skip: usize, n: usize) -> Result<T, BufError>
         requires { skip + n ≤ length (Self.text self.now) }
         ensures ok { IfOk result (T.makes (taken_view (Self.marked self.now) skip n)) }

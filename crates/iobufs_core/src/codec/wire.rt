@@ -68,7 +68,7 @@ pub trait BufsMut: BufMut {
 
 /// A value whose encoded size is known (the codec's `EncodeSize`).
 pub trait EncodeSize {
-    // The text that is written, and the puts and pushes that write it.
+    // The bytes that are written, and the puts and pushes that write them.
     ghost written: { Self → List ℕ };
 
     ghost items: { Self → List PutOrPush };
@@ -122,7 +122,7 @@ pub trait Read: Sized {
         ensures rest { IfOk result (λ value. B.marked buf.new ≡ dropped text_advanced text_rest (B.marked buf.old) (dropping value)) }
         ensures unchanged { OnErr result (buf.new ≡ buf.old) };
 
-    // Reading doesn't depend on where a text is cut.
+    // Reading doesn't depend on the chunking.
     ghost alike: { (s t : MarkedText) (cfg : Self.Cfg) (a b : Result Self AnyError) → s.bytes ≡ t.bytes → is_read s cfg a → is_read t cfg b
         → IsReadAlike same a b };
 }

@@ -1,4 +1,4 @@
-// The command that builds a text of bytes and views.
+// The command that builds an `IoBufs` of bytes and views.
 ghost use Rattle.std.specs.Prelude.{◌≡◌, ◌≢◌, ◌+◌, ◌^◌, ◌<◌, ◌≤◌, true, false, map, nat_lt, [], ◌∷◌, slice_set, IfErr, IfOk, IsOkUnless, OnOk, MatchResult, Some, None};
 ghost use Rattle.std.specs.List.{list_any, list_all};
 ghost use Rattle.iobufs_core.specs.Items.{item_inline, item_pushed};
@@ -106,7 +106,7 @@ fn are_too_long(slots: &[Slot], capacity: usize, items: &[Item]) -> bool
     false
 }
 
-// The first cause to refuse to build a text of these items.
+// The first cause to refuse to build an `IoBufs` of these items.
 fn building(slots: &[Slot], dst: usize, capacity: usize, items: &[Item]) -> Result<(), Refusal>
     ensures causes { MatchResult result (λ _. first_cause (build_causes slots.now dst capacity items.now) ≡ None)
         (λ refusal. first_cause (build_causes slots.now dst capacity items.now) ≡ Some refusal) }
@@ -164,7 +164,7 @@ fn add(slots: &mut [Slot], item: &Item, builder: &mut Builder) -> Result<(), Ref
     }
 }
 
-// Builds a text of these items.
+// Builds an `IoBufs` of these items.
 fn built_text(
     alloc: Global,
     slots: &mut [Slot],

@@ -96,7 +96,7 @@ fn gathering(slots: &[Slot], dst: usize, sources: &[usize], kind: Kind) -> Resul
     Ok(())
 }
 
-// Takes the views of these names, and makes a text of them.
+// Takes the views of these names, and makes an `IoBufs` of them.
 fn take_views(alloc: Global, slots: &mut [Slot], sources: &[usize]) -> Result<IoBufs, Refusal>
     requires views { list_all (λ src. of Kind.View (slot_named slots.old src)) sources.now ≡ true }
     requires once { twice sources.now ≡ false }
@@ -131,7 +131,7 @@ fn take_row(alloc: Global, slots: &mut [Slot], sources: &[usize]) -> Result<Vec<
     Ok(row)
 }
 
-// Parts in a row, strung together.
+// Parts in a row, concatenated.
 fn strung(alloc: Global, row: Vec<IoBufMut>) -> Result<IoBufsMut, Refusal>
     requires { parts_capacity row.items < 2 ^ 64 }
     ensures ok { IfOk result (λ parts. parts ≡ kept_parts row.items) }

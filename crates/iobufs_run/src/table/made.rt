@@ -1,4 +1,4 @@
-// The commands that make a view or a text of what is given, or of what a name holds and keeps.
+// The commands that make a view or an `IoBufs` of what is given, or of what a name holds and keeps.
 ghost use Rattle.std.specs.Prelude.{◌≡◌, ◌⊎◌, length, false, [], ◌∷◌, IfOk, IfErr, IsOk};
 ghost use Rattle.iobufs_run.specs.declared.command.Cmd.{Cmd};
 ghost use Rattle.iobufs_run.specs.Run.{Step, reply_of};
@@ -42,7 +42,7 @@ pub(super) fn of_bytes(alloc: Global, slots: &mut [Slot], dst: usize, bytes: &Ve
     Ok(Reply::Done)
 }
 
-// A view or a text again.
+// A view or an `IoBufs` again.
 fn cloned(slot: &Slot) -> Result<Slot, Refusal>
     ensures ok { IfOk result (λ clone. clone ≡ slot.now) }
     ensures err { IfErr result (λ refusal. (refusal ≡ Refusal.Memory) ⊎ (is_one_of (Kind.View ∷ Kind.Text ∷ []) slot.now ≡ false)) }

@@ -43,7 +43,7 @@ pub(super) fn zeroed(
     Ok(Reply::Done)
 }
 
-// A copy of these bytes, which asks for no memory where there are none.
+// A copy of these bytes, which allocates nothing if there are none.
 fn copied(alloc: Global, bytes: &[u8]) -> Result<Vec<u8>, AllocError>
     ensures ok { IfOk result (λ copy. copy.items ≡ bytes.now) }
     ensures nothing { length bytes.now ≡ 0 → IsOk result }

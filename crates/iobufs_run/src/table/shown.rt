@@ -13,7 +13,7 @@ use iobufs::bufs_mut::IoBufsMut;
 use iobufs_core::codec::BufMut;
 use std::alloc::{AllocError, Global};
 
-// One piece, with a copy of these bytes.
+// One chunk, with a copy of these bytes.
 fn one_piece(alloc: Global, bytes: &[u8], spare: usize) -> Result<Vec<Piece>, AllocError>
     ensures { IfOk result (λ pieces. map shown_piece pieces.items ≡ (bytes.now, spare) ∷ []) }
 {
@@ -35,7 +35,7 @@ fn chunks(alloc: Global, text: &IoBufs) -> Result<Vec<Piece>, AllocError>
     Ok(pieces)
 }
 
-// A copy of each part, with its room.
+// A copy of each part, with its spare capacity.
 fn parts_shown(alloc: Global, parts: &IoBufsMut) -> Result<Vec<Piece>, AllocError>
     ensures { IfOk result (λ pieces. map shown_piece pieces.items ≡ map (λ part. (part.filled, part.spare)) parts.now) }
 {

@@ -1,4 +1,4 @@
-// The commands that join texts and views, and make one piece of several.
+// The commands that join `IoBufs` and views, and make one chunk of several.
 ghost use Rattle.std.specs.Prelude.{◌≡◌, ◌≢◌, ◌⊎◌, ◌+◌, ◌^◌, ◌<◌, false, length, [], ◌∷◌, IfOk, IfErr, IsTrue, OnErr, OnOk, MatchResult, Some, None};
 ghost use Rattle.iobufs_run.specs.declared.command.Cmd.{Cmd};
 ghost use Rattle.iobufs_run.specs.Causes.{first_cause, join_causes};
@@ -13,7 +13,7 @@ use iobufs_core::buf::IoBuf;
 use std::alloc::Global;
 use std::mem;
 
-// Puts a view at an end of the text that a slot holds; it comes back where memory is refused.
+// Puts a view at an end of the `IoBufs` that a slot holds; it comes back if an allocation fails.
 fn join_to(alloc: Global, slot: &mut Slot, piece: IoBuf, end: End) -> Result<(), IoBuf>
     requires fits { readable_bytes slot.old + length piece.bytes < 2 ^ 64 }
     ensures ok { OnOk result (slot.new ≡ slot_joined end slot.old (Slot.View piece)) }
@@ -29,7 +29,7 @@ fn join_to(alloc: Global, slot: &mut Slot, piece: IoBuf, end: End) -> Result<(),
     }
 }
 
-// The first cause to refuse a joining of a text and a view.
+// The first cause to refuse a joining of an `IoBufs` and a view.
 fn joining(slots: &[Slot], target: usize, src: usize) -> Result<(), Refusal>
     ensures causes { MatchResult result (λ _. first_cause (join_causes slots.now target src) ≡ None)
         (λ refusal. first_cause (join_causes slots.now target src) ≡ Some refusal) }
@@ -49,7 +49,7 @@ fn joining(slots: &[Slot], target: usize, src: usize) -> Result<(), Refusal>
     Ok(())
 }
 
-/// `Append` and `Prepend`, by the end of the text.
+/// `Append` and `Prepend`, by the end of the `IoBufs`.
 pub(super) fn join(
     alloc: Global,
     slots: &mut [Slot],
@@ -68,7 +68,7 @@ pub(super) fn join(
     Ok(Reply::Done)
 }
 
-// A text or parts, as one piece.
+// An `IoBufs` or parts, as one chunk.
 fn whole(alloc: Global, slot: Slot) -> Result<Slot, Refusal>
     requires fits { too_large slot ≡ false }
     ensures ok { IfOk result (λ whole. whole ≡ slot_coalesced slot) }
@@ -93,7 +93,7 @@ pub(super) fn coalesce(alloc: Global, slots: &mut [Slot], src: usize, dst: usize
     Ok(Reply::Done)
 }
 
-// Whether no storage has room for all bytes of several pieces.
+// Whether no storage can hold all bytes of several chunks.
 fn is_too_large(slot: &Slot) -> bool
     ensures { result ≡ too_large slot.now }
 {

@@ -16,7 +16,7 @@ use iobufs_core::buf::IoBuf;
 use iobufs_core::codec::{Buf, RangeCfg, Read};
 use std::alloc::Global;
 
-// Splits a view or a text that a slot holds.
+// Splits a view or an `IoBufs` that a slot holds.
 fn split_slot(alloc: Global, slot: &mut Slot, at: usize) -> Result<Slot, Refusal>
     requires within { at ≤ readable_bytes slot.old }
     ensures ok { IfOk result (λ front. (front ≡ slot_split_front slot.old at) × (slot.new ≡ slot_rest slot.old at)) }
@@ -83,7 +83,7 @@ pub(super) fn take(alloc: Global, slots: &mut [Slot], target: usize, n: usize) -
     Ok(Reply::Bytes(bytes))
 }
 
-// Reads a view from a view or a text that a slot holds.
+// Reads a view from a view or an `IoBufs` that a slot holds.
 fn read_slot(alloc: Global, slot: &mut Slot, range: &RangeCfg) -> Result<IoBuf, Refusal>
     ensures ok { IfOk result (λ taken. IsViewRead (marked_held slot.old) range.now (Ok taken) × (slot.new ≡ slot_read slot.old taken)) }
     ensures unchanged { OnErr result (slot.new ≡ slot.old) }

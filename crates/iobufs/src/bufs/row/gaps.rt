@@ -12,7 +12,7 @@ use std::alloc::{AllocError, Global};
 use std::collections::VecDeque;
 use std::marker::Model;
 
-/// A row in the making: pieces that stand, and gaps before them for bytes that are to come. A gap is a piece without
+/// A row in the making: chunks that stand, and gaps before them for bytes that are to come. A gap is a chunk without
 /// bytes, and its end says how many are to come:
 ///
 /// ```text
@@ -112,7 +112,7 @@ impl Gapped {
     }
 }
 
-// Fills a gap by the next bytes of a buffer. A piece that stands stays.
+// Fills a gap by the next bytes of a buffer. A chunk that stands stays.
 fn fill_gap(piece: &mut Piece, rest: &mut IoBuf) -> Result<(), BufError>
     requires { gap_len (segment_of piece.old) ≤ length rest.old.bytes }
     ensures filled { OnOk result ((segments : List Segment) → filled rest.old (segment_of piece.old ∷ segments) ≡ piece.new.view ∷ filled rest.new segments) }
