@@ -25,7 +25,7 @@ use Rattle.iobufs_frames.specs.declared.End.{End}
 use Rattle.iobufs_frames.specs.declared.End.TheVariants.{Open, Bad}
 use Rattle.iobufs_frames.specs.declared.lengths.Prefix.{Prefix}
 use Rattle.iobufs_frames.specs.declared.lengths.Prefix.TheVariants.{Spelled, Fixed}
-use Rattle.iobufs_frames.specs.declared.lengths.Width.TheVariants.{U16, U32, U64}
+use Rattle.iobufs_frames.specs.declared.lengths.Width.TheVariants.{U8, U16, U24, U32, U64}
 
 -- ---- why no frame is at the front
 
@@ -184,7 +184,9 @@ stays_bad prefix range bytes more TooLong h = absurd h
 -- nothing may go on
 pub nothing_is_open : (prefix : Prefix) (range : RangeCfg) → LacksFrame prefix range [] Open
 nothing_is_open Spelled range = inl (none_high [] tt, (omega arith, tt))
+nothing_is_open (Fixed U8 order) range = inl (too_few U8 order [] (omega arith), omega arith)
 nothing_is_open (Fixed U16 order) range = inl (too_few U16 order [] (omega arith), omega arith)
+nothing_is_open (Fixed U24 order) range = inl (too_few U24 order [] (omega arith), omega arith)
 nothing_is_open (Fixed U32 order) range = inl (too_few U32 order [] (omega arith), omega arith)
 nothing_is_open (Fixed U64 order) range = inl (too_few U64 order [] (omega arith), omega arith)
 

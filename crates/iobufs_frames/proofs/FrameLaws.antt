@@ -1,28 +1,25 @@
 -- The frames of a text: there is one list of them, and it grows with the text at its end alone.
-use Rattle.std.proofs.Common.{◌≡◌, ◌⊎◌, inl, inr, ℕ, ◌+◌, ◌<◌, Bool, true, false, Option, None, Some, Result, Ok, Err, IfOk, IfSome, OnOk, List, [], ◌∷◌, ◌++◌, length, take, drop, zero, suc, ap, sym, subst, ◌∙◌, refl, arith, append_assoc, length-append, length-drop, length-take, take-append-drop}
+use Rattle.std.proofs.Common.{◌≡◌, ◌⊎◌, inl, inr, ℕ, ◌+◌, ◌<◌, Bool, true, false, Option, None, Some, Result, Ok, Err, OnOk, List, [], ◌∷◌, ◌++◌, length, take, drop, zero, suc, ap, sym, subst, ◌∙◌, refl, arith, append_assoc, length-append, length-drop, length-take, take-append-drop}
 use Rattle.std.proofs.lemmas.List.{append-nil, map-append}
-use Rattle.iobufs_core.proofs.CallerFacts.{read_and_left, read_in_range}
-use Rattle.iobufs_core.specs.ReadBytes.{view_there}
 use Rattle.iobufs_core.specs.Ranges.{in_range}
 use Rattle.iobufs_core.proofs.LengthFacts.{less}
 use Rattle.iobufs_core.specs.Spelled.{spelled}
 use Rattle.iobufs_core.specs.Spelling.{spell, IsSpelling}
 use Rattle.iobufs_core.specs.View.{View}
-use Rattle.iobufs_core.specs.MarkedText.{MarkedText, taken_view, text_append, text_rest}
-use Rattle.iobufs_core.specs.Wire.{HasView, IsViewRead, view_written}
+use Rattle.iobufs_core.specs.MarkedText.{MarkedText, text_append}
 use Rattle.iobufs_core.specs.declared.codec.base.Error.{Error}
 use Rattle.iobufs_core.specs.declared.codec.base.Error.TheVariants.{EndOfBuffer, InvalidVarint, InvalidLength, Memory, BadLayout, TooLong}
 use Rattle.iobufs_core.specs.declared.codec.base.RangeCfg.{RangeCfg}
 use Rattle.iobufs.proofs.Joined.{bytes-append}
 use Rattle.iobufs_frames.proofs.FrameFacts.{first_is, none_in_front, nothing_is_open, one_end, one_more, stands, stays_bad, written-push}
-use Rattle.iobufs_frames.specs.Frames.{AreSameFrames, AreMoved, BeginsWithBytes, CanAllFollow, CanFollow, HasBodyBytes, HasFrames, HaveOneReading, IsBehindLength, IsFirst, IsFramed, IsNext, LacksFrame, all_written, bodies, found_of, frame_written}
+use Rattle.iobufs_frames.specs.Frames.{AreSameFrames, AreMoved, BeginsWithBytes, CanAllFollow, CanFollow, HasBodyBytes, HasFrames, HaveOneReading, IsFirst, IsFramed, IsNext, LacksFrame, all_written, bodies, frame_written}
 use Rattle.iobufs_frames.proofs.PrefixFacts.{form_of, may_be_open, one_front, some_length}
 use Rattle.iobufs_frames.specs.Prefixes.{HasNoLengthAt, IsLengthAt, prefix_limit, prefix_written}
 use Rattle.iobufs_frames.specs.declared.End.{End}
 use Rattle.iobufs_frames.specs.declared.End.TheVariants.{Open, Bad}
 use Rattle.iobufs_frames.specs.declared.lengths.Prefix.{Prefix}
 use Rattle.iobufs_frames.specs.declared.lengths.Prefix.TheVariants.{Spelled, Fixed}
-use Rattle.iobufs_frames.specs.declared.lengths.Width.TheVariants.{U16, U32, U64}
+use Rattle.iobufs_frames.specs.declared.lengths.Width.TheVariants.{U8, U16, U24, U32, U64}
 
 -- ---- one list of frames
 
@@ -63,9 +60,11 @@ some_byte [] n is = absurd is
 some_byte (x ∷ xs) n is = omega arith
 
 -- a length has a byte
-prefix_long : (prefix : Prefix) (n : ℕ) → n < prefix_limit prefix → 0 < length (prefix_written prefix n)
+pub prefix_long : (prefix : Prefix) (n : ℕ) → n < prefix_limit prefix → 0 < length (prefix_written prefix n)
 prefix_long Spelled n small = some_byte (spell n) n (spelled n small)
+prefix_long (Fixed U8 order) n small = omega (arith, (form_of U8 order).long n)
 prefix_long (Fixed U16 order) n small = omega (arith, (form_of U16 order).long n)
+prefix_long (Fixed U24 order) n small = omega (arith, (form_of U24 order).long n)
 prefix_long (Fixed U32 order) n small = omega (arith, (form_of U32 order).long n)
 prefix_long (Fixed U64 order) n small = omega (arith, (form_of U64 order).long n)
 
@@ -151,73 +150,6 @@ pub framed : (prefix : Prefix) (range : RangeCfg) (text : List ℕ) → HasFrame
 framed prefix range text = framed_within prefix range (suc (length text)) text (omega arith)
 
 -- ---- one frame taken
-
--- a view that finds no memory is a frame with bytes
-wanted : (range : RangeCfg) (t : MarkedText) (n : ℕ) → HasView t range n → 0 < n → HasBodyBytes Spelled range t.bytes
-wanted range t n (((small, at), inside), long) some =
-    let view = taken_view t (length (spell n)) n in
-    let there = view_there t n view at long refl in record {
-      body = view.bytes;
-      more = drop (length (view_written view)) t.bytes;
-      admitted = record { small = omega (arith, there.long, small); inside = ap (in_range range) there.long ∙ inside };
-      whole = there.whole;
-      some = omega (arith, there.long, some);
-    }
-
-next_by_reading : (range : RangeCfg) (t new : MarkedText) (read : Result View Error) → IsViewRead t range read
-    → IfOk read (λ view. new ≡ text_rest t (length (view_written view))) → IsNext Spelled range t.bytes (found_of read) new.bytes
-next_by_reading range t new (Ok view) h left =
-    let (small, inside) = read_in_range t range (Ok view) h in
-    (record { small = small; inside = inside }, read_and_left t new range (Ok view) h left)
-next_by_reading range t new (Err EndOfBuffer) h left = h
-next_by_reading range t new (Err InvalidVarint) h left = h
-next_by_reading range t new (Err (InvalidLength n)) h left = h
-next_by_reading range t new (Err Memory) (n, there, some) left = wanted range t n there some
-next_by_reading range t new (Err BadLayout) h left = h
-next_by_reading range t new (Err TooLong) h left = h
-
--- a view that is read off a text is its next frame, and leaves what is after it; where reading ends with the text there is none
-pub next_is : (range : RangeCfg) (t new : MarkedText) (read : Result View Error) (result : Result (Option View) Error) → result ≡ found_of read
-    → IsViewRead t range read
-    → IfOk read (λ view. new ≡ text_rest t (length (view_written view))) → IsNext Spelled range t.bytes result new.bytes
-next_is range t new read result e h left = subst (λ r. IsNext Spelled range t.bytes r new.bytes) (sym e) (next_by_reading range t new read h left)
-
-HasRest : MarkedText → MarkedText → Result (Option View) Error → Type 0
-HasRest old new result = IfOk result (λ found. IfSome found (λ view. new ≡ text_rest old (length (view_written view))))
-
--- a taken frame leaves the text after it, with its marks
-pub taken_rest : (old new : MarkedText) (read : Result View Error) (result : Result (Option View) Error) → result ≡ found_of read
-    → IfOk read (λ view. new ≡ text_rest old (length (view_written view)))
-    → IfOk result (λ found. IfSome found (λ view. new ≡ text_rest old (length (view_written view))))
-unfolding HasRest
-taken_rest old new (Ok view) result e h = subst (HasRest old new) (sym e) h
-taken_rest old new (Err EndOfBuffer) result e h = subst (HasRest old new) (sym e) tt
-taken_rest old new (Err InvalidVarint) result e h = subst (HasRest old new) (sym e) tt
-taken_rest old new (Err (InvalidLength n)) result e h = subst (HasRest old new) (sym e) tt
-taken_rest old new (Err Memory) result e h = subst (HasRest old new) (sym e) tt
-taken_rest old new (Err BadLayout) result e h = subst (HasRest old new) (sym e) tt
-taken_rest old new (Err TooLong) result e h = subst (HasRest old new) (sym e) tt
-
-HasBody : MarkedText → Result (Option View) Error → Type 0
-HasBody text result = IfOk result (λ found. IfSome found (λ body. IsBehindLength Spelled text body))
-
-behind_length : (range : RangeCfg) (text : MarkedText) (view : View) → IsViewRead text range (Ok view) → IsBehindLength Spelled text view
-behind_length range text view (n, (((small, at), inside), long), is) =
-    let there = view_there text n view at long is in
-    record { fits = there.within; is = subst (λ m. view ≡ taken_view text (length (spell m)) m) (sym there.long) is }
-
--- a taken frame's body is the view after its length
-pub taken_body : (range : RangeCfg) (text : MarkedText) (read : Result View Error) (result : Result (Option View) Error) → result ≡ found_of read
-    → IsViewRead text range read
-    → IfOk result (λ found. IfSome found (λ body. IsBehindLength Spelled text body))
-unfolding HasBody
-taken_body range text (Ok view) result e h = subst (HasBody text) (sym e) (behind_length range text view h)
-taken_body range text (Err EndOfBuffer) result e h = subst (HasBody text) (sym e) tt
-taken_body range text (Err InvalidVarint) result e h = subst (HasBody text) (sym e) tt
-taken_body range text (Err (InvalidLength n)) result e h = subst (HasBody text) (sym e) tt
-taken_body range text (Err Memory) result e h = subst (HasBody text) (sym e) tt
-taken_body range text (Err BadLayout) result e h = subst (HasBody text) (sym e) tt
-taken_body range text (Err TooLong) result e h = subst (HasBody text) (sym e) tt
 
 first_wanted : (prefix : Prefix) (range : RangeCfg) (old : List ℕ) (end : End) (frames : List (List ℕ)) (rest : List ℕ) → HasBodyBytes prefix range old
     → IsFramed prefix range old frames end rest → BeginsWithBytes frames

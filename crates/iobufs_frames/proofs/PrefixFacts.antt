@@ -10,48 +10,67 @@
 --     one_front            one body is at the front, and one rest after it
 --     some_length          a length is at the front, or none is
 --     may_be_open          more bytes could make one, or can't
-use Rattle.std.proofs.Common.{◌≡◌, ◌⊎◌, inl, inr, ℕ, ◌<◌, ◌≤◌, Bool, true, false, List, ◌++◌, length, take, refl, ap, sym, subst, ◌∙◌, arith, append_assoc, length-take}
+use Rattle.std.proofs.Common.{◌≡◌, ◌⊎◌, inl, inr, ℕ, ◌^◌, ◌<◌, ◌≤◌, Bool, true, false, List, [], ◌∷◌, ◌++◌, length, take, refl, ap, sym, subst, ◌∙◌, arith, append_assoc, length-take}
 use Rattle.std.proofs.lemmas.Bool.{false≢true}
 use Rattle.std.proofs.lemmas.List.{append_cancel_left, take-append-le}
 use Rattle.std.proofs.lemmas.Nat.{from_be_bytes-to_be_bytes_2, from_be_bytes-to_be_bytes_4, from_be_bytes-to_be_bytes_8, from_le_bytes-to_le_bytes_2, from_le_bytes-to_le_bytes_4, from_le_bytes-to_le_bytes_8}
 use Rattle.std.proofs.lemmas.Slice.Eq.{bytes_eq-Decides}
 use Rattle.std.proofs.Math.Seq.{take-append_seam}
-use Rattle.std.specs.Int.{from_be_bytes, from_le_bytes}
+use Rattle.std.specs.Int.{byte_at, bytes_high_first, bytes_low_first, from_be_bytes, from_le_bytes, w8, w16, w32, w64}
 use Rattle.std.specs.Str.{bytes_eq}
 use Rattle.iobufs_core.proofs.LengthFacts.{has_length, less, opened}
 use Rattle.iobufs_core.specs.ReadLaws.{IsNumberForm}
 use Rattle.iobufs_core.specs.Spelled.{spelled_as_one}
 use Rattle.iobufs_frames.specs.Frames.{frame_written}
-use Rattle.iobufs_frames.specs.Prefixes.{HasNoLengthAt, IsLengthAt, IsOpenAt, int_width, prefix_limit, prefix_written, width_size}
+use Rattle.iobufs_frames.specs.Prefixes.{HasNoLengthAt, IsLengthAt, IsOpenAt, prefix_limit, prefix_written, width_size}
 use Rattle.iobufs_frames.specs.declared.lengths.ByteOrder.{ByteOrder}
 use Rattle.iobufs_frames.specs.declared.lengths.ByteOrder.TheVariants.{Big, Little}
 use Rattle.iobufs_frames.specs.declared.lengths.Prefix.{Prefix}
 use Rattle.iobufs_frames.specs.declared.lengths.Prefix.TheVariants.{Spelled, Fixed}
 use Rattle.iobufs_frames.specs.declared.lengths.Width.{Width}
-use Rattle.iobufs_frames.specs.declared.lengths.Width.TheVariants.{U16, U32, U64}
+use Rattle.iobufs_frames.specs.declared.lengths.Width.TheVariants.{U8, U16, U24, U32, U64}
 
 -- the number that so many bytes are read as
 number_of : Width → ByteOrder → List ℕ → ℕ
-number_of width Big bytes = from_be_bytes (int_width width) bytes
-number_of width Little bytes = from_le_bytes (int_width width) bytes
+number_of U8 order bytes = from_be_bytes w8 bytes
+number_of U16 Big bytes = from_be_bytes w16 bytes
+number_of U24 Big bytes = from_be_bytes w32 (0 ∷ bytes)
+number_of U32 Big bytes = from_be_bytes w32 bytes
+number_of U64 Big bytes = from_be_bytes w64 bytes
+number_of U16 Little bytes = from_le_bytes w16 bytes
+number_of U24 Little bytes = from_le_bytes w32 (bytes ++ 0 ∷ [])
+number_of U32 Little bytes = from_le_bytes w32 bytes
+number_of U64 Little bytes = from_le_bytes w64 bytes
+
+-- a number below 2 ^ 24 has no fourth byte
+fourth : (n : ℕ) → n < 256 ^ 3 → byte_at 3 n ≡ 0
+fourth n small = omega (arith, small)
 
 -- a number that was written is read again
 number_back : (width : Width) (order : ByteOrder) (n : ℕ) → n < prefix_limit (Fixed width order)
     → number_of width order (prefix_written (Fixed width order) n) ≡ n
 unfolding number_of
+number_back U8 Big n small = omega (arith, small)
 number_back U16 Big n small = from_be_bytes-to_be_bytes_2 n small
+number_back U24 Big n small = ap (λ b. from_be_bytes w32 (b ∷ bytes_high_first 3 n)) (sym (fourth n small)) ∙ from_be_bytes-to_be_bytes_4 n (omega (arith, small))
 number_back U32 Big n small = from_be_bytes-to_be_bytes_4 n small
 number_back U64 Big n small = from_be_bytes-to_be_bytes_8 n small
+number_back U8 Little n small = omega (arith, small)
 number_back U16 Little n small = from_le_bytes-to_le_bytes_2 n small
+number_back U24 Little n small = ap (λ b. from_le_bytes w32 (bytes_low_first 0 3 n ++ b ∷ [])) (sym (fourth n small)) ∙ from_le_bytes-to_le_bytes_4 n (omega (arith, small))
 number_back U32 Little n small = from_le_bytes-to_le_bytes_4 n small
 number_back U64 Little n small = from_le_bytes-to_le_bytes_8 n small
 
 -- a number is written in so many bytes
 number_long : (width : Width) (order : ByteOrder) (n : ℕ) → length (prefix_written (Fixed width order) n) ≡ width_size width
+number_long U8 Big n = refl
 number_long U16 Big n = refl
+number_long U24 Big n = refl
 number_long U32 Big n = refl
 number_long U64 Big n = refl
+number_long U8 Little n = refl
 number_long U16 Little n = refl
+number_long U24 Little n = refl
 number_long U32 Little n = refl
 number_long U64 Little n = refl
 

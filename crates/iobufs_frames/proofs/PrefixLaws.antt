@@ -1,5 +1,5 @@
 -- Frames after lengths that are written in one of several ways.
-use Rattle.std.proofs.Common.{◌≡◌, ℕ, ◌+◌, ◌-◌, ◌<◌, ◌≤◌, true, List, ◌++◌, length, take, drop, refl, ap, sym, ◌∙◌, arith, append_assoc, drop-drop, length-append, take-append-drop}
+use Rattle.std.proofs.Common.{◌≡◌, ℕ, ◌+◌, ◌<◌, ◌≤◌, ◌==◌, if◌then◌else◌, true, Result, Ok, Err, IfOk, List, ◌++◌, length, take, drop, refl, ap, sym, ◌∙◌, arith, append_assoc, drop-drop, length-append, take-append-drop}
 use Rattle.std.proofs.lemmas.Bool.Decides.{nat_tests}
 use Rattle.std.proofs.lemmas.Grind.{common_steps}
 use Rattle.std.proofs.lemmas.List.{append-nil, nil_from_length}
@@ -7,15 +7,12 @@ use Rattle.iobufs_core.specs.ReadBytes.{bytes-rest}
 use Rattle.iobufs_core.specs.MarkedText.{MarkedText, taken_view, text_glue, text_len, text_prepend, text_rest}
 use Rattle.iobufs_core.specs.Ranges.{in_range}
 use Rattle.iobufs_core.specs.ReadBytes.{bytes-taken_view, length-taken_view}
-use Rattle.iobufs_core.specs.View.{View}
+use Rattle.iobufs_core.specs.View.{View, default_view, native_mark}
+use Rattle.iobufs_core.specs.declared.codec.base.BufError.{BufError}
 use Rattle.iobufs_core.specs.declared.codec.base.RangeCfg.{RangeCfg}
 use Rattle.iobufs_frames.specs.Frames.{CanFollow, HasBodyBytes, IsBehindLength, frame_written}
-use Rattle.iobufs_frames.proofs.PrefixFacts.{form_of, length-there}
-use Rattle.iobufs_frames.specs.Prefixes.{IsLengthAt, prefix_written, width_size}
-use Rattle.iobufs_frames.specs.declared.lengths.ByteOrder.{ByteOrder}
+use Rattle.iobufs_frames.specs.Prefixes.{IsLengthAt, prefix_view, prefix_written}
 use Rattle.iobufs_frames.specs.declared.lengths.Prefix.{Prefix}
-use Rattle.iobufs_frames.specs.declared.lengths.Prefix.TheVariants.{Fixed}
-use Rattle.iobufs_frames.specs.declared.lengths.Width.{Width}
 
 -- a view of n bytes follows its length before a text
 pub record IsThereWith (prefix : Prefix) (text : MarkedText) (n : ℕ) (view : View) : Type 0 where
@@ -88,14 +85,16 @@ wanted-with prefix range old n k at inside size within some =
       some = omega (arith, there.long, some);
     }
 
--- as many bytes as a length says follow it, by the numbers that were compared
-pub within-with : (width : Width) (order : ByteOrder) (bytes : List ℕ) (n len size again : ℕ) → IsLengthAt (Fixed width order) bytes n
-    → len ≡ length bytes → size ≡ width_size width → again ≡ width_size width → n ≤ len - size → again + n ≤ length bytes
-within-with width order bytes n len size again at whole one two l =
-    let there = length-there (Fixed width order) bytes n at in
-    omega (arith, there, (form_of width order).long n, whole, one, two, l)
-
 -- the bytes of a text with a view at the front are the bytes of the view and then those of the text
 pub bytes-prepend : (t : MarkedText) (v : View) → (text_prepend t v).bytes ≡ v.bytes ++ t.bytes
 unfolding text_glue
 bytes-prepend t v = grind (arith, nat_tests, common_steps, append-nil, nil_from_length)
+
+-- a copy of a length, which has a byte, is a view of just its size
+pub copied_length : (prefix : Prefix) (n : ℕ) (src : List ℕ) (result : Result View BufError) → src ≡ prefix_written prefix n
+    → 0 < length (prefix_written prefix n)
+    → IfOk result (λ view. view ≡ (if length src == 0 then default_view else record { bytes = src; mark = native_mark (length src) }))
+    → IfOk result (λ view. view ≡ prefix_view prefix n)
+copied_length prefix n src (Ok view) is some made =
+    made ∙ ap (λ w. if length w == 0 then default_view else record { bytes = w; mark = native_mark (length w) }) is ∙ grind (arith, nat_tests, common_steps, some)
+copied_length prefix n src (Err error) is some made = tt

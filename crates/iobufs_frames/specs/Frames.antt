@@ -5,10 +5,10 @@
 --     IsTakenApart                 so, each in what those before it left
 --     CanFollow, CanAllFollow      the length of a body can be written, and is in the range; and of each
 --     LacksFrame                   no whole frame is at the front, and why: more bytes may complete it, or none can
---     HasBodyBytes                 a whole frame with bytes is at the front
+--     HasFrame, HasBodyBytes       a whole frame is at the front; and one with bytes
 --     IsFramed, HasFrames          bytes are these frames and a rest that no whole frame begins; and they have such
 --                                  frames
---     IsNext, found_of             what taking one frame returns and leaves; the result by that of reading a view
+--     IsNext                       what taking one frame returns and leaves
 --     IsFirst, FirstTaken,         the result by the frames of the bytes: the first went, or has bytes whose
 --     BeginsWithBytes              allocation failed
 --     AreMoved                     frames moved from the front of some bytes to the end of a list
@@ -20,7 +20,7 @@ use Rattle.iobufs_core.specs.Ranges.{in_range}
 use Rattle.iobufs_core.specs.MarkedText.{MarkedText, taken_view, text_len, text_rest}
 use Rattle.iobufs_core.specs.View.{View}
 use Rattle.iobufs_core.specs.declared.codec.base.Error.{Error}
-use Rattle.iobufs_core.specs.declared.codec.base.Error.TheVariants.{EndOfBuffer, InvalidVarint, InvalidLength, Memory}
+use Rattle.iobufs_core.specs.declared.codec.base.Error.TheVariants.{InvalidVarint, InvalidLength, Memory}
 use Rattle.iobufs_core.specs.declared.codec.base.RangeCfg.{RangeCfg}
 use Rattle.iobufs_frames.specs.Prefixes.{HasNoLengthAt, IsLengthAt, IsOpenAt, prefix_limit, prefix_written}
 use Rattle.iobufs_frames.specs.declared.End.{End}
@@ -56,6 +56,13 @@ LacksFrame prefix range bytes (Bad InvalidVarint) = HasNoLengthAt prefix bytes �
 LacksFrame prefix range bytes (Bad (InvalidLength n)) = IsLengthAt prefix bytes n × (in_range range n ≡ false)
 LacksFrame prefix range bytes (Bad error) = ⊥
 
+-- a whole frame is at the front
+pub record HasFrame (prefix : Prefix) (range : RangeCfg) (bytes : List ℕ) : Type 0 where
+  pub body : List ℕ
+  pub more : List ℕ
+  pub admitted : CanFollow prefix range body
+  pub whole : bytes ≡ frame_written prefix body ++ more
+
 -- a whole frame with bytes is at the front
 pub record HasBodyBytes (prefix : Prefix) (range : RangeCfg) (bytes : List ℕ) : Type 0 where
   pub body : List ℕ
@@ -88,12 +95,6 @@ abbrev pub IsTakenApart : Prefix → MarkedText → List View → MarkedText →
 IsTakenApart prefix text [] rest = rest ≡ text
 IsTakenApart prefix text (body ∷ bodies) rest =
     IsBehindLength prefix text body × IsTakenApart prefix (text_rest text (length (frame_written prefix body.bytes))) bodies rest
-
--- the answer by what reading a view answers: none where that ends with the text
-abbrev pub found_of : Result View Error → Result (Option View) Error
-found_of (Ok view) = Ok (Some view)
-found_of (Err EndOfBuffer) = Ok None
-found_of (Err error) = Err error
 
 -- The result of taking one frame from the bytes, and the bytes that it leaves. `Memory` requires a frame with bytes.
 abbrev pub IsNext : Prefix → RangeCfg → List ℕ → Result (Option View) Error → List ℕ → Type 0

@@ -1,32 +1,33 @@
--- How the length before a body is written: as a varint, or as a number of two, four or eight bytes.
---     int_width, width_size        the size of a number, in std's words, and in bytes
+-- How the length before a body is written: as a varint, or as a number of one, two, three, four or eight bytes.
+--     width_size                   how many bytes a number has
 --     prefix_written, prefix_limit the encoding of a length, and the number below which lengths have one
 --     prefix_view                  an encoded length in a block of its own
 --     IsLengthAt, HasNoLengthAt    bytes begin with this length; and with none
 --     IsOpenAt                     more bytes could still make one
-use Rattle.std.specs.Prelude.{◌≡◌, ℕ, ◌^◌, ◌<◌, List, length, take}
-use Rattle.std.specs.Int.{w16, w32, w64, byte_len, to_be_bytes, to_le_bytes, Width as IntWidth}
+--     IsSeenAt                     the bytes begin with this length, and all its bytes are there
+use Rattle.std.specs.Prelude.{◌≡◌, ℕ, ◌^◌, ◌<◌, ◌≤◌, List, length, take}
+use Rattle.std.specs.Int.{bytes_high_first, bytes_low_first}
 use Rattle.iobufs_core.specs.Spelling.{spell, IsOpen}
 use Rattle.iobufs_core.specs.View.{View, native_mark}
 use Rattle.iobufs_frames.specs.declared.lengths.Prefix.{Prefix}
 use Rattle.iobufs_frames.specs.declared.lengths.Prefix.TheVariants.{Spelled, Fixed}
 use Rattle.iobufs_frames.specs.declared.lengths.ByteOrder.TheVariants.{Big, Little}
 use Rattle.iobufs_frames.specs.declared.lengths.Width.{Width}
-use Rattle.iobufs_frames.specs.declared.lengths.Width.TheVariants.{U16, U32, U64}
+use Rattle.iobufs_frames.specs.declared.lengths.Width.TheVariants.{U8, U16, U24, U32, U64}
 
-abbrev pub int_width : Width → IntWidth
-int_width U16 = w16
-int_width U32 = w32
-int_width U64 = w64
-
+-- how many bytes a number has
 abbrev pub width_size : Width → ℕ
-width_size width = byte_len (int_width width)
+width_size U8 = 1
+width_size U16 = 2
+width_size U24 = 3
+width_size U32 = 4
+width_size U64 = 8
 
 -- a length as it is written
 abbrev pub prefix_written : Prefix → ℕ → List ℕ
 prefix_written Spelled n = spell n
-prefix_written (Fixed width Big) n = to_be_bytes (int_width width) n
-prefix_written (Fixed width Little) n = to_le_bytes (int_width width) n
+prefix_written (Fixed width Big) n = bytes_high_first (width_size width) n
+prefix_written (Fixed width Little) n = bytes_low_first 0 (width_size width) n
 
 -- an encoded length in a block of its own, of exactly its size
 abbrev pub prefix_view : Prefix → ℕ → View
@@ -49,3 +50,7 @@ IsOpenAt (Fixed width order) bytes = length bytes < width_size width
 -- no length is at the front
 abbrev pub HasNoLengthAt : Prefix → List ℕ → Type 0
 HasNoLengthAt prefix bytes = (n : ℕ) → IsLengthAt prefix bytes n → ⊥
+
+-- the bytes begin with this length, which has so many of them
+abbrev pub IsSeenAt : Prefix → List ℕ → ℕ → ℕ → Type 0
+IsSeenAt prefix bytes n len = IsLengthAt prefix bytes n × (len ≡ length (prefix_written prefix n)) × (len ≤ length bytes)

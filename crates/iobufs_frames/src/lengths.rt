@@ -1,18 +1,22 @@
-// How the length before a body is written, and lengths of a fixed size.
-ghost use Rattle.std.specs.Prelude.{◌≡◌, ◌≤◌, ◌<◌, ◌+◌, ◌^◌, length, nat_lt, take, MatchOption, SomeIff, IfOk, IfErr, IsErrAnd, IsOkUnless};
+// How the length before a body is written and read.
+ghost use Rattle.std.specs.Prelude.{◌≡◌, ◌≤◌, ◌<◌, ◌+◌, ◌^◌, length, nat_lt, take, true, false, MatchOption, SomeIff, IfOk, IfErr, IfSome, IfNone, OnOk, IsErrAnd, IsOkUnless};
+ghost use Rattle.iobufs_core.specs.Ranges.{in_range};
 ghost use Rattle.iobufs_core.specs.MarkedText.{text_prepend};
 ghost use Rattle.iobufs_frames.specs.Frames.{frame_written};
-ghost use Rattle.iobufs_frames.specs.Prefixes.{IsLengthAt, IsOpenAt, prefix_limit, prefix_view, prefix_written, width_size};
+ghost use Rattle.iobufs_frames.specs.Prefixes.{HasNoLengthAt, IsLengthAt, IsOpenAt, IsSeenAt, prefix_limit, prefix_view, prefix_written, width_size};
 
+use crate::heads::Head;
 use iobufs::bufs::IoBufs;
 use iobufs_core::buf::IoBuf;
-use iobufs_core::codec::{BufError, Encode, EncodeSize, Peek, Refused};
+use iobufs_core::codec::{Buf, BufError, BufMut, Error, RangeCfg, Refused, Write, peek_length};
 use std::alloc::Global;
 
 /// The size of a length that is written as a number.
 #[derive(Clone, Copy, Debug, PartialEq, Eq)]
 pub enum Width {
+    U8,
     U16,
+    U24,
     U32,
     U64,
 }
@@ -41,67 +45,119 @@ impl Width {
         ensures { result ≡ width_size self }
     {
         match self {
+            Width::U8 => 1,
             Width::U16 => 2,
+            Width::U24 => 3,
             Width::U32 => 4,
             Width::U64 => 8,
         }
     }
 }
 
+/// A length that was decoded, and how many bytes it has.
+#[derive(Clone, Copy)]
+pub(crate) struct Length {
+    pub(crate) value: usize,
+    pub(crate) len: usize,
+}
+
 // The first `N` bytes, if there are so many.
-fn front<const N: usize>(text: &IoBufs) -> Option<[u8; N]>
-    ensures { MatchOption result (length text.now.bytes < N) (λ bytes. (N ≤ length text.now.bytes) × (bytes ≡ take N text.now.bytes)) }
+fn front<B: Buf, const N: usize>(buf: &B) -> Option<[u8; N]>
+    ensures { MatchOption result (length (B.text buf.now) < N) (λ bytes. (N ≤ length (B.text buf.now)) × (bytes ≡ take N (B.text buf.now))) }
 {
-    if text.len() < N {
-        return None;
-    }
     let mut bytes = [0; N];
-    text.peek_slice(0, &mut bytes);
+    for i in 0..N {
+        bytes[i] = buf.byte_at(i)?;
+    }
     Some(bytes)
 }
 
 // The big-endian number at the front.
-fn big_in(text: &IoBufs, width: Width) -> Option<usize>
-    ensures { MatchOption result (IsOpenAt (Prefix.Fixed width ByteOrder.Big) text.now.bytes) (IsLengthAt (Prefix.Fixed width ByteOrder.Big) text.now.bytes) }
+fn big_in<B: Buf>(buf: &B, width: Width) -> Option<usize>
+    ensures { MatchOption result (IsOpenAt (Prefix.Fixed width ByteOrder.Big) (B.text buf.now)) (IsLengthAt (Prefix.Fixed width ByteOrder.Big) (B.text buf.now)) }
 {
     match width {
-        Width::U16 => Some(u16::from_be_bytes(front(text)?) as usize),
-        Width::U32 => Some(u32::from_be_bytes(front(text)?) as usize),
-        Width::U64 => Some(u64::from_be_bytes(front(text)?) as usize),
+        Width::U8 => Some(u8::from_be_bytes(front(buf)?) as usize),
+        Width::U16 => Some(u16::from_be_bytes(front(buf)?) as usize),
+        Width::U24 => {
+            let [a, b, c]: [u8; 3] = front(buf)?;
+            Some(u32::from_be_bytes([0, a, b, c]) as usize)
+        }
+        Width::U32 => Some(u32::from_be_bytes(front(buf)?) as usize),
+        Width::U64 => Some(u64::from_be_bytes(front(buf)?) as usize),
     }
 }
 
 // The little-endian number at the front.
-fn little_in(text: &IoBufs, width: Width) -> Option<usize>
-    ensures { MatchOption result (IsOpenAt (Prefix.Fixed width ByteOrder.Little) text.now.bytes)
-        (IsLengthAt (Prefix.Fixed width ByteOrder.Little) text.now.bytes) }
+fn little_in<B: Buf>(buf: &B, width: Width) -> Option<usize>
+    ensures { MatchOption result (IsOpenAt (Prefix.Fixed width ByteOrder.Little) (B.text buf.now))
+        (IsLengthAt (Prefix.Fixed width ByteOrder.Little) (B.text buf.now)) }
 {
     match width {
-        Width::U16 => Some(u16::from_le_bytes(front(text)?) as usize),
-        Width::U32 => Some(u32::from_le_bytes(front(text)?) as usize),
-        Width::U64 => Some(u64::from_le_bytes(front(text)?) as usize),
+        Width::U8 => Some(u8::from_le_bytes(front(buf)?) as usize),
+        Width::U16 => Some(u16::from_le_bytes(front(buf)?) as usize),
+        Width::U24 => {
+            let [a, b, c]: [u8; 3] = front(buf)?;
+            Some(u32::from_le_bytes([a, b, c, 0]) as usize)
+        }
+        Width::U32 => Some(u32::from_le_bytes(front(buf)?) as usize),
+        Width::U64 => Some(u64::from_le_bytes(front(buf)?) as usize),
     }
 }
 
-/// Returns the length at the front, if all its bytes are there.
-pub(crate) fn length_in(text: &IoBufs, width: Width, order: ByteOrder) -> Option<usize>
-    ensures { MatchOption result (IsOpenAt (Prefix.Fixed width order) text.now.bytes) (IsLengthAt (Prefix.Fixed width order) text.now.bytes) }
+// The number at the front, if all its bytes are there.
+fn number_in<B: Buf>(buf: &B, width: Width, order: ByteOrder) -> Option<Length>
+    ensures found { IfSome result (λ l. IsSeenAt (Prefix.Fixed width order) (B.text buf.now) l.value l.len) }
+    ensures none { IfNone result (IsOpenAt (Prefix.Fixed width order) (B.text buf.now)) }
 {
-    match order {
-        ByteOrder::Big => big_in(text, width),
-        ByteOrder::Little => little_in(text, width),
+    let value = match order {
+        ByteOrder::Big => big_in(buf, width)?,
+        ByteOrder::Little => little_in(buf, width)?,
+    };
+    Some(Length {
+        value,
+        len: width.size(),
+    })
+}
+
+// The varint at the front, if it is whole.
+#[inline(always)]
+fn varint_in<B: Buf>(buf: &B) -> Result<Option<Length>, Error>
+    ensures found { IfOk result (λ found. IfSome found (λ l. IsSeenAt Prefix.Spelled (B.text buf.now) l.value l.len)) }
+    ensures none { IfOk result (λ found. IfNone found (HasNoLengthAt Prefix.Spelled (B.text buf.now) × IsOpenAt Prefix.Spelled (B.text buf.now))) }
+    ensures bad { IfErr result (λ error. (error ≡ Error.InvalidVarint) × HasNoLengthAt Prefix.Spelled (B.text buf.now) × (IsOpenAt Prefix.Spelled (B.text buf.now) → ⊥)) }
+{
+    let all = RangeCfg {
+        lo: 0,
+        hi: usize::MAX,
+    };
+    match peek_length(buf, 0, &all) {
+        Ok((value, len)) => Ok(Some(Length { value, len })),
+        Err(Error::EndOfBuffer) => Ok(None),
+        Err(_) => Err(Error::InvalidVarint),
     }
 }
 
-// A length as a varint.
-fn spelled(alloc: Global, n: usize) -> Result<IoBuf, BufError>
-    ensures view { IfOk result (λ view. view ≡ prefix_view Prefix.Spelled n) }
-    ensures memory { IsOkUnless result BufError.Memory }
+/// Returns how many bytes a frame with this length has, if it is whole, of so many bytes.
+#[inline(always)]
+pub(crate) fn frame_size(
+    found: Length,
+    len: usize,
+    range: &RangeCfg,
+) -> Result<Option<usize>, Error>
+    requires { found.len ≤ len }
+    ensures inside { OnOk result (in_range range.now found.value ≡ true) }
+    ensures whole { IfOk result (λ size. IfSome size (λ n. (n ≡ found.len + found.value) × (n ≤ len))) }
+    ensures none { IfOk result (λ size. IfNone size (len < found.len + found.value)) }
+    ensures outside { IfErr result (λ error. (error ≡ Error.InvalidLength found.value) × (in_range range.now found.value ≡ false)) }
 {
-    match n.encode(alloc) {
-        Ok(part) => part.freeze(),
-        Err(_) => Err(BufError::Memory),
+    if !range.contains(found.value) {
+        return Err(Error::InvalidLength(found.value));
     }
+    if found.value > len - found.len {
+        return Ok(None);
+    }
+    Ok(Some(found.len + found.value))
 }
 
 impl Prefix {
@@ -110,51 +166,63 @@ impl Prefix {
         ensures { result ≡ nat_lt n (prefix_limit self) }
     {
         match self {
+            Prefix::Fixed(Width::U8, _) => n <= u8::MAX as usize,
             Prefix::Fixed(Width::U16, _) => n <= u16::MAX as usize,
+            Prefix::Fixed(Width::U24, _) => n < 1 << 24,
             Prefix::Fixed(Width::U32, _) => n <= u32::MAX as usize,
             Prefix::Fixed(Width::U64, _) | Prefix::Spelled => true,
         }
     }
 
-    /// Encodes a length.
+    /// Returns the length at the front, if all its bytes are there. Fails with `Error::InvalidVarint`, of varints alone.
+    #[inline(always)]
+    pub(crate) fn length_in<B: Buf>(self, buf: &B) -> Result<Option<Length>, Error>
+        ensures found { IfOk result (λ found. IfSome found (λ l. IsSeenAt self (B.text buf.now) l.value l.len)) }
+        ensures none { IfOk result (λ found. IfNone found (HasNoLengthAt self (B.text buf.now) × IsOpenAt self (B.text buf.now))) }
+        ensures bad { IfErr result (λ error. (error ≡ Error.InvalidVarint) × HasNoLengthAt self (B.text buf.now) × (IsOpenAt self (B.text buf.now) → ⊥)
+            × (self ≡ Prefix.Spelled)) }
+    {
+        match self {
+            Prefix::Spelled => varint_in(buf),
+            Prefix::Fixed(width, order) => Ok(number_in(buf, width, order)),
+        }
+    }
+
+    /// Encodes a length, to be sent before a body. It allocates nothing.
+    pub fn head(self, n: usize) -> Head
+        requires { n < prefix_limit self }
+        ensures { result.filled ≡ prefix_written self n }
+    {
+        let mut head = Head::new();
+        match self {
+            Prefix::Spelled if n < 128 => head.put_u8(n as u8),
+            Prefix::Spelled => n.write(&mut head),
+            Prefix::Fixed(width, ByteOrder::Big) => {
+                head.put_slice(&(n as u64).to_be_bytes()[8 - width.size()..]);
+            }
+            Prefix::Fixed(width, ByteOrder::Little) => {
+                head.put_slice(&(n as u64).to_le_bytes()[..width.size()]);
+            }
+        }
+        head
+    }
+
+    /// Encodes a length into a buffer of its own.
     pub fn written(self, alloc: Global, n: usize) -> Result<IoBuf, BufError>
         requires { n < prefix_limit self }
         ensures view { IfOk result (λ view. view ≡ prefix_view self n) }
         ensures memory { IsOkUnless result BufError.Memory }
     {
-        match self {
-            Prefix::Spelled => spelled(alloc, n),
-            Prefix::Fixed(Width::U16, ByteOrder::Big) => {
-                IoBuf::copy_from_slice(alloc, &(n as u16).to_be_bytes())
-            }
-            Prefix::Fixed(Width::U32, ByteOrder::Big) => {
-                IoBuf::copy_from_slice(alloc, &(n as u32).to_be_bytes())
-            }
-            Prefix::Fixed(Width::U64, ByteOrder::Big) => {
-                IoBuf::copy_from_slice(alloc, &(n as u64).to_be_bytes())
-            }
-            Prefix::Fixed(Width::U16, ByteOrder::Little) => {
-                IoBuf::copy_from_slice(alloc, &(n as u16).to_le_bytes())
-            }
-            Prefix::Fixed(Width::U32, ByteOrder::Little) => {
-                IoBuf::copy_from_slice(alloc, &(n as u32).to_le_bytes())
-            }
-            Prefix::Fixed(Width::U64, ByteOrder::Little) => {
-                IoBuf::copy_from_slice(alloc, &(n as u64).to_le_bytes())
-            }
-        }
+        IoBuf::copy_from_slice(alloc, self.head(n).as_slice())
     }
 }
 
 // The size of a frame with a body of `len` bytes; `None` above `usize::MAX`.
 fn framed_size(prefix: Prefix, len: usize) -> Option<usize>
+    requires { len < prefix_limit prefix }
     ensures { SomeIff result (length (prefix_written prefix len) + len < 2 ^ 64) (length (prefix_written prefix len) + len) }
 {
-    let size = match prefix {
-        Prefix::Spelled => len.encode_size()?,
-        Prefix::Fixed(width, _) => width.size(),
-    };
-    size.checked_add(len)
+    prefix.head(len).len().checked_add(len)
 }
 
 /// Prepends its length to a body, whose chunks aren't copied. Fails with `BufError::TooLong` if the length can't be

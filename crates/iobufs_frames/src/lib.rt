@@ -4,16 +4,21 @@
 ghost use Rattle.std.specs.Prelude.{◌≡◌, ◌≢◌, ◌⊎◌, ℕ, ◌+◌, ◌^◌, ◌<◌, ◌≤◌, List, [], ◌∷◌, ◌++◌, length, OnOk, OnErr, IfOk, IfErr, IsOk, IsErrAnd, IsOkUnless, IfNone, IfSome};
 ghost use Rattle.iobufs_core.specs.MarkedText.{MarkedText, default_text, joined, text_append, text_rest};
 ghost use Rattle.iobufs_core.specs.View.{View};
-ghost use Rattle.iobufs_frames.specs.Frames.{AreMoved, IsBehindLength, IsFirst, IsFramed, IsNext, IsTakenApart, LacksFrame, bodies, found_of, frame_written, joined_bytes};
+ghost use Rattle.iobufs_frames.specs.Frames.{AreMoved, IsBehindLength, IsFirst, IsFramed, IsNext, IsTakenApart, LacksFrame, bodies, frame_written, joined_bytes};
 ghost use Rattle.iobufs_frames.specs.declared.lengths.Prefix.TheVariants.{Spelled};
 
+mod block;
+mod heads;
 pub mod laws;
 mod lengths;
+mod shown;
 
+pub use block::Received;
+pub use heads::Head;
 use iobufs::bufs::IoBufs;
 use iobufs_core::buf::IoBuf;
-use iobufs_core::codec::{BufError, Error, OwnedBuf, RangeCfg, Read, Refused};
-use lengths::length_in;
+use iobufs_core::codec::{BufError, Error, OwnedBuf, RangeCfg, Refused};
+use lengths::frame_size;
 pub use lengths::{ByteOrder, Prefix, Width, framed_with};
 use std::alloc::Global;
 
@@ -32,8 +37,8 @@ pub enum End {
 pub struct Frames {
     /// How the lengths are written.
     pub prefix: Prefix,
-    /// The bytes that were fed and not taken.
-    pub rest: IoBufs,
+    // The bytes that were fed and not taken.
+    rest: IoBufs,
 }
 
 // Written out, so that what a caller proves about frames that it drops names no field.
@@ -51,59 +56,6 @@ impl Default for Frames {
     }
 }
 
-// Turns a frame that isn't whole yet into `None`.
-fn found(read: Result<IoBuf, Error>) -> Result<Option<IoBuf>, Error>
-    ensures { result ≡ found_of read }
-{
-    match read {
-        Ok(body) => Ok(Some(body)),
-        Err(Error::EndOfBuffer) => Ok(None),
-        Err(error) => Err(error),
-    }
-}
-
-// Takes the first frame with a varint length.
-fn next_spelled(alloc: Global, rest: &mut IoBufs, range: &RangeCfg) -> Result<Option<IoBuf>, Error>
-    ensures next { IsNext Prefix.Spelled range.now rest.old.bytes result rest.new.bytes }
-    ensures body { IfOk result (λ found. IfSome found (λ body. IsBehindLength Prefix.Spelled rest.old body)) }
-    ensures left { IfOk result (λ found. IfSome found (λ body. rest.new ≡ text_rest rest.old (length (frame_written Prefix.Spelled body.bytes)))) }
-    ensures same { IfOk result (λ found. IfNone found (rest.new ≡ rest.old)) }
-    ensures unchanged { OnErr result (rest.new ≡ rest.old) }
-{
-    found(IoBuf::read_cfg(alloc, rest, range))
-}
-
-// Takes the first frame whose length is a number of a fixed size.
-fn next_fixed(
-    alloc: Global,
-    rest: &mut IoBufs,
-    width: Width,
-    order: ByteOrder,
-    range: &RangeCfg,
-) -> Result<Option<IoBuf>, Error>
-    ensures next { IsNext (Prefix.Fixed width order) range.now rest.old.bytes result rest.new.bytes }
-    ensures body { IfOk result (λ found. IfSome found (λ body. IsBehindLength (Prefix.Fixed width order) rest.old body)) }
-    ensures left { IfOk result (λ found. IfSome found (λ body.
-        rest.new ≡ text_rest rest.old (length (frame_written (Prefix.Fixed width order) body.bytes)))) }
-    ensures same { IfOk result (λ found. IfNone found (rest.new ≡ rest.old)) }
-    ensures unchanged { OnErr result (rest.new ≡ rest.old) }
-    ensures never { IfErr result (λ error. error ≢ Error.InvalidVarint) }
-{
-    let Some(n) = length_in(rest, width, order) else {
-        return Ok(None);
-    };
-    if !range.contains(n) {
-        return Err(Error::InvalidLength(n));
-    }
-    if rest.len() - width.size() < n {
-        return Ok(None);
-    }
-    let Ok(body) = rest.take_owned_after(alloc, width.size(), n) else {
-        return Err(Error::Memory);
-    };
-    Ok(Some(body))
-}
-
 impl Frames {
     /// Makes frames to which nothing was fed, with lengths that are written as `prefix`.
     pub fn new(prefix: Prefix) -> Frames
@@ -114,6 +66,13 @@ impl Frames {
             prefix,
             rest: IoBufs::default(),
         }
+    }
+
+    /// Borrows the bytes that were fed and not taken.
+    pub fn rest(&self) -> &IoBufs
+        ensures { result.now ≡ self.now.rest }
+    {
+        &self.rest
     }
 
     /// Adds bytes at the end, as `IoBufs::append` does.
@@ -131,6 +90,29 @@ impl Frames {
         self.rest.append(alloc, piece)
     }
 
+    // Takes the first frame.
+    fn take(&mut self, alloc: Global, range: &RangeCfg) -> Result<Option<IoBuf>, Error>
+        ensures next { IsNext self.old.prefix range.now self.old.rest.bytes result self.new.rest.bytes }
+        ensures body { IfOk result (λ found. IfSome found (λ body. IsBehindLength self.old.prefix self.old.rest body)) }
+        ensures left { IfOk result (λ found. IfSome found (λ body.
+            self.new.rest ≡ text_rest self.old.rest (length (frame_written self.old.prefix body.bytes)))) }
+        ensures same { IfOk result (λ found. IfNone found (self.new ≡ self.old)) }
+        ensures unchanged { OnErr result (self.new ≡ self.old) }
+        ensures prefix { self.new.prefix ≡ self.old.prefix }
+        ensures spelled { IfErr result (λ error. error ≡ Error.InvalidVarint → self.old.prefix ≡ Prefix.Spelled) }
+    {
+        let Some(found) = self.prefix.length_in(&self.rest)? else {
+            return Ok(None);
+        };
+        let Some(_) = frame_size(found, self.rest.len(), range)? else {
+            return Ok(None);
+        };
+        match self.rest.take_owned_after(alloc, found.len, found.value) {
+            Ok(body) => Ok(Some(body)),
+            Err(_) => Err(Error::Memory),
+        }
+    }
+
     /// Takes the first frame; `None` if it is not whole yet. Fails with `Error::InvalidVarint` (of varints alone) or
     /// `Error::InvalidLength` if no further bytes can make it whole, or with `Error::Memory`. Unless a frame is taken,
     /// the rest is unchanged.
@@ -146,12 +128,7 @@ impl Frames {
         ensures first { (frames : List (List ℕ)) (end : End) (rest : List ℕ) → IsFramed self.old.prefix range.now self.old.rest.bytes frames end rest
             → IsFirst self.old.prefix range.now frames end rest result self.new.rest.bytes }
     {
-        match self.prefix {
-            Prefix::Spelled => next_spelled(alloc, &mut self.rest, range),
-            Prefix::Fixed(width, order) => {
-                next_fixed(alloc, &mut self.rest, width, order, range)
-            }
-        }
+        self.take(alloc, range)
     }
 
     fn into_rest(self) -> IoBufs
@@ -238,9 +215,20 @@ impl Frames {
         }
     }
 
-    /// Takes all frames of bytes that come in chunks, each as soon as it is whole. Fails with `BufError::TooLong` only
-    /// if the bytes are more than `usize::MAX`. An error drops the chunks.
-    pub fn run(
+    /// Takes all frames with varint lengths of bytes that come in chunks, each as soon as it is whole. Fails with
+    /// `BufError::TooLong` only if the bytes are more than `usize::MAX`. An error drops the chunks.
+    pub fn run(alloc: Global, pieces: Vec<IoBuf>, range: &RangeCfg) -> Result<Run, BufError>
+        ensures framed { IfOk result (λ run. IsFramed Spelled range.now (joined_bytes pieces.items) (bodies run.frames.items) run.stop run.rest.bytes) }
+        ensures marks { IfOk result (λ run. IsTakenApart Spelled (joined pieces.items) run.frames.items run.rest) }
+        ensures memory { length (joined_bytes pieces.items) < 2 ^ 64 → IsOkUnless result BufError.Memory }
+        ensures nothing { length pieces.items ≡ 0 → IsOk result }
+        ensures causes { IfErr result (λ cause. (cause ≡ BufError.Memory) ⊎ (cause ≡ BufError.TooLong)) }
+    {
+        Frames::run_with(alloc, Prefix::Spelled, pieces, range)
+    }
+
+    /// Acts as `run` on frames whose lengths are written as `prefix`.
+    pub fn run_with(
         alloc: Global,
         prefix: Prefix,
         pieces: Vec<IoBuf>,

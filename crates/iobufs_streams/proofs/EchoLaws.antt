@@ -52,7 +52,7 @@ Echoes prefix to range (Some text) None old now held holds = ⊥
 Echoes prefix to range (Some text) (Some left) old now held holds = Resent prefix to range (old ++ text) (now ++ left) held holds
 
 -- before anything came nothing was sent
-pub echoes_none : (prefix to : Prefix) (range : RangeCfg) (had : Option (List ℕ)) (old : List ℕ) (held : Option (List ℕ))
+echoes_none : (prefix to : Prefix) (range : RangeCfg) (had : Option (List ℕ)) (old : List ℕ) (held : Option (List ℕ))
     → Echoes prefix to range had had old old held held
 echoes_none prefix to range None old held = tt
 echoes_none prefix to range (Some text) old held = record { done = []; whole = refl; fits = tt; sent = Appends-nil held }
@@ -100,7 +100,7 @@ taken_as p q r s had has now new found sought same range is h =
     subst (λ (w : Prefix × (RangeCfg × Option View)). TakesFrame w.0 w.1.0 had has now new (Ok w.1.1)) (λ i. (same i, (range i, is i))) h
 
 -- a frame more that is taken and written is echoed after those before it
-pub echoes_on : (prefix now_prefix to now_to : Prefix) (range now_range : RangeCfg) (a b c : Option (List ℕ)) (old now new : List ℕ)
+echoes_on : (prefix now_prefix to now_to : Prefix) (range now_range : RangeCfg) (a b c : Option (List ℕ)) (old now new : List ℕ)
     (held mid holds : Option (List ℕ)) (found : Option View) (body : View)
     → AreSame prefix now_prefix to now_to range now_range → Echoes prefix to range a b old now held mid → found ≡ Some body
     → TakesFrame now_prefix now_range b c now new (Ok found) → Appends mid holds (frame_written now_to body.bytes)
@@ -123,7 +123,7 @@ alike prefix to range text left held holds same is = record {
 }
 
 -- at the end all that came was sent
-pub echoed : (prefix now_prefix to now_to : Prefix) (range now_range : RangeCfg) (a b c : Option (List ℕ)) (old now new : List ℕ)
+echoed : (prefix now_prefix to now_to : Prefix) (range now_range : RangeCfg) (a b c : Option (List ℕ)) (old now new : List ℕ)
     (held holds : Option (List ℕ)) (found : Option View)
     → AreSame prefix now_prefix to now_to range now_range → Echoes prefix to range a b old now held holds → found ≡ None
     → TakesFrame now_prefix now_range b c now new (Ok found) → prefix ≡ to → IfSome a (λ text. Appends held holds (old ++ text))
@@ -136,7 +136,7 @@ echoed prefix now_prefix to now_to range now_range (Some text) (Some left) (Some
     (nothing_left prefix range left behind now new ended)
 
 -- the bytes sent so far are a prefix of all bytes held and still to be read
-pub begun : (prefix to : Prefix) (range : RangeCfg) (a b : Option (List ℕ)) (old now : List ℕ) (held holds : Option (List ℕ))
+begun : (prefix to : Prefix) (range : RangeCfg) (a b : Option (List ℕ)) (old now : List ℕ) (held holds : Option (List ℕ))
     → Echoes prefix to range a b old now held holds → prefix ≡ to → IfSome a (λ text. HasSent held holds (old ++ text))
 begun prefix to range None b old now held holds so_far one = tt
 begun prefix to range (Some text) None old now held holds so_far one = absurd so_far
@@ -144,7 +144,7 @@ begun prefix to range (Some text) (Some left) old now held holds so_far one =
     (now ++ left, alike prefix to range (old ++ text) (now ++ left) held holds one so_far)
 
 -- some bytes of one more frame are sent
-pub begun_more : (prefix now_prefix to now_to : Prefix) (range now_range : RangeCfg) (a b c : Option (List ℕ)) (old now new : List ℕ)
+begun_more : (prefix now_prefix to now_to : Prefix) (range now_range : RangeCfg) (a b c : Option (List ℕ)) (old now new : List ℕ)
     (held mid holds : Option (List ℕ)) (found : Option View) (body : View)
     → AreSame prefix now_prefix to now_to range now_range → Echoes prefix to range a b old now held mid → found ≡ Some body
     → TakesFrame now_prefix now_range b c now new (Ok found) → HasSent mid holds (frame_written now_to body.bytes) → prefix ≡ to
@@ -231,7 +231,7 @@ sent_to_the_end prefix to range text left held holds so_far nothing frames stop 
     (sym (behind.whole ∙ ap (λ fs. all_written prefix fs ++ rest) none), subst (λ fs. Appends held holds (all_written to fs)) all so_far.sent)
 
 -- the bytes sent so far are a prefix of the frames that came
-pub frames_begun : (prefix to : Prefix) (range : RangeCfg) (a b : Option (List ℕ)) (old now : List ℕ) (held holds : Option (List ℕ))
+frames_begun : (prefix to : Prefix) (range : RangeCfg) (a b : Option (List ℕ)) (old now : List ℕ) (held holds : Option (List ℕ))
     → Echoes prefix to range a b old now held holds → IfSome a (λ text. SendsFrames prefix to range (old ++ text) held holds)
 frames_begun prefix to range None b old now held holds so_far = tt
 frames_begun prefix to range (Some text) None old now held holds so_far = absurd so_far
@@ -239,7 +239,7 @@ frames_begun prefix to range (Some text) (Some left) old now held holds so_far =
     sent_so_far prefix to range (old ++ text) (now ++ left) held holds so_far
 
 -- some bytes of one more frame are sent, as the writer writes it
-pub frames_begun_more : (prefix now_prefix to now_to : Prefix) (range now_range : RangeCfg) (a b c : Option (List ℕ)) (old now new : List ℕ)
+frames_begun_more : (prefix now_prefix to now_to : Prefix) (range now_range : RangeCfg) (a b c : Option (List ℕ)) (old now new : List ℕ)
     (held mid holds : Option (List ℕ)) (found : Option View) (body : View)
     → AreSame prefix now_prefix to now_to range now_range → Echoes prefix to range a b old now held mid → found ≡ Some body
     → TakesFrame now_prefix now_range b c now new (Ok found) → HasSent mid holds (frame_written now_to body.bytes)
@@ -255,7 +255,7 @@ frames_begun_more prefix now_prefix to now_to range now_range (Some text) (Some 
     (next_in prefix range left behind now new body taken) (subst (λ (p : Prefix). HasSent mid holds (frame_written p body.bytes)) same.same_to put)
 
 -- at the end all frames that came were sent
-pub frames_echoed : (prefix now_prefix to now_to : Prefix) (range now_range : RangeCfg) (a b c : Option (List ℕ)) (old now new : List ℕ)
+frames_echoed : (prefix now_prefix to now_to : Prefix) (range now_range : RangeCfg) (a b c : Option (List ℕ)) (old now new : List ℕ)
     (held holds : Option (List ℕ)) (found : Option View)
     → AreSame prefix now_prefix to now_to range now_range → Echoes prefix to range a b old now held holds → found ≡ None
     → TakesFrame now_prefix now_range b c now new (Ok found) → IfSome a (λ text. SendsAllFrames prefix to range (old ++ text) held holds)
@@ -265,3 +265,81 @@ frames_echoed prefix now_prefix to now_to range now_range (Some text) (Some left
 frames_echoed prefix now_prefix to now_to range now_range (Some text) (Some left) (Some behind) old now new held holds found same so_far e is =
     let ended = taken_as now_prefix prefix now_range range (Some left) (Some behind) now new found None same.same_from same.same_range e is in
     sent_to_the_end prefix to range (old ++ text) (now ++ left) held holds so_far (nothing_left prefix range left behind now new ended)
+
+-- ---- the state of an echo
+
+-- what came was sent so far, and the reader's and the writer's fields are as they were
+pub record IsEchoing (prefix now_prefix to now_to : Prefix) (range now_range : RangeCfg) (a b : Option (List ℕ)) (old now : List ℕ)
+    (held holds : Option (List ℕ)) : Type 0 where
+  pub same : AreSame prefix now_prefix to now_to range now_range
+  pub echoes : Echoes prefix to range a b old now held holds
+
+-- before anything came
+pub starts : (prefix to : Prefix) (range : RangeCfg) (had : Option (List ℕ)) (old : List ℕ) (held : Option (List ℕ))
+    → IsEchoing prefix prefix to to range range had had old old held held
+starts prefix to range had old held =
+    record { same = record { same_from = refl; same_to = refl; same_range = refl }; echoes = echoes_none prefix to range had old held }
+
+kept_on : (prefix to : Prefix) (range : RangeCfg) (a b : Option (List ℕ)) (old now : List ℕ) (held mid holds : Option (List ℕ))
+    → Echoes prefix to range a b old now held mid → Keeps mid holds → Echoes prefix to range a b old now held holds
+kept_on prefix to range None b old now held mid holds is keeps = tt
+kept_on prefix to range (Some text) None old now held mid holds is keeps = absurd is
+kept_on prefix to range (Some text) (Some left) old now held mid holds is keeps = record {
+  done = is.done;
+  whole = is.whole;
+  fits = is.fits;
+  sent = flushed held mid holds (all_written to is.done) is.sent keeps;
+}
+
+-- a flush sends nothing
+pub idles : {prefix now_prefix to now_to : Prefix} {range now_range : RangeCfg} {a b : Option (List ℕ)} {old now : List ℕ} {held mid : Option (List ℕ)}
+    (new_to : Prefix) (holds : Option (List ℕ))
+    → IsEchoing prefix now_prefix to now_to range now_range a b old now held mid → new_to ≡ now_to → Keeps mid holds
+    → IsEchoing prefix now_prefix to new_to range now_range a b old now held holds
+idles {prefix} {to} {range} {a} {b} {old} {now} {held} {mid} new_to holds is same keeps = record {
+  same = record { same_from = is.same.same_from; same_to = same ∙ is.same.same_to; same_range = is.same.same_range };
+  echoes = kept_on prefix to range a b old now held mid holds is.echoes keeps;
+}
+
+-- a frame more was taken and sent
+pub goes_on : {prefix now_prefix to now_to new_prefix new_to : Prefix} {range now_range new_range : RangeCfg} {a b c : Option (List ℕ)} {old now new : List ℕ}
+    {held mid : Option (List ℕ)} (holds : Option (List ℕ)) (found : Option View) (body : View)
+    → IsEchoing prefix now_prefix to now_to range now_range a b old now held mid → found ≡ Some body
+    → TakesFrame now_prefix now_range b c now new (Ok found) → Appends mid holds (frame_written now_to body.bytes)
+    → AreSame now_prefix new_prefix now_to new_to now_range new_range → IsEchoing prefix new_prefix to new_to range new_range a c old new held holds
+goes_on {prefix} {now_prefix} {to} {now_to} {range} {now_range} {a} {b} {c} {old} {now} {new} {held} {mid} holds found body is some took put same = record {
+  same = record {
+    same_from = same.same_from ∙ is.same.same_from;
+    same_to = same.same_to ∙ is.same.same_to;
+    same_range = same.same_range ∙ is.same.same_range;
+  };
+  echoes = echoes_on prefix now_prefix to now_to range now_range a b c old now new held mid holds found body is.same is.echoes some took put;
+}
+
+-- if it stops between two frames, those so far were sent
+pub stopped : {prefix now_prefix to now_to : Prefix} {range now_range : RangeCfg} {a b : Option (List ℕ)} {old now : List ℕ} {held holds : Option (List ℕ)}
+    → IsEchoing prefix now_prefix to now_to range now_range a b old now held holds
+    → IfSome a (λ text. SendsFrames prefix to range (old ++ text) held holds) × (prefix ≡ to → IfSome a (λ text. HasSent held holds (old ++ text)))
+stopped {prefix} {to} {range} {a} {b} {old} {now} {held} {holds} is =
+    (frames_begun prefix to range a b old now held holds is.echoes, begun prefix to range a b old now held holds is.echoes)
+
+-- if it stops inside a frame, some bytes of that one too
+pub stopped_inside : {prefix now_prefix to now_to : Prefix} {range now_range : RangeCfg} {a b c : Option (List ℕ)} {old now new : List ℕ}
+    {held mid : Option (List ℕ)} (holds : Option (List ℕ)) (found : Option View) (body : View)
+    → IsEchoing prefix now_prefix to now_to range now_range a b old now held mid → found ≡ Some body
+    → TakesFrame now_prefix now_range b c now new (Ok found) → HasSent mid holds (frame_written now_to body.bytes)
+    → IfSome a (λ text. SendsFrames prefix to range (old ++ text) held holds) × (prefix ≡ to → IfSome a (λ text. HasSent held holds (old ++ text)))
+stopped_inside {prefix} {now_prefix} {to} {now_to} {range} {now_range} {a} {b} {c} {old} {now} {new} {held} {mid} holds found body is some took put = (
+  frames_begun_more prefix now_prefix to now_to range now_range a b c old now new held mid holds found body is.same is.echoes some took put,
+  begun_more prefix now_prefix to now_to range now_range a b c old now new held mid holds found body is.same is.echoes some took put,
+)
+
+-- if the input ends between two frames, all were sent
+pub ended : {prefix now_prefix to now_to : Prefix} {range now_range : RangeCfg} {a b c : Option (List ℕ)} {old now new : List ℕ} {held holds : Option (List ℕ)}
+    (found : Option View) → IsEchoing prefix now_prefix to now_to range now_range a b old now held holds → found ≡ None
+    → TakesFrame now_prefix now_range b c now new (Ok found)
+    → IfSome a (λ text. SendsAllFrames prefix to range (old ++ text) held holds) × (prefix ≡ to → IfSome a (λ text. Appends held holds (old ++ text)))
+ended {prefix} {now_prefix} {to} {now_to} {range} {now_range} {a} {b} {c} {old} {now} {new} {held} {holds} found is none took = (
+  frames_echoed prefix now_prefix to now_to range now_range a b c old now new held holds found is.same is.echoes none took,
+  echoed prefix now_prefix to now_to range now_range a b c old now new held holds found is.same is.echoes none took,
+)

@@ -1,2 +1,3 @@
 pub mod EchoLaws
 pub mod StreamLaws
+pub mod UnsentLaws

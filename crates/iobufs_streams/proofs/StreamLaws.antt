@@ -1,18 +1,18 @@
 -- The effect of reads and writes on the known bytes, and on the frames in them.
-use Rattle.std.specs.Prelude.{◌≡◌, ℕ, ◌+◌, ◌^◌, ◌<◌, ◌≤◌, Bool, true, false, nat_eq, Option, None, Some, IfSome, Result, Ok, Err, List, [], ◌++◌, length, take, drop, refl}
+use Rattle.std.specs.Prelude.{◌≡◌, ℕ, ◌+◌, ◌^◌, ◌<◌, ◌≤◌, Bool, true, false, nat_eq, Option, None, Some, IfSome, Result, Ok, Err, List, [], ◌++◌, length, refl}
 use Rattle.std.specs.Io.KnownBytes.{Appends, Consumes, IsAtEnd, Keeps}
 use Rattle.std.proofs.KnownBytes.{Consumes-kept, Consumes-trans, Keeps-refl, Keeps-trans}
-use Rattle.std.proofs.Common.{arith, inl, inr, ap, sym, subst, ◌∙◌, append_assoc, append-nil, length-append, length-drop, length-take, take-append-drop}
+use Rattle.std.proofs.Common.{arith, inl, inr, ap, sym, subst, ◌∙◌, append_assoc, append-nil, length-append}
 use Rattle.std.proofs.lemmas.Bool.Decides.{nat_tests}
 use Rattle.std.proofs.lemmas.List.{nil_from_length}
 use Rattle.iobufs_core.specs.View.{View}
 use Rattle.iobufs_core.specs.declared.codec.base.RangeCfg.{RangeCfg}
 use Rattle.iobufs_frames.proofs.FrameFacts.{first_is, none_in_front, nothing_is_open, stands, stays_bad}
-use Rattle.iobufs_frames.specs.Frames.{IsFramed, LacksFrame, all_written, frame_written}
+use Rattle.iobufs_frames.specs.Frames.{HasFrame, IsFramed, LacksFrame, all_written, frame_written}
 use Rattle.iobufs_frames.specs.declared.End.{End}
 use Rattle.iobufs_frames.specs.declared.End.TheVariants as end
 use Rattle.iobufs_frames.specs.declared.lengths.Prefix.{Prefix}
-use Rattle.iobufs_streams.specs.Streams.{HasFrame, IsEnd, IsFilledBy, IsFirstOf, IsFront, IsHeldFront, IsNeeded, TakesFrame}
+use Rattle.iobufs_streams.specs.Streams.{IsEnd, IsFilledBy, IsFirstOf, IsFront, IsHeldFront, IsNeeded, TakesFrame}
 use Rattle.iobufs_streams.specs.declared.error.FrameError.{FrameError}
 use Rattle.iobufs_streams.specs.declared.error.FrameError.TheVariants.{Bad, Cut, Io, Memory, TooLong}
 
@@ -43,34 +43,14 @@ zero_of n h = grind (arith, nat_tests, h)
 some_of : (n : ℕ) → nat_eq n 0 ≡ false → 0 < n
 some_of n h = grind (arith, nat_tests, h)
 
--- items written over all of a vector are its items
-pub same_items : (is was : List ℕ) (len : ℕ) → length is ≡ len → length was ≡ len → take len (is ++ drop (length is) was) ≡ is
-same_items is was len a b =
-    let none : drop (length is) was ≡ [] = nil_from_length (drop (length is) was) (omega (arith, length-drop (length is) was, a, b)) in
-    let after : drop len is ≡ [] = nil_from_length (drop len is) (omega (arith, length-drop len is, a)) in
-    ap (λ w. take len (is ++ w)) none ∙ ap (take len) (append-nil is) ∙ sym (append-nil (take len is)) ∙ ap (λ w. take len is ++ w) (sym after)
-    ∙ take-append-drop len is
-
-filled_by : (had has : Option (List ℕ)) (fed was is : List ℕ) (m n : ℕ) → m ≡ 0 → n ≤ length is → 0 < length is
-    → Consumes had has (take n is) × (n ≡ 0 → 0 < length is → IsAtEnd has) → IsFilledBy had has (fed ++ take m was) (fed ++ take n is) (nat_eq n 0)
-filled_by had has fed was is m n zero fits room (took, last) =
-    let nothing : take m was ≡ [] = ap (λ k. take k was) zero in
-    let count : length (take n is) ≡ n = omega (arith, length-take n is, fits) in record {
-      is = record {
-        read = take n is;
-        took = took;
-        grew = sym (ap (λ w. (fed ++ w) ++ take n is) nothing ∙ ap (λ w. w ++ take n is) (append-nil fed));
-      };
-      empty = ap (λ k. nat_eq k 0) (sym count);
-      last = λ none. last (zero_of n none) room;
-    }
-
--- if no earlier bytes were left in the buffer, the bytes of a read are held after the fed ones; no byte is the end
-pub filled_so : (had has : Option (List ℕ)) (fed was is items : List ℕ) (m n : ℕ) → items ≡ is → m ≡ 0 → n ≤ length is → 0 < length is
-    → Consumes had has (take n is) × (n ≡ 0 → 0 < length is → IsAtEnd has) → IsFilledBy had has (fed ++ take m was) (fed ++ take n items) (nat_eq n 0)
-filled_so had has fed was is items m n same zero fits room both =
-    subst (λ (w : List ℕ). IsFilledBy had has (fed ++ take m was) (fed ++ take n w) (nat_eq n 0)) (sym same)
-    (filled_by had has fed was is m n zero fits room both)
+-- bytes that a reader gave are held after the others; no byte is its end
+pub filled_more : (had has : Option (List ℕ)) (old new more : List ℕ) (n : ℕ) → length more ≡ n → new ≡ old ++ more → Consumes had has more
+    → (n ≡ 0 → IsAtEnd has) → IsFilledBy had has old new (nat_eq n 0)
+filled_more had has old new more n count grew took last = record {
+  is = record { read = more; took = took; grew = grew };
+  empty = ap (λ k. nat_eq k 0) (sym count);
+  last = λ none. last (zero_of n none);
+}
 
 -- ---- reads that wait for a frame
 

@@ -1,12 +1,10 @@
 -- Frames on a stream, of lengths that are written as a prefix says.
 --     held_bytes           the bytes that were read and not taken
 --     held_prefix          how the lengths of their frames are written
---     HasFrame             a whole frame is at the front
 --     IsMore, IsFilledBy     more bytes are held, which a reader gave; and there are some, or it is at its end
 --     WasNeeded,           before the last read no whole frame was held; or nothing was read
 --     IsNeeded
---     fault_of_error,      an error of reading, or of holding what was read, as why no frame is taken
---     fault_of_cause
+--     fault_of_error       an error of reading, as why no frame is taken
 --     IsHeldFront          what taking a frame returns of the held bytes, and what is left of them
 --     IsEnd                what is returned of bytes that are no whole frame, if no more come
 --     IsFront              what taking a frame returns if a reader has no more to give for it, and what is left
@@ -15,37 +13,28 @@
 --     HasSent              a writer was sent a prefix of some bytes
 --     SendsFrames,         a writer was sent a prefix of the frames of some bytes, written with another prefix; or
 --     SendsAllFrames       all, and nothing follows them
-use Rattle.std.specs.Prelude.{◌≡◌, ◌⊎◌, ℕ, ◌+◌, ◌^◌, ◌<◌, ◌≤◌, Bool, true, nat_eq, Option, None, Some, Result, Ok, Err, List, [], ◌++◌, length, take}
+use Rattle.std.specs.Prelude.{◌≡◌, ◌⊎◌, ℕ, ◌+◌, ◌^◌, ◌<◌, ◌≤◌, Bool, true, nat_eq, Option, None, Some, Result, Ok, Err, List, [], ◌++◌, length}
 use Rattle.std.specs.Io.KnownBytes.{Appends, Consumes, IsAtEnd}
 use Rattle.iobufs.specs.Sending.{IsSent}
 use Rattle.iobufs_core.specs.View.{View}
-use Rattle.iobufs_core.specs.declared.codec.base.BufError.{BufError}
-use Rattle.iobufs_core.specs.declared.codec.base.BufError.TheVariants as cause
 use Rattle.iobufs_core.specs.declared.codec.base.Error.{Error}
 use Rattle.iobufs_core.specs.declared.codec.base.Error.TheVariants as error
 use Rattle.iobufs_core.specs.declared.codec.base.RangeCfg.{RangeCfg}
+use Rattle.iobufs_frames.specs.Receiving.{ReceivedBytes}
 use Rattle.iobufs_frames.specs.Frames.{CanFollow, FirstTaken, IsFramed, LacksFrame, all_written, frame_written}
 use Rattle.iobufs_frames.specs.declared.End.{End}
 use Rattle.iobufs_frames.specs.declared.End.TheVariants as end
 use Rattle.iobufs_frames.specs.declared.lengths.Prefix.{Prefix}
 use Rattle.iobufs_streams.specs.declared.error.FrameError.{FrameError}
 use Rattle.iobufs_streams.specs.declared.error.FrameError.TheVariants.{Bad, Cut, Memory, TooLong}
-use Rattle.iobufs_streams.specs.declared.held.Held.{Held}
 
--- those that were fed, and those of the last read that were not
-abbrev pub held_bytes : Held → List ℕ
-held_bytes held = held.frames.rest.bytes ++ take held.read held.piece.items
+-- the bytes that were read and not taken
+abbrev pub held_bytes : ReceivedBytes → List ℕ
+held_bytes held = held.bytes
 
 -- how the lengths of its frames are written
-abbrev pub held_prefix : Held → Prefix
-held_prefix held = held.frames.prefix
-
--- a whole frame is at the front
-pub record HasFrame (prefix : Prefix) (range : RangeCfg) (bytes : List ℕ) : Type 0 where
-  pub body : List ℕ
-  pub more : List ℕ
-  pub admitted : CanFollow prefix range body
-  pub whole : bytes ≡ frame_written prefix body ++ more
+abbrev pub held_prefix : ReceivedBytes → Prefix
+held_prefix held = held.prefix
 
 -- bytes that a reader gave are held after the others
 pub record IsMore (had has : Option (List ℕ)) (old new : List ℕ) : Type 0 where
@@ -69,14 +58,10 @@ pub record WasNeeded (prefix : Prefix) (range : RangeCfg) (held read : List ℕ)
 abbrev pub IsNeeded : Prefix → RangeCfg → List ℕ → List ℕ → Type 0
 IsNeeded prefix range held read = (read ≡ []) ⊎ WasNeeded prefix range held read
 
--- why no frame is taken, where none can be read, and where bytes can't be held
+-- why no frame is taken, where none can be read
 abbrev pub fault_of_error : Error → FrameError
 fault_of_error error.Memory = Memory
 fault_of_error fault = Bad fault
-
-abbrev pub fault_of_cause : BufError → FrameError
-fault_of_cause cause.TooLong = TooLong
-fault_of_cause fault = Memory
 
 -- The result of taking a frame from the held bytes, and the bytes that it leaves
 abbrev pub IsHeldFront : Prefix → RangeCfg → List ℕ → Result (Option View) FrameError → List ℕ → Type 0

@@ -1,8 +1,8 @@
 //! Frames that are sent back as they come.
-ghost use Rattle.std.specs.Prelude.{◌≡◌, ◌++◌, [], IfSome, OnOk};
-ghost use Rattle.std.specs.Io.KnownBytes.{Appends};
+ghost use Rattle.std.specs.Prelude.{◌≡◌, ◌⊎◌, ◌++◌, [], IsTrue, IfSome, OnOk};
+ghost use Rattle.std.specs.Io.KnownBytes.{Appends, Keeps};
 ghost use Rattle.iobufs_frames.specs.Frames.{frame_written};
-ghost use Rattle.iobufs_streams.specs.Streams.{HasSent, SendsAllFrames, SendsFrames, held_bytes, held_prefix};
+ghost use Rattle.iobufs_streams.specs.Streams.{HasSent, SendsAllFrames, SendsFrames, TakesFrame, held_bytes, held_prefix};
 
 use crate::error::FrameError;
 use crate::reader::FrameReader;
@@ -32,8 +32,30 @@ fn send_frame<W: Write + Drop>(
             _ => FrameError::Memory,
         });
     }
-    to.send(alloc).map_err(FrameError::Io)?;
-    to.to.flush().map_err(FrameError::Io)
+    to.send(alloc).map_err(FrameError::Io)
+}
+
+// Takes the next frame. What was sent is flushed before a read.
+#[inline(always)]
+fn next_flushed<R: Read + Drop, W: Write + Drop>(
+    alloc: Global,
+    from: &mut FrameReader<R>,
+    to: &mut FrameWriter<W>,
+) -> Result<Option<IoBuf>, FrameError>
+    ensures next { TakesFrame (held_prefix from.old.held) from.old.range (R.remaining from.old.from) (R.remaining from.new.from) (held_bytes from.old.held)
+        (held_bytes from.new.held) result }
+    ensures flushed { (from.new.from ≡ from.old.from) ⊎ IsTrue to.new.is_flushed }
+    ensures from_prefix { held_prefix from.new.held ≡ held_prefix from.old.held }
+    ensures range { from.new.range ≡ from.old.range }
+    ensures kept { Keeps (W.contents to.old.to) (W.contents to.new.to) }
+    ensures rest { to.new.rest ≡ to.old.rest }
+    ensures prefix { to.new.prefix ≡ to.old.prefix }
+{
+    if let Ok(Some(body)) = from.next_held() {
+        return Ok(Some(body));
+    }
+    to.flush().map_err(FrameError::Io)?;
+    from.next(alloc)
 }
 
 /// Sends each frame back as soon as it is whole, with its length as the writer writes it, until the input ends between
@@ -55,7 +77,7 @@ pub fn echo<R: Read + Drop, W: Write + Drop>(
         (λ text. HasSent (W.contents to.old.to) (W.contents to.new.to) (held_bytes from.old.held ++ text)) }
 {
     for _ in 0..u64::MAX {
-        match from.next(alloc) {
+        match next_flushed(alloc, from, to) {
             Ok(Some(body)) => send_frame(alloc, to, body)?,
             Ok(None) => return Ok(()),
             Err(error) => return Err(error),

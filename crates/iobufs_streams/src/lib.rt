@@ -8,8 +8,8 @@
 pub mod adapters;
 pub mod echo;
 pub mod error;
-pub mod held;
 pub mod reader;
+pub mod unsent;
 pub mod writer;
 
 pub use adapters::{Reader, Writer};

@@ -1,39 +1,19 @@
 //! Whole frames from reads of any size.
-ghost use Rattle.std.specs.Prelude.{◌≡◌, ◌≢◌, ℕ, ◌+◌, ◌^◌, ◌<◌, ◌≤◌, ◌++◌, List, [], length, IsTrue, IfErr, IfOk, IfSome, IfNone, OnErr, OnOk};
+ghost use Rattle.std.specs.Prelude.{◌≡◌, ◌≢◌, ◌↔◌, ℕ, ◌<◌, ◌++◌, List, [], IsTrue, IfErr, IfOk, IfSome, IfNone, OnErr};
 ghost use Rattle.std.specs.IoError.{error_kind};
 ghost use Rattle.std.specs.declared.io.ErrorKind.TheVariants.{Interrupted};
-ghost use Rattle.std.specs.Io.{ReadsAtMost};
-ghost use Rattle.std.specs.Io.KnownBytes.{Keeps, ReadConsumes};
-ghost use Rattle.iobufs_frames.specs.Frames.{IsFramed};
+ghost use Rattle.std.specs.Io.KnownBytes.{Keeps};
+ghost use Rattle.iobufs_core.specs.View.{view_of_bytes};
+ghost use Rattle.iobufs_frames.specs.Frames.{HasFrame, IsFramed};
 ghost use Rattle.iobufs_frames.specs.declared.End.{End};
-ghost use Rattle.iobufs_streams.specs.Streams.{HasFrame, IsEnd, IsFilledBy, IsFirstOf, IsHeldFront, TakesFrame, fault_of_cause, fault_of_error, held_bytes, held_prefix};
+ghost use Rattle.iobufs_streams.specs.Streams.{IsEnd, IsFilledBy, IsFirstOf, IsHeldFront, TakesFrame, fault_of_error, held_bytes, held_prefix};
 
 use crate::error::FrameError;
-use crate::held::Held;
 use iobufs_core::buf::IoBuf;
-use iobufs_core::codec::{BufError, Error, RangeCfg};
-use iobufs_frames::{Frames, Prefix};
+use iobufs_core::codec::{Error, RangeCfg};
+use iobufs_frames::{Prefix, Received};
 use std::alloc::{AllocError, Global};
 use std::io::{self, ErrorKind, Read};
-
-// How many bytes are read at most at a time.
-const PIECE: usize = 1 << 16;
-
-// Reads once, and again if a signal interrupts it.
-#[tactic(auto, using(crate::proofs::StreamLaws::again))]
-fn read_again<R: Read>(from: &mut R, piece: &mut [u8]) -> io::Result<usize>
-    ensures bound { ReadsAtMost result piece.new }
-    ensures bytes { ReadConsumes (R.remaining from.old) (R.remaining from.new) result piece.new }
-    ensures retried { IfErr result (λ error. error_kind error ≢ Interrupted) }
-{
-    for _ in 0..u64::MAX {
-        match from.read(piece) {
-            Err(error) if error.kind() == ErrorKind::Interrupted => {}
-            answer => return answer,
-        }
-    }
-    Err(io::Error::from(ErrorKind::TimedOut))
-}
 
 // Why no frame is taken where one can't be read.
 fn fault_of(error: Error) -> FrameError
@@ -45,114 +25,93 @@ fn fault_of(error: Error) -> FrameError
     }
 }
 
-// Why no frame is taken if bytes can't be held.
-fn fault_of_holding(cause: BufError) -> FrameError
-    ensures { result ≡ fault_of_cause cause }
+// Takes the first frame, if it is held whole.
+#[inline(always)]
+fn take_held(held: &mut Received, range: &RangeCfg) -> Result<Option<IoBuf>, FrameError>
+    ensures prefix { held_prefix held.new ≡ held_prefix held.old }
+    ensures front { IsHeldFront (held_prefix held.old) range.now (held_bytes held.old) result (held_bytes held.new) }
+    ensures body { IfOk result (λ found. IfSome found (λ body. body ≡ view_of_bytes body.bytes)) }
+    ensures spelled { IfErr result (λ error. error ≡ FrameError.Bad Error.InvalidVarint → held_prefix held.old ≡ Prefix.Spelled) }
 {
-    match cause {
-        BufError::TooLong => FrameError::TooLong,
-        BufError::Memory | BufError::BadLayout => FrameError::Memory,
+    held.next(range).map_err(fault_of)
+}
+
+// Takes the first frame. If none is held whole, makes space for a read.
+fn take_or_widen(held: &mut Received, range: &RangeCfg) -> Result<Option<IoBuf>, FrameError>
+    ensures prefix { held_prefix held.new ≡ held_prefix held.old }
+    ensures front { IsHeldFront (held_prefix held.old) range.now (held_bytes held.old) result (held_bytes held.new) }
+    ensures body { IfOk result (λ found. IfSome found (λ body. body ≡ view_of_bytes body.bytes)) }
+    ensures space { IfOk result (λ found. IfNone found (0 < held.new.space)) }
+    ensures spelled { IfErr result (λ error. error ≡ FrameError.Bad Error.InvalidVarint → held_prefix held.old ≡ Prefix.Spelled) }
+{
+    match take_held(held, range) {
+        Ok(Some(body)) => Ok(Some(body)),
+        Ok(None) => match held.make_space() {
+            Ok(()) => Ok(None),
+            Err(_) => Err(FrameError::Memory),
+        },
+        Err(error) => Err(error),
     }
 }
 
-impl Held {
-    // None, and space for one read.
-    fn new(alloc: Global, prefix: Prefix) -> Result<Held, AllocError>
-        ensures empty { IfOk result (λ held. held_bytes held ≡ []) }
-        ensures prefix { IfOk result (λ held. held_prefix held ≡ prefix) }
-    {
-        let mut piece = Vec::new(alloc);
-        piece.resize(PIECE, 0)?;
-        Ok(Held {
-            frames: Frames::new(prefix),
-            piece,
-            read: 0,
-        })
-    }
-
-    // Feeds what was read last.
-    fn feed(&mut self, alloc: Global) -> Result<(), BufError>
-        ensures same { held_bytes self.new ≡ held_bytes self.old }
-        ensures prefix { held_prefix self.new ≡ held_prefix self.old }
-        ensures fed { OnOk result (self.new.read ≡ 0) }
-        ensures too_long { IfErr result (λ cause. cause ≡ BufError.TooLong → 2 ^ 64 ≤ length (held_bytes self.old)) }
-    {
-        if self.read == 0 {
-            return Ok(());
-        }
-        let piece = IoBuf::copy_from_slice(alloc, &self.piece[..self.read])?;
-        self.frames.feed(alloc, piece)?;
-        self.read = 0;
-        Ok(())
-    }
-
-    // Takes the first whole frame of all that was read.
-    fn next(&mut self, alloc: Global, range: &RangeCfg) -> Result<Option<IoBuf>, FrameError>
-        ensures prefix { held_prefix self.new ≡ held_prefix self.old }
-        ensures front { IsHeldFront (held_prefix self.old) range.now (held_bytes self.old) result (held_bytes self.new) }
-        ensures fed { IfOk result (λ found. IfNone found (self.new.read ≡ 0)) }
-        ensures spelled { IfErr result (λ error. error ≡ FrameError.Bad Error.InvalidVarint → held_prefix self.old ≡ Prefix.Spelled) }
-    {
-        self.feed(alloc).map_err(fault_of_holding)?;
-        match self.frames.next(alloc, range) {
-            Ok(found) => Ok(found),
-            Err(error) => Err(fault_of(error)),
+// Reads once, and again if a signal interrupts it. Returns whether no byte came.
+#[tactic(auto, using(crate::proofs::StreamLaws::again))]
+fn fill<R: Read>(held: &mut Received, from: &mut R) -> io::Result<bool>
+    requires { 0 < held.old.space }
+    ensures filled { IfOk result (IsFilledBy (R.remaining from.old) (R.remaining from.new) (held_bytes held.old) (held_bytes held.new)) }
+    ensures prefix { held_prefix held.new ≡ held_prefix held.old }
+    ensures same { OnErr result (held_bytes held.new ≡ held_bytes held.old) }
+    ensures kept { OnErr result (Keeps (R.remaining from.old) (R.remaining from.new)) }
+    ensures retried { IfErr result (λ error. error_kind error ≢ Interrupted) }
+{
+    for _ in 0..u64::MAX {
+        match held.read_from(from) {
+            Err(error) if error.kind() == ErrorKind::Interrupted => {}
+            Err(error) => return Err(error),
+            Ok(n) => return Ok(n == 0),
         }
     }
+    Err(io::Error::from(ErrorKind::TimedOut))
+}
 
-    // Reads once, after what is held, and returns whether no byte came.
-    fn fill<R: Read>(&mut self, from: &mut R) -> io::Result<bool>
-        requires { self.old.read ≡ 0 }
-        ensures filled { IfOk result (IsFilledBy (R.remaining from.old) (R.remaining from.new) (held_bytes self.old) (held_bytes self.new)) }
-        ensures prefix { held_prefix self.new ≡ held_prefix self.old }
-        ensures fed { IfOk result (λ none. IsTrue none → self.new.read ≡ 0) }
-        ensures same { OnErr result (held_bytes self.new ≡ held_bytes self.old) }
-        ensures kept { OnErr result (Keeps (R.remaining from.old) (R.remaining from.new)) }
-    {
-        self.read = read_again(from, &mut self.piece)?;
-        Ok(self.read == 0)
+// The result at the end of the input.
+fn end(held: &Received) -> Result<Option<IoBuf>, FrameError>
+    ensures { IsEnd (held_bytes held.now) result }
+{
+    if held.len() == 0 {
+        Ok(None)
+    } else {
+        Err(FrameError::Cut)
     }
+}
 
-    // The result at the end of the input, if all bytes that were read were fed.
-    fn end(&self) -> Result<Option<IoBuf>, FrameError>
-        requires { self.now.read ≡ 0 }
-        ensures { IsEnd (held_bytes self.now) result }
-    {
-        if self.frames.rest.is_empty() {
-            Ok(None)
-        } else {
-            Err(FrameError::Cut)
+// Takes the next frame from what is held and what a reader gives.
+fn take<R: Read>(
+    held: &mut Received,
+    from: &mut R,
+    range: &RangeCfg,
+) -> Result<Option<IoBuf>, FrameError>
+    ensures prefix { held_prefix held.new ≡ held_prefix held.old }
+    ensures next { TakesFrame (held_prefix held.old) range.now (R.remaining from.old) (R.remaining from.new) (held_bytes held.old) (held_bytes held.new) result }
+    ensures body { IfOk result (λ found. IfSome found (λ body. body ≡ view_of_bytes body.bytes)) }
+    ensures ready { HasFrame (held_prefix held.old) range.now (held_bytes held.old) → from.new ≡ from.old }
+    ensures spelled { IfErr result (λ error. error ≡ FrameError.Bad Error.InvalidVarint → held_prefix held.old ≡ Prefix.Spelled) }
+{
+    for _ in 0..u64::MAX {
+        match take_or_widen(held, range) {
+            Ok(Some(body)) => return Ok(Some(body)),
+            Err(error) => return Err(error),
+            Ok(None) => {}
+        }
+        let is_end = match fill(held, from) {
+            Ok(none) => none,
+            Err(error) => return Err(FrameError::Io(error)),
+        };
+        if is_end {
+            return end(held);
         }
     }
-
-    // Takes the next frame from what is held and what a reader gives.
-    fn take<R: Read>(
-        &mut self,
-        alloc: Global,
-        from: &mut R,
-        range: &RangeCfg,
-    ) -> Result<Option<IoBuf>, FrameError>
-        ensures prefix { held_prefix self.new ≡ held_prefix self.old }
-        ensures next { TakesFrame (held_prefix self.old) range.now (R.remaining from.old) (R.remaining from.new) (held_bytes self.old) (held_bytes self.new) result }
-        ensures ready { HasFrame (held_prefix self.old) range.now (held_bytes self.old) → from.new ≡ from.old }
-        ensures spelled { IfErr result (λ error. error ≡ FrameError.Bad Error.InvalidVarint → held_prefix self.old ≡ Prefix.Spelled) }
-    {
-        for _ in 0..u64::MAX {
-            match self.next(alloc, range) {
-                Ok(Some(body)) => return Ok(Some(body)),
-                Err(error) => return Err(error),
-                Ok(None) => {}
-            }
-            let is_end = match self.fill(from) {
-                Ok(none) => none,
-                Err(error) => return Err(FrameError::Io(error)),
-            };
-            if is_end {
-                return self.end();
-            }
-        }
-        Err(FrameError::TooLong)
-    }
+    Err(FrameError::TooLong)
 }
 
 /// A reader from which whole frames are taken, of lengths in a range.
@@ -163,7 +122,7 @@ pub struct FrameReader<R> {
     /// The lengths that a body may have.
     pub range: RangeCfg,
     /// The bytes that were read from it and not taken.
-    pub held: Held,
+    pub held: Received,
 }
 
 impl<R: Read + Drop> FrameReader<R> {
@@ -189,7 +148,8 @@ impl<R: Read + Drop> FrameReader<R> {
         ensures range { IfOk result (λ reader. reader.range ≡ range) }
         ensures empty { IfOk result (λ reader. held_bytes reader.held ≡ []) }
     {
-        let held = Held::new(alloc, prefix)?;
+        let mut held = Received::new(alloc, prefix);
+        held.make_space()?;
         Ok(FrameReader { from, range, held })
     }
 
@@ -198,6 +158,7 @@ impl<R: Read + Drop> FrameReader<R> {
     pub fn next(&mut self, alloc: Global) -> Result<Option<IoBuf>, FrameError>
         ensures next { TakesFrame (held_prefix self.old.held) self.old.range (R.remaining self.old.from) (R.remaining self.new.from) (held_bytes self.old.held)
             (held_bytes self.new.held) result }
+        ensures body { IfOk result (λ found. IfSome found (λ body. body ≡ view_of_bytes body.bytes)) }
         ensures ready { HasFrame (held_prefix self.old.held) self.old.range (held_bytes self.old.held) → self.new.from ≡ self.old.from }
         ensures first { IfSome (R.remaining self.old.from) (λ old. IfSome (R.remaining self.new.from) (λ new.
             (frames : List (List ℕ)) (stop : End) (rest : List ℕ)
@@ -207,6 +168,26 @@ impl<R: Read + Drop> FrameReader<R> {
         ensures prefix { held_prefix self.new.held ≡ held_prefix self.old.held }
         ensures range { self.new.range ≡ self.old.range }
     {
-        self.held.take(alloc, &mut self.from, &self.range)
+        let _ = alloc;
+        take(&mut self.held, &mut self.from, &self.range)
+    }
+
+    /// Takes the next frame if it is held whole; `None` if it isn't. It reads nothing.
+    #[inline(always)]
+    pub fn next_held(&mut self) -> Result<Option<IoBuf>, FrameError>
+        ensures front { IsHeldFront (held_prefix self.old.held) self.old.range (held_bytes self.old.held) result (held_bytes self.new.held) }
+        ensures body { IfOk result (λ found. IfSome found (λ body. body ≡ view_of_bytes body.bytes)) }
+        ensures from { self.new.from ≡ self.old.from }
+        ensures prefix { held_prefix self.new.held ≡ held_prefix self.old.held }
+        ensures range { self.new.range ≡ self.old.range }
+    {
+        take_held(&mut self.held, &self.range)
+    }
+
+    /// Returns whether a whole frame is held, so that `next` takes it without a read.
+    pub fn has_frame(&self) -> bool
+        ensures { IsTrue result ↔ HasFrame (held_prefix self.now.held) self.now.range (held_bytes self.now.held) }
+    {
+        self.held.has_frame(&self.range)
     }
 }

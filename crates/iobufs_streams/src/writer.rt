@@ -1,28 +1,27 @@
 //! Frames as lists of chunks, for writes of any size.
-ghost use Rattle.std.specs.Prelude.{◌≡◌, ◌≢◌, ◌+◌, ◌^◌, ◌<◌, ◌≤◌, [], length, map, nat_eq, take, IfErr, IfOk, IsErrAnd, OnErr, OnOk};
+ghost use Rattle.std.specs.Prelude.{◌≡◌, ◌≢◌, ◌+◌, ◌-◌, ◌^◌, ◌<◌, ◌≤◌, [], length, nat_eq, IsTrue, IsOk, IfErr, IfOk, IsErrAnd, OnErr, OnOk};
 ghost use Rattle.std.specs.IoError.{error_kind};
-ghost use Rattle.std.specs.declared.io.ErrorKind.TheVariants.{Interrupted, OutOfMemory};
-ghost use Rattle.std.specs.Io.KnownBytes.{Appends, WriteAppends};
+ghost use Rattle.std.specs.declared.io.ErrorKind.TheVariants.{Interrupted};
+ghost use Rattle.std.specs.Io.KnownBytes.{Appends, Keeps, WriteAppends};
 ghost use Rattle.std.specs.Io.{WritesAtMost};
-ghost use Rattle.std.specs.Io.Slices.{io_slice_bytes, io_slices_bytes};
 ghost use Rattle.iobufs.specs.Sending.{IsSent};
-ghost use Rattle.iobufs_core.specs.MarkedText.{text_chunks};
+ghost use Rattle.iobufs_core.specs.MarkedText.{text_prepend};
 ghost use Rattle.iobufs_core.specs.Wire.{bytes_written};
 ghost use Rattle.iobufs_frames.specs.Frames.{frame_written};
-ghost use Rattle.iobufs_frames.specs.Prefixes.{prefix_limit};
+ghost use Rattle.iobufs_frames.specs.Prefixes.{prefix_limit, prefix_view};
+ghost use Rattle.iobufs_frames.specs.declared.lengths.Prefix.TheVariants.{Spelled};
 
+use crate::unsent::Unsent;
 use iobufs::bufs::IoBufs;
-use iobufs_core::codec::{Buf, BufError, Refused};
-use iobufs_frames::{Prefix, framed_with};
+use iobufs_core::codec::{BufError, Refused};
+use iobufs_frames::{Head, Prefix, framed_with};
 use std::alloc::Global;
-use std::io::{self, ErrorKind, IoSlice, Write};
-
-// How many chunks are written at a time.
-const BATCH: usize = 64;
+use std::io::{self, ErrorKind, Write};
 
 /// Prepends a varint length to a body, whose chunks aren't copied. Fails with `BufError::TooLong` only if both are
 /// longer than `usize::MAX`.
 pub fn framed(alloc: Global, body: IoBufs) -> Result<IoBufs, Refused<IoBufs>>
+    ensures chunks { IfOk result (λ text. text ≡ text_prepend body (prefix_view Spelled (length body.bytes))) }
     ensures bytes { IfOk result (λ text. text.bytes ≡ bytes_written body.bytes) }
     ensures handed_back { IfErr result (λ refused. refused.value ≡ body) }
     ensures memory { length (bytes_written body.bytes) < 2 ^ 64 → IfErr result (λ refused. refused.cause ≡ BufError.Memory) }
@@ -30,30 +29,15 @@ pub fn framed(alloc: Global, body: IoBufs) -> Result<IoBufs, Refused<IoBufs>>
     framed_with(alloc, Prefix::Spelled, body)
 }
 
-// The first chunks of a text.
-fn batch(alloc: Global, text: &IoBufs) -> io::Result<Vec<IoSlice<'_>>>
-    ensures batch { IfOk result (λ slices. map io_slice_bytes slices.items ≡ take 64 (text_chunks text.now)) }
-    ensures memory { IfErr result (λ error. error_kind error ≡ OutOfMemory) }
-{
-    let Ok(chunks) = text.chunks_vectored(alloc, BATCH) else {
-        return Err(io::Error::from(ErrorKind::OutOfMemory));
-    };
-    let mut slices = Vec::new(alloc);
-    for chunk in chunks {
-        slices.push(IoSlice::new(chunk))?;
-    }
-    Ok(slices)
-}
-
 // Writes once, and again if a signal interrupts it.
 #[tactic(auto, using(crate::proofs::StreamLaws::again))]
-fn write_again<W: Write>(to: &mut W, slices: &[IoSlice<'_>]) -> io::Result<usize>
-    ensures bound { WritesAtMost result (io_slices_bytes slices.now) }
-    ensures bytes { WriteAppends (W.contents to.old) (W.contents to.new) result (io_slices_bytes slices.now) }
+fn write_again<W: Write>(to: &mut W, bytes: &[u8]) -> io::Result<usize>
+    ensures bound { WritesAtMost result bytes.now }
+    ensures bytes { WriteAppends (W.contents to.old) (W.contents to.new) result bytes.now }
     ensures retried { IfErr result (λ error. error_kind error ≢ Interrupted) }
 {
     for _ in 0..u64::MAX {
-        match to.write_vectored(slices) {
+        match to.write(bytes) {
             Err(error) if error.kind() == ErrorKind::Interrupted => {}
             answer => return answer,
         }
@@ -61,47 +45,43 @@ fn write_again<W: Write>(to: &mut W, slices: &[IoSlice<'_>]) -> io::Result<usize
     Err(io::Error::from(ErrorKind::TimedOut))
 }
 
-// Writes the first chunks, and returns how many bytes the writer took.
+// Writes the first chunk, and drops from the front what was taken.
 #[tactic(auto, using(iobufs::proofs::CallerFacts::sending))]
-fn write_batch<W: Write>(alloc: Global, to: &mut W, text: &IoBufs) -> io::Result<usize>
-    ensures within { IfOk result (λ n. n ≤ length text.now.bytes) }
-    ensures bytes { WriteAppends (W.contents to.old) (W.contents to.new) result text.now.bytes }
+fn send_chunk<W: Write>(to: &mut W, rest: &mut Unsent) -> io::Result<usize>
+    ensures sent { IsSent (W.contents to.old) (W.contents to.new) rest.old.bytes rest.new.bytes }
+    ensures unchanged { OnErr result (rest.new ≡ rest.old) }
+    ensures count { IfOk result (λ n. length rest.old.bytes ≡ n + length rest.new.bytes) }
     ensures retried { IfErr result (λ error. error_kind error ≢ Interrupted) }
 {
-    let slices = batch(alloc, text)?;
-    write_again(to, &slices)
-}
-
-// Writes the first chunks, and drops from the front what was taken.
-#[tactic(auto, using(iobufs::proofs::CallerFacts::sending))]
-fn send_batch<W: Write>(alloc: Global, to: &mut W, text: &mut IoBufs) -> io::Result<usize>
-    ensures sent { IsSent (W.contents to.old) (W.contents to.new) text.old.bytes text.new.bytes }
-    ensures unchanged { OnErr result (text.new ≡ text.old) }
-    ensures count { IfOk result (λ n. length text.old.bytes ≡ n + length text.new.bytes) }
-    ensures retried { IfErr result (λ error. error_kind error ≢ Interrupted) }
-{
-    let n = write_batch(alloc, to, text)?;
-    text.advance(n);
+    let n = write_again(to, rest.chunk())?;
+    rest.advance(n);
     Ok(n)
 }
 
-/// A writer to which whole frames are sent.
+/// A writer to which whole frames are sent, of bodies up to a limit. A frame is written chunk by chunk, its length first:
+/// over a `BufWriter`, short chunks and frames go out together, and `flush` ends a batch.
 #[derive(Drop)]
 pub struct FrameWriter<W> {
     /// The writer.
     pub to: W,
     /// How the lengths are written.
     pub prefix: Prefix,
+    /// The longest body that is put.
+    pub most: usize,
     /// The unsent rest of the frame that was put last.
-    pub rest: IoBufs,
+    pub rest: Unsent,
+    /// Whether nothing was sent since the last `flush`.
+    pub is_flushed: bool,
 }
 
 impl<W: Write + Drop> FrameWriter<W> {
-    /// Makes a writer of frames with varint lengths.
+    /// Makes a writer of frames with varint lengths. Set `most` to limit the bodies.
     pub fn new(to: W) -> FrameWriter<W>
         ensures to { result.to ≡ to }
         ensures prefix { result.prefix ≡ Prefix.Spelled }
+        ensures most { result.most ≡ 2 ^ 64 - 1 }
         ensures empty { result.rest.bytes ≡ [] }
+        ensures flushed { IsTrue result.is_flushed }
     {
         FrameWriter::with_prefix(to, Prefix::Spelled)
     }
@@ -110,12 +90,16 @@ impl<W: Write + Drop> FrameWriter<W> {
     pub fn with_prefix(to: W, prefix: Prefix) -> FrameWriter<W>
         ensures to { result.to ≡ to }
         ensures prefix { result.prefix ≡ prefix }
+        ensures most { result.most ≡ 2 ^ 64 - 1 }
         ensures empty { result.rest.bytes ≡ [] }
+        ensures flushed { IsTrue result.is_flushed }
     {
         FrameWriter {
             to,
             prefix,
-            rest: IoBufs::default(),
+            most: usize::MAX,
+            rest: Unsent::new(Head::new(), IoBufs::default()),
+            is_flushed: true,
         }
     }
 
@@ -126,41 +110,75 @@ impl<W: Write + Drop> FrameWriter<W> {
         self.rest.is_empty()
     }
 
-    /// Begins a frame of this body; nothing is sent yet. Fails with `BufError::TooLong` if its length can't be written
-    /// so (see `Prefix::fits`) or both are longer than `usize::MAX`.
+    /// Begins a frame of this body; nothing is sent yet. The body's chunks aren't copied, and nothing is allocated. Fails
+    /// with `BufError::TooLong` if it is longer than `most`, its length can't be written so (see `Prefix::fits`) or both
+    /// are longer than `usize::MAX`.
     pub fn put(&mut self, alloc: Global, body: IoBufs) -> Result<(), Refused<IoBufs>>
         requires { self.old.rest.bytes ≡ [] }
         ensures put { OnOk result (self.new.rest.bytes ≡ frame_written self.old.prefix body.bytes) }
+        ensures chunks { OnOk result (self.new.rest.body ≡ body) }
         ensures to { self.new.to ≡ self.old.to }
         ensures prefix { self.new.prefix ≡ self.old.prefix }
+        ensures most { self.new.most ≡ self.old.most }
+        ensures flushed { self.new.is_flushed ≡ self.old.is_flushed }
         ensures refused { OnErr result (self.new.rest ≡ self.old.rest) }
         ensures handed_back { IfErr result (λ refused. refused.value ≡ body) }
+        ensures above { self.old.most < length body.bytes → IsErrAnd result (λ refused. refused.cause ≡ BufError.TooLong) }
         ensures too_long { prefix_limit self.old.prefix ≤ length body.bytes → IsErrAnd result (λ refused. refused.cause ≡ BufError.TooLong) }
         ensures both_too_long { 2 ^ 64 ≤ length (frame_written self.old.prefix body.bytes)
             → IsErrAnd result (λ refused. refused.cause ≡ BufError.TooLong) }
-        ensures memory { length body.bytes < prefix_limit self.old.prefix → length (frame_written self.old.prefix body.bytes) < 2 ^ 64
-            → IfErr result (λ refused. refused.cause ≡ BufError.Memory) }
+        ensures fits { length body.bytes ≤ self.old.most → length body.bytes < prefix_limit self.old.prefix
+            → length (frame_written self.old.prefix body.bytes) < 2 ^ 64 → IsOk result }
     {
-        self.rest = framed_with(alloc, self.prefix, body)?;
+        let _ = alloc;
+        let len = body.len();
+        let cause = BufError::TooLong;
+        if len > self.most || !self.prefix.fits(len) {
+            return Err(Refused { cause, value: body });
+        }
+        let head = self.prefix.head(len);
+        if usize::MAX - len < head.len() {
+            return Err(Refused { cause, value: body });
+        }
+        self.rest = Unsent::new(head, body);
         Ok(())
     }
 
     /// Sends the rest of the frame, in as many writes as the writer needs. After an error no byte is lost or sent
     /// twice: the rest is in `rest`, and `send` may be called again. An error is the writer's (never
-    /// `ErrorKind::Interrupted`), `ErrorKind::WriteZero` if it takes none, or `ErrorKind::OutOfMemory`.
+    /// `ErrorKind::Interrupted`), or `ErrorKind::WriteZero` if it takes none.
     #[tactic(auto, using(iobufs::proofs::CallerFacts::sending))]
     pub fn send(&mut self, alloc: Global) -> io::Result<()>
         ensures sent { IsSent (W.contents self.old.to) (W.contents self.new.to) self.old.rest.bytes self.new.rest.bytes }
         ensures prefix { self.new.prefix ≡ self.old.prefix }
+        ensures most { self.new.most ≡ self.old.most }
+        ensures flushed { IsTrue self.new.is_flushed → IsTrue self.old.is_flushed × (self.old.rest.bytes ≡ []) }
         ensures all { OnOk result (self.new.rest.bytes ≡ []) }
         ensures left { OnErr result (0 < length self.new.rest.bytes) }
         ensures contents { OnOk result (Appends (W.contents self.old.to) (W.contents self.new.to) self.old.rest.bytes) }
         ensures retried { IfErr result (λ error. error_kind error ≢ Interrupted) }
     {
+        let _ = alloc;
         while !self.rest.is_empty() {
-            if send_batch(alloc, &mut self.to, &mut self.rest)? == 0 {
+            self.is_flushed = false;
+            if send_chunk(&mut self.to, &mut self.rest)? == 0 {
                 return Err(io::Error::from(ErrorKind::WriteZero));
             }
+        }
+        Ok(())
+    }
+
+    /// Flushes the writer, unless nothing was sent since the last `flush`.
+    pub fn flush(&mut self) -> io::Result<()>
+        ensures kept { Keeps (W.contents self.old.to) (W.contents self.new.to) }
+        ensures rest { self.new.rest ≡ self.old.rest }
+        ensures prefix { self.new.prefix ≡ self.old.prefix }
+        ensures most { self.new.most ≡ self.old.most }
+        ensures flushed { OnOk result (IsTrue self.new.is_flushed) }
+    {
+        if !self.is_flushed {
+            self.to.flush()?;
+            self.is_flushed = true;
         }
         Ok(())
     }

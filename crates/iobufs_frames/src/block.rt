@@ -1,0 +1,214 @@
+//! Bytes that are received into one block, and the frames at their front.
+ghost use Rattle.std.specs.Prelude.{◌≡◌, ◌↔◌, ℕ, ◌^◌, ◌<◌, ◌≤◌, List, [], ◌++◌, length, take, drop, IsTrue, IfOk, IfErr, IfNone, IfSome, IsOk, OnOk, OnErr};
+ghost use Rattle.std.specs.Io.KnownBytes.{Consumes, IsAtEnd, Keeps};
+ghost use Rattle.iobufs_core.specs.View.{view_of_bytes};
+ghost use Rattle.iobufs_frames.specs.Frames.{HasFrame, IsNext};
+ghost use Rattle.iobufs_frames.specs.Prefixes.{HasNoLengthAt, IsOpenAt, IsSeenAt};
+
+use crate::lengths::{Length, Prefix, frame_size};
+use crate::shown::Shown;
+use bytes::BytesMut;
+use iobufs_core::buf::IoBuf;
+use iobufs_core::codec::{Error, RangeCfg};
+use std::alloc::{AllocError, Global};
+use std::io::{self, Read};
+use std::marker::Model;
+
+// How large the first block is, and how large one is at most, unless a single frame needs more.
+const FIRST: usize = 1 << 12;
+
+const MOST: usize = 1 << 16;
+
+// How many bytes the kit's block has at least after it grew. A block that grows by no fewer has no byte after its frame.
+const STEP: usize = 1 << 14;
+
+/// Bytes that were received and not taken, in one block, and space for more after them. A body that is taken shares the
+/// block, and so keeps all of it: copy a small body that is kept for long.
+#[derive(Drop)]
+pub struct Received {
+    prefix: Prefix,
+    block: BytesMut,
+    // How large the block was when nothing had been taken from it.
+    whole: usize,
+    // The length at the front, if it was decoded.
+    known: Option<Length>,
+}
+
+impl Model for Received {
+    ghost use Rattle.std.specs.Option.{ForSome};
+    ghost use Rattle.iobufs_frames.specs.Prefixes.{IsSeenAt};
+    ghost use Rattle.iobufs_frames.specs.Receiving.{ReceivedBytes};
+
+    ghost Value = { ReceivedBytes };
+
+    ghost view = { λ r. record { prefix = r.prefix; bytes = r.block.items; space = r.block.spare } };
+
+    ghost invariant = { λ r. ForSome r.known (λ l. IsSeenAt r.prefix r.block.items l.value l.len) };
+}
+
+// Makes a full block, which had `whole` bytes when nothing had been taken from it, one of `size` bytes. It moves the bytes
+// to the front or to a new block, unless they are all that it ever had.
+fn widen(block: &mut BytesMut, whole: usize, size: usize) -> Result<(), AllocError>
+    requires { length block.old.items < size }
+    ensures items { block.new.items ≡ block.old.items }
+    ensures spare { OnOk result (0 < block.new.spare) }
+{
+    let len = block.len();
+    if len == whole {
+        return block.reserve(size - len);
+    }
+    if whole <= MOST && block.try_reclaim(size - len) {
+        return Ok(());
+    }
+    let mut fresh = BytesMut::with_capacity(*block.allocator(), size)?;
+    fresh.extend_reserved(block.as_slice());
+    *block = fresh;
+    Ok(())
+}
+
+impl Received {
+    /// Makes an empty one, of frames whose lengths are written as `prefix`. It allocates nothing.
+    pub fn new(alloc: Global, prefix: Prefix) -> Received
+        ensures { result ≡ record { prefix = prefix; bytes = []; space = 0 } }
+    {
+        Received {
+            prefix,
+            block: BytesMut::new(alloc),
+            whole: 0,
+            known: None,
+        }
+    }
+
+    /// Returns how many bytes are held.
+    pub fn len(&self) -> usize
+        ensures { result ≡ length self.now.bytes }
+    {
+        self.block.len()
+    }
+
+    // The length at the front, if all its bytes are there.
+    #[inline(always)]
+    fn length(&self) -> Result<Option<Length>, Error>
+        ensures found { IfOk result (λ found. IfSome found (λ l. IsSeenAt self.now.prefix self.now.bytes l.value l.len)) }
+        ensures none { IfOk result (λ found. IfNone found (HasNoLengthAt self.now.prefix self.now.bytes × IsOpenAt self.now.prefix self.now.bytes)) }
+        ensures bad { IfErr result (λ error. (error ≡ Error.InvalidVarint) × HasNoLengthAt self.now.prefix self.now.bytes
+            × (IsOpenAt self.now.prefix self.now.bytes → ⊥) × (self.now.prefix ≡ Prefix.Spelled)) }
+    {
+        if let Some(found) = self.known {
+            return Ok(Some(found));
+        }
+        let bytes = self.block.as_slice();
+        self.prefix.length_in(&Shown { bytes })
+    }
+
+    // Takes a frame of so many bytes, of which the first are its length.
+    #[inline(always)]
+    fn take(&mut self, skip: usize, size: usize) -> Result<IoBuf, AllocError>
+        requires { (skip ≤ size) × (size ≤ length self.old.bytes) }
+        ensures body { IfOk result (λ body. body ≡ view_of_bytes (drop skip (take size self.old.bytes))) }
+        ensures rest { OnOk result (self.new.bytes ≡ drop size self.old.bytes) }
+        ensures prefix { self.new.prefix ≡ self.old.prefix }
+        ensures unchanged { OnErr result (self.new ≡ self.old) }
+        ensures nothing { skip ≡ size → IsOk result }
+    {
+        self.known = None;
+        if skip == size {
+            self.block.advance(size);
+            return Ok(IoBuf::default());
+        }
+        let mut frame = self.block.freeze_to(size)?;
+        frame.advance(skip);
+        if self.whole > MOST && self.block.is_empty() {
+            self.block = BytesMut::new(*self.block.allocator());
+            self.whole = MOST;
+        }
+        Ok(IoBuf::from(frame))
+    }
+
+    /// Takes the first frame; `None` if it is not whole yet. Fails with `Error::InvalidVarint` (of varints alone) or
+    /// `Error::InvalidLength` if no further bytes can make it whole, or with `Error::Memory`. Unless a frame is taken,
+    /// all is unchanged. A body isn't copied, and a length that is decoded is remembered.
+    #[inline(always)]
+    pub fn next(&mut self, range: &RangeCfg) -> Result<Option<IoBuf>, Error>
+        ensures next { IsNext self.old.prefix range.now self.old.bytes result self.new.bytes }
+        ensures body { IfOk result (λ found. IfSome found (λ body. body ≡ view_of_bytes body.bytes)) }
+        ensures same { IfOk result (λ found. IfNone found (self.new ≡ self.old)) }
+        ensures unchanged { OnErr result (self.new ≡ self.old) }
+        ensures prefix { self.new.prefix ≡ self.old.prefix }
+        ensures spelled { IfErr result (λ error. error ≡ Error.InvalidVarint → self.old.prefix ≡ Prefix.Spelled) }
+    {
+        let Some(found) = self.length()? else {
+            return Ok(None);
+        };
+        self.known = Some(found);
+        let Some(size) = frame_size(found, self.len(), range)? else {
+            return Ok(None);
+        };
+        match self.take(found.len, size) {
+            Ok(body) => Ok(Some(body)),
+            Err(_) => Err(Error::Memory),
+        }
+    }
+
+    /// Returns whether a whole frame is at the front.
+    pub fn has_frame(&self, range: &RangeCfg) -> bool
+        ensures { IsTrue result ↔ HasFrame self.now.prefix range.now self.now.bytes }
+    {
+        match self.length() {
+            Ok(Some(found)) => match frame_size(found, self.len(), range) {
+                Ok(Some(_)) => true,
+                Ok(None) => false,
+                Err(_) => false,
+            },
+            Ok(None) => false,
+            Err(_) => false,
+        }
+    }
+
+    // How large a block is made next that has `len` bytes: at most `MOST`, or twice as large as they are. A frame that needs
+    // little more gets that.
+    fn next_size(&self, len: usize) -> usize
+        requires { len < 2 ^ 63 }
+        ensures { len < result }
+    {
+        let frame = match self.known {
+            Some(found) => found.len.saturating_add(found.value),
+            None => 0,
+        };
+        let twice = 2 * len;
+        let is_near = len < frame && frame <= twice.saturating_add(STEP);
+        let least = self.whole.saturating_mul(2).max(FIRST).min(MOST);
+        least.max(if is_near { frame } else { twice })
+    }
+
+    /// Makes space for a read, if there is none. A block is used again if no body shares it. It grows if it is full of one
+    /// frame. A block above 64 KiB is left after the frame that it was made for.
+    pub fn make_space(&mut self) -> Result<(), AllocError>
+        ensures bytes { self.new.bytes ≡ self.old.bytes }
+        ensures prefix { self.new.prefix ≡ self.old.prefix }
+        ensures space { OnOk result (0 < self.new.space) }
+    {
+        let (len, capacity) = (self.block.len(), self.block.capacity());
+        let is_left = self.whole > MOST && capacity < self.whole;
+        if len < capacity && !is_left {
+            return Ok(());
+        }
+        let size = self.next_size(len);
+        widen(&mut self.block, self.whole, size)?;
+        self.whole = self.block.capacity();
+        Ok(())
+    }
+
+    /// Reads once, into the space.
+    pub fn read_from<R: Read>(&mut self, from: &mut R) -> io::Result<usize>
+        requires { 0 < self.old.space }
+        ensures ok { IfOk result (λ n. (more : List ℕ) × (length more ≡ n) × (self.new.bytes ≡ self.old.bytes ++ more)
+            × Consumes (R.remaining from.old) (R.remaining from.new) more) }
+        ensures end { IfOk result (λ n. n ≡ 0 → IsAtEnd (R.remaining from.new)) }
+        ensures prefix { self.new.prefix ≡ self.old.prefix }
+        ensures unchanged { OnErr result (self.new ≡ self.old) }
+        ensures kept { OnErr result (Keeps (R.remaining from.old) (R.remaining from.new)) }
+    {
+        self.block.read_from(from)
+    }
+}

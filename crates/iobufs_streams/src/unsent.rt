@@ -1,0 +1,100 @@
+//! The bytes of a frame that are not sent.
+ghost use Rattle.std.specs.Prelude.{◌≡◌, ◌+◌, ◌<◌, ◌≤◌, ◌^◌, ◌++◌, [], length, nat_eq, drop, slice_get};
+ghost use Rattle.iobufs_core.specs.Chunks.{IsChunkOf};
+
+use iobufs::bufs::IoBufs;
+use iobufs_core::codec::Buf;
+use iobufs_frames::Head;
+use std::marker::Model;
+
+/// The bytes of a frame that are not sent: the end of its length, and of its body.
+#[derive(Drop)]
+pub struct Unsent {
+    head: Head,
+    body: IoBufs,
+}
+
+impl Model for Unsent {
+    ghost use Rattle.std.specs.Prelude.{◌<◌, ◌+◌, ◌^◌, ◌++◌, length};
+    ghost use Rattle.iobufs_streams.specs.Unsent.{UnsentBytes};
+
+    ghost Value = { UnsentBytes };
+
+    ghost view = { λ u. record { head = u.head.filled; body = u.body; bytes = u.head.filled ++ u.body.bytes } };
+
+    ghost invariant = { λ u. length u.head.filled + length u.body.bytes < 2 ^ 64 };
+}
+
+// Drops the first bytes. An emptied body would go on sharing its blocks, so it is replaced.
+#[tactic(auto, using(iobufs::proofs::CallerFacts::sending))]
+fn drop_front(body: &mut IoBufs, n: usize)
+    requires { n ≤ length body.old.bytes }
+    ensures { body.new.bytes ≡ drop n body.old.bytes }
+{
+    if n == body.len() {
+        *body = IoBufs::default();
+    } else {
+        body.advance(n);
+    }
+}
+
+impl Unsent {
+    // A length and a body.
+    pub(crate) fn new(head: Head, body: IoBufs) -> Unsent
+        requires { length head.filled + length body.bytes < 2 ^ 64 }
+        ensures { result ≡ record { head = head.filled; body = body; bytes = head.filled ++ body.bytes } }
+    {
+        Unsent { head, body }
+    }
+
+    /// Returns whether there are no bytes.
+    pub fn is_empty(&self) -> bool
+        ensures { result ≡ nat_eq (length self.now.bytes) 0 }
+    {
+        self.len() == 0
+    }
+
+    /// Returns how many bytes there are.
+    pub fn len(&self) -> usize
+        ensures { result ≡ length self.now.bytes }
+    {
+        self.head.len() + self.body.len()
+    }
+
+    /// Returns the byte at an offset.
+    pub fn byte_at(&self, i: usize) -> Option<u8>
+        ensures { result ≡ slice_get self.now.bytes i }
+    {
+        let head = self.head.as_slice();
+        if i < head.len() {
+            return Some(head[i]);
+        }
+        self.body.byte_at(i - head.len())
+    }
+
+    // The first chunk.
+    pub(crate) fn chunk(&self) -> &[u8]
+        ensures { IsChunkOf result.now self.now.bytes }
+    {
+        let head = self.head.as_slice();
+        if head.is_empty() {
+            self.body.chunk()
+        } else {
+            head
+        }
+    }
+
+    // Drops the first bytes.
+    pub(crate) fn advance(&mut self, n: usize)
+        requires { n ≤ length self.old.bytes }
+        ensures { self.new.bytes ≡ drop n self.old.bytes }
+    {
+        let ahead = self.head.len();
+        if n <= ahead {
+            self.head.advance(n);
+            return;
+        }
+        self.head.advance(ahead);
+        drop_front(&mut self.body, n - ahead);
+    }
+}
