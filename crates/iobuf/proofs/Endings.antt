@@ -1,5 +1,5 @@
 -- How a session of either half ends, once its replies are sent off.
-use Rattle.iobuf.proofs.Known.{refl, Err, IfSome, List, None, Ok, Option, Result, Some, [], inl, inr, replicate, ℕ, ◌∷◌, Keeps, Free, Halts, ServesHalf, MachineAnsweredFirst, AnsweredFirst, commands_of, Obstacle, Memory, TooManyLines, Writing, Stop, BadCommand, CannotContinue, OtherWords, Half, Buffers, Machine}
+use Rattle.iobuf.proofs.Known.{refl, Bool, Err, IfSome, List, None, Ok, Option, Result, Some, [], inl, inr, replicate, ℕ, ◌∷◌, Keeps, Free, Halts, IsStopAt, MayEnd, ServesHalf, MachineAnsweredFirst, AnsweredFirst, commands_of, Obstacle, Memory, TooManyLines, Writing, Stop, BadCommand, CannotContinue, OtherWords, Half, Buffers, Machine}
 use Rattle.iobuf.proofs.Contents.{stays}
 use Rattle.iobuf.proofs.Going.{halted, where_known}
 use Rattle.iobuf.proofs.Sessions.{none_answered}
@@ -64,3 +64,15 @@ pub not_begun : (half : Half) (read told : Option (List ℕ))
 not_begun Buffers (Some input) (Some before) = (0, (replicate 16 Free, commands_of input, none_answered input before))
 not_begun Machine (Some input) (Some before) = (0, inl (refl, refl))
 not_begun half read told = tt
+
+-- nothing was read, for a failed allocation, and what was held is flushed
+pub unbegun : (half : Half) (read told new : Option (List ℕ)) → Keeps told new
+    → IfSome read (λ input. IfSome told (λ before. ServesHalf half input before new (Err (CannotContinue Memory))))
+unbegun half (Some input) (Some before) new keeps =
+    stays (λ w. ServesHalf half input before w (Err (CannotContinue Memory))) before (Some before) new refl keeps (not_begun half (Some input) (Some before))
+unbegun half read told new keeps = tt
+
+-- a session may end at a line that says nothing
+pub may_stop : (reads writes : Bool) {line : List ℕ} {number : ℕ} {stop : Stop} → IsStopAt line number stop → MayEnd reads writes (Err stop)
+may_stop reads writes (inl (text, is)) = rw is tt
+may_stop reads writes (inr (no_text, is)) = rw is tt

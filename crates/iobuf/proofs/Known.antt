@@ -26,7 +26,7 @@ pub use Rattle.iobufs_owner.specs.State.{Seen}
 pub use Rattle.iobufs_run.specs.declared.table.Slot.{Slot}
 pub use Rattle.iobufs_run.specs.declared.table.Slot.TheVariants.{Free}
 pub use Rattle.memchr.specs.Find.{IsFirstByte, is_byte}
-pub use Rattle.iobuf.specs.Faults.{Halts, IsStopAt, IsTextAt, ReadFails, Takes, most_lines}
+pub use Rattle.iobuf.specs.Faults.{Halts, IsStopAt, IsTextAt, MayEnd, ReadFails, Takes, most_lines}
 pub use Rattle.iobuf.specs.Halves.{ServesHalf}
 pub use Rattle.iobuf.specs.Lines.{TakesLine, line_text}
 pub use Rattle.iobuf.specs.MachineSession.{AskAnswered, MachineAnsweredFirst, MachineMade, MakesMachine, ServesMachine}

@@ -1,5 +1,7 @@
 -- The faults of a session, and what holds after each.
 --     ReadFails                the failures of reading a line, which flushes replies first
+--     MayMeet, MayEnd          what a session can meet by whether its reader and its writer may report an error, and how
+--                              it may end then
 --     Takes                    what a writer has got of some bytes: all of them, a prefix if it failed, nothing if an
 --                              allocation failed
 --     LineAt, IsTextAt         a line of the input by its number, and that it is UTF-8
@@ -8,13 +10,13 @@
 --     most_lines               the most lines that a session counts: a longer input can't be served to its end
 --     Halts                    where a session was when it met a fault: the lines answered, and what of their replies
 --                              is written
-use Rattle.std.specs.Prelude.{◌≡◌, ◌⊎◌, ℕ, ◌-◌, ◌^◌, take, length, List, ◌∷◌, ◌++◌, Option, Some, Result, Ok, Err, IsUtf8, ⊤}
+use Rattle.std.specs.Prelude.{◌≡◌, ◌⊎◌, ℕ, ◌-◌, ◌^◌, Bool, true, take, length, List, ◌∷◌, ◌++◌, Option, Some, Result, Ok, Err, IsUtf8, ⊤}
 use Rattle.std.specs.Io.KnownBytes.{Appends, Keeps}
 use Rattle.std.specs.Str.Lines.{lines}
 use Rattle.iobuf.specs.declared.fault.Obstacle.{Obstacle}
 use Rattle.iobuf.specs.declared.fault.Obstacle.TheVariants.{Reading, Writing, Memory, NotText, TooManyLines}
 use Rattle.iobuf.specs.declared.fault.Stop.{Stop}
-use Rattle.iobuf.specs.declared.fault.Stop.TheVariants.{BadCommand, CannotContinue}
+use Rattle.iobuf.specs.declared.fault.Stop.TheVariants.{BadCommand, CannotContinue, OtherWords}
 
 -- reading a line can't find that it isn't text, or is one too many
 abbrev pub ReadFails : Obstacle → Type 0
@@ -23,6 +25,21 @@ ReadFails Writing = ⊤
 ReadFails Memory = ⊤
 ReadFails NotText = ⊥
 ReadFails TooManyLines = ⊥
+
+-- reading and writing fail only if the reader or the writer may
+abbrev pub MayMeet : (reads writes : Bool) → Obstacle → Type 0
+MayMeet reads writes Reading = reads ≡ true
+MayMeet reads writes Writing = writes ≡ true
+MayMeet reads writes Memory = ⊤
+MayMeet reads writes NotText = ⊤
+MayMeet reads writes TooManyLines = ⊤
+
+-- a session stops by an obstacle only if it can meet it
+abbrev pub MayEnd : (reads writes : Bool) → Result (Unit {0}) Stop → Type 0
+MayEnd reads writes (Ok done) = ⊤
+MayEnd reads writes (Err (BadCommand number)) = ⊤
+MayEnd reads writes (Err (CannotContinue fault)) = MayMeet reads writes fault
+MayEnd reads writes (Err OtherWords) = ⊥
 
 -- a writer takes a text: all of it, or a front of it where it fails, and nothing for a failed allocation
 abbrev pub Takes : (old new : Option (List ℕ)) → List ℕ → Result (Unit {0}) Obstacle → Type 0

@@ -1,7 +1,7 @@
 -- Why a session ends, as it is reported and by its status.
 --     stop_text, stop_line    what the program says if it stops early, and this as a line
 --     stop_status, IsStatus     the status that it ends with, and that it is one of 0, 2 and 3
---     IsFlushed                 at its end the replies are flushed, unless an allocation or writing failed
+--     IsFlushed                 at its end the replies are flushed, unless writing failed
 use Rattle.std.specs.Prelude.{◌≡◌, ◌⊎◌, ℕ, Bool, true, List, ◌++◌, codes, Result, Ok, Err}
 use Rattle.std.specs.Fmt.{decimal}
 use Rattle.iobuf.specs.declared.fault.Obstacle.TheVariants.{Reading, Writing, Memory, NotText, TooManyLines}
@@ -29,13 +29,13 @@ stop_status (Err OtherWords) = 2
 abbrev pub IsStatus : ℕ → Type 0
 IsStatus status = (status ≡ 0) ⊎ (status ≡ 2) ⊎ (status ≡ 3)
 
--- the replies are flushed, unless an allocation or writing failed, or the words ask for no session
+-- the replies are flushed, unless writing failed, or the words ask for no session
 abbrev pub IsFlushed : Result (Unit {0}) Stop → (is_sent : Bool) → Type 0
 IsFlushed (Ok done) is_sent = is_sent ≡ true
 IsFlushed (Err (BadCommand number)) is_sent = is_sent ≡ true
 IsFlushed (Err (CannotContinue Reading)) is_sent = is_sent ≡ true
 IsFlushed (Err (CannotContinue Writing)) is_sent = Unit {0}
-IsFlushed (Err (CannotContinue Memory)) is_sent = Unit {0}
+IsFlushed (Err (CannotContinue Memory)) is_sent = is_sent ≡ true
 IsFlushed (Err (CannotContinue NotText)) is_sent = is_sent ≡ true
 IsFlushed (Err (CannotContinue TooManyLines)) is_sent = is_sent ≡ true
 IsFlushed (Err OtherWords) is_sent = Unit {0}

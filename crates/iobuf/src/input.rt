@@ -1,16 +1,43 @@
 // The lines of an input, one by one.
-ghost use Rattle.std.specs.Prelude.{◌≡◌, ◌≤◌, IfErr, IfOk, length};
+ghost use Rattle.std.specs.Prelude.{◌≡◌, ◌≤◌, IfOk, length};
 ghost use Rattle.std.specs.Io.Buffered.{reader_buffer};
-ghost use Rattle.std.specs.Io.KnownBytes.{Keeps};
-ghost use Rattle.iobuf.specs.Faults.{IsStopAt, ReadFails};
+ghost use Rattle.iobuf.specs.Faults.{IsStopAt};
 ghost use Rattle.iobuf.specs.Lines.{line_text};
 
 use crate::fault::{Obstacle, Stop};
-use crate::output::Output;
+use crate::output::Sink;
 use memchr::memchr;
 use std::alloc::Global;
-use std::io::{self, BufRead, BufReader, Read, Write};
+use std::io::{self, BufRead, BufReader, Read};
 use std::{mem, str};
+
+/// Lines, one by one.
+pub trait Source {
+    ghost use Rattle.std.specs.Prelude.{◌≡◌, ℕ, List, Option, Bool, IfErr, IfOk};
+    ghost use Rattle.std.specs.Io.KnownBytes.{Keeps};
+    ghost use Rattle.iobuf.specs.Faults.{MayMeet, ReadFails};
+    ghost use Rattle.iobuf.specs.Lines.{TakesLine};
+
+    // The bytes of the lines that are still to be read, if they are known.
+    ghost unread: { Self → Option (List ℕ) };
+
+    // The line that was read last, with its end.
+    ghost last: { Self → List ℕ };
+
+    // Whether its reader may report an error.
+    ghost can_fail: { Bool };
+
+    /// Reads the next line, and says whether there is one. If that waits for bytes, replies are flushed before.
+    fn read_line<O: Sink>(&mut self, replies: &mut O) -> Result<bool, Obstacle>
+        ensures line { IfOk result (λ more. TakesLine (unread self.old) (unread self.new) (last self.new) more) }
+        ensures kept { Keeps (O.contents replies.old) (O.contents replies.new) }
+        ensures err { IfErr result ReadFails }
+        ensures cause { IfErr result (MayMeet can_fail O.can_fail) };
+
+    /// The line that was read last, with its end.
+    fn line(&self) -> &[u8]
+        ensures { result.now ≡ last self.now };
+}
 
 // How many bytes of an input are read at once.
 const AT_ONCE: usize = 1 << 16;
@@ -49,8 +76,7 @@ pub struct Input<R> {
 }
 
 impl<R: Read + Drop> Input<R> {
-    ghost use Rattle.iobuf.specs.Lines.{TakesLine};
-    ghost use Rattle.iobuf.specs.Reading.{input_left, input_line};
+    ghost use Rattle.iobuf.specs.Reading.{input_left};
 
     /// Lines of a reader, through a buffer of its own.
     pub fn new(alloc: Global, reader: R) -> io::Result<Input<R>>
@@ -62,14 +88,20 @@ impl<R: Read + Drop> Input<R> {
             standing: 0,
         })
     }
+}
 
-    /// Reads the next line, and says whether there is one. A line that is in the buffer as a whole is left there until the
-    /// next call. Otherwise replies are flushed before the reader is read, so that a caller that waits for them gets them.
-    pub fn read_line<W: Write>(&mut self, replies: &mut Output<W>) -> Result<bool, Obstacle>
-        ensures line { IfOk result (λ more. TakesLine (input_left R.remaining self.old) (input_left R.remaining self.new) (input_line self.new) more) }
-        ensures kept { Keeps (W.contents replies.old.writer) (W.contents replies.new.writer) }
-        ensures err { IfErr result ReadFails }
-    {
+impl<R: Read + Drop> Source for Input<R> {
+    ghost use Rattle.std.specs.Prelude.{true};
+    ghost use Rattle.iobuf.specs.Reading.{input_left, input_line};
+
+    ghost unread = { input_left R.remaining };
+
+    ghost last = { input_line };
+
+    ghost can_fail = { true };
+
+    // A line that is in the buffer as a whole is left there until the next call.
+    fn read_line<O: Sink>(&mut self, replies: &mut O) -> Result<bool, Obstacle> {
         let standing = mem::replace(&mut self.standing, 0);
         self.reader.consume(standing);
         if let Some(place) = memchr(b'\n', self.reader.buffer()) {
@@ -85,13 +117,51 @@ impl<R: Read + Drop> Input<R> {
         }
     }
 
-    /// The line that was read last, with its end.
-    pub fn line(&self) -> &[u8]
-        ensures { result.now ≡ input_line self.now }
-    {
+    fn line(&self) -> &[u8] {
         if self.standing > 0 {
             return &self.reader.buffer()[..self.standing];
         }
+        self.line.as_slice()
+    }
+}
+
+/// Bytes that are read line by line, and the line that was read last.
+#[derive(Drop)]
+pub struct InMemory<'a> {
+    bytes: &'a [u8],
+    line: Vec<u8>,
+}
+
+impl<'a> InMemory<'a> {
+    /// The lines of these bytes.
+    pub fn new(alloc: Global, bytes: &'a [u8]) -> InMemory<'a>
+        ensures { result.bytes.now ≡ bytes.now }
+    {
+        InMemory {
+            bytes,
+            line: Vec::new(alloc),
+        }
+    }
+}
+
+impl Source for InMemory<'_> {
+    ghost use Rattle.std.specs.Prelude.{Some, false};
+
+    ghost unread = { λ input. Some input.bytes.now };
+
+    ghost last = { λ input. input.line.items };
+
+    ghost can_fail = { false };
+
+    fn read_line<O: Sink>(&mut self, _replies: &mut O) -> Result<bool, Obstacle> {
+        self.line.clear();
+        match self.bytes.read_until(b'\n', &mut self.line) {
+            Ok(n) => Ok(n > 0),
+            Err(_) => Err(Obstacle::Memory),
+        }
+    }
+
+    fn line(&self) -> &[u8] {
         self.line.as_slice()
     }
 }

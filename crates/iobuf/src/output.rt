@@ -1,11 +1,38 @@
 // Where replies go.
-ghost use Rattle.std.specs.Prelude.{◌≡◌, true, IfErr, OnOk};
-ghost use Rattle.std.specs.Io.KnownBytes.{Keeps};
+ghost use Rattle.std.specs.Prelude.{◌≡◌, IfErr};
 ghost use Rattle.iobuf.specs.Faults.{Takes};
 ghost use Rattle.iobuf.specs.declared.fault.Obstacle.TheVariants.{Writing};
 
 use crate::fault::Obstacle;
 use std::io::{self, Write};
+
+/// Takes replies.
+pub trait Sink {
+    ghost use Rattle.std.specs.Prelude.{◌≡◌, ℕ, List, Option, Bool, true, false, IfErr, OnOk};
+    ghost use Rattle.std.specs.Io.KnownBytes.{Keeps};
+    ghost use Rattle.iobuf.specs.Faults.{MayMeet, Takes};
+    ghost use Rattle.iobuf.specs.declared.fault.Obstacle.TheVariants.{Writing};
+
+    // The bytes that it holds, if they are known.
+    ghost contents: { Self → Option (List ℕ) };
+
+    // Whether all that it holds is flushed.
+    ghost is_sent: { Self → Bool };
+
+    // Whether its writer may report an error.
+    ghost can_fail: { Bool };
+
+    /// Takes bytes.
+    fn take(&mut self, bytes: &[u8]) -> Result<(), Obstacle>
+        ensures bytes { Takes (contents self.old) (contents self.new) bytes.now result }
+        ensures cause { IfErr result (MayMeet false can_fail) };
+
+    /// Flushes the bytes that it took.
+    fn send(&mut self) -> Result<(), Obstacle>
+        ensures bytes { Keeps (contents self.old) (contents self.new) }
+        ensures sent { OnOk result (is_sent self.new ≡ true) }
+        ensures err { IfErr result (λ fault. (fault ≡ Writing) × (can_fail ≡ true)) };
+}
 
 /// A writer, and whether all that it took is flushed.
 #[derive(Drop)]
@@ -22,38 +49,6 @@ impl<W: Write> Output<W> {
         Output {
             writer: output,
             is_sent: false,
-        }
-    }
-
-    /// Takes a text.
-    #[inline(always)]
-    pub fn take(&mut self, text: &[u8]) -> Result<(), Obstacle>
-        ensures { Takes (W.contents self.old.writer) (W.contents self.new.writer) text.now result }
-    {
-        self.is_sent = false;
-        match self.writer.write(text) {
-            Ok(n) if n == text.len() => Ok(()),
-            Ok(0) => Err(Obstacle::Writing),
-            Ok(n) => write_on(&mut self.writer, &text[n..]),
-            Err(error) if error.kind() == io::ErrorKind::Interrupted => {
-                write_on(&mut self.writer, text)
-            }
-            Err(_) => Err(Obstacle::Writing),
-        }
-    }
-
-    /// Flushes the texts that it took.
-    pub fn send(&mut self) -> Result<(), Obstacle>
-        ensures bytes { Keeps (W.contents self.old.writer) (W.contents self.new.writer) }
-        ensures sent { OnOk result (self.new.is_sent ≡ true) }
-        ensures err { IfErr result (λ failure. failure ≡ Writing) }
-    {
-        match self.writer.flush() {
-            Ok(()) => {
-                self.is_sent = true;
-                Ok(())
-            }
-            Err(_) => Err(Obstacle::Writing),
         }
     }
 }
@@ -78,4 +73,59 @@ fn write_on<W: Write>(output: &mut W, text: &[u8]) -> Result<(), Obstacle>
         }
     }
     Err(Obstacle::Writing)
+}
+
+impl<W: Write> Sink for Output<W> {
+    ghost use Rattle.std.specs.Prelude.{true};
+
+    ghost contents = { λ output. W.contents output.writer };
+
+    ghost is_sent = { λ output. output.is_sent };
+
+    ghost can_fail = { true };
+
+    #[inline(always)]
+    fn take(&mut self, bytes: &[u8]) -> Result<(), Obstacle> {
+        self.is_sent = false;
+        match self.writer.write(bytes) {
+            Ok(n) if n == bytes.len() => Ok(()),
+            Ok(0) => Err(Obstacle::Writing),
+            Ok(n) => write_on(&mut self.writer, &bytes[n..]),
+            Err(error) if error.kind() == io::ErrorKind::Interrupted => {
+                write_on(&mut self.writer, bytes)
+            }
+            Err(_) => Err(Obstacle::Writing),
+        }
+    }
+
+    fn send(&mut self) -> Result<(), Obstacle> {
+        match self.writer.flush() {
+            Ok(()) => {
+                self.is_sent = true;
+                Ok(())
+            }
+            Err(_) => Err(Obstacle::Writing),
+        }
+    }
+}
+
+impl Sink for Vec<u8> {
+    ghost use Rattle.std.specs.Prelude.{Some, true, false};
+
+    ghost contents = { λ bytes. Some bytes.items };
+
+    ghost is_sent = { λ _. true };
+
+    ghost can_fail = { false };
+
+    fn take(&mut self, bytes: &[u8]) -> Result<(), Obstacle> {
+        match self.extend_from_slice(bytes) {
+            Ok(()) => Ok(()),
+            Err(_) => Err(Obstacle::Memory),
+        }
+    }
+
+    fn send(&mut self) -> Result<(), Obstacle> {
+        Ok(())
+    }
 }

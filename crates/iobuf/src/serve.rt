@@ -1,9 +1,9 @@
 // A session of either half, over any reader and writers.
 ghost use Rattle.std.specs.Prelude.{◌≡◌, ◌≢◌, [], ◌∷◌, codes, map, true, false, Ok, Err, Some, None, IfErr, IfNone, IfSome, OnOk};
 ghost use Rattle.std.specs.Io.KnownBytes.{Appends};
+ghost use Rattle.iobuf.specs.Faults.{MayEnd};
 ghost use Rattle.iobuf.specs.Halves.{ServesHalf, half_word};
 ghost use Rattle.iobuf.specs.MachineSession.{HasMachineStatus, ServesMachine};
-ghost use Rattle.iobuf.specs.Reading.{input_left};
 ghost use Rattle.iobuf.specs.Session.{HasStatus, Serves};
 ghost use Rattle.iobuf.specs.Stops.{IsFlushed, IsStatus, stop_line};
 ghost use Rattle.iobuf.specs.declared.fault.Stop.TheVariants.{OtherWords};
@@ -12,8 +12,8 @@ mod buffers;
 mod machine;
 
 use crate::fault::{Obstacle, Stop, status, tell};
-use crate::input::Input;
-use crate::output::Output;
+use crate::input::{InMemory, Input, Source};
+use crate::output::{Output, Sink};
 use std::alloc::Global;
 use std::io::{self, Read, Write};
 
@@ -27,23 +27,43 @@ pub enum Half {
 }
 
 // Answers each line of the input.
-fn serve_half<R: Read + Drop, W: Write>(
+fn answer_lines<I: Source, O: Sink>(
     alloc: Global,
     half: Half,
-    input: &mut Input<R>,
-    output: &mut Output<W>,
+    input: &mut I,
+    output: &mut O,
 ) -> Result<(), Stop>
-    ensures { IfSome (input_left R.remaining input.old) (λ read. IfSome (W.contents output.old.writer) (λ before.
-        ServesHalf half read before (W.contents output.new.writer) result)) }
+    ensures serves { IfSome (I.unread input.old) (λ read. IfSome (O.contents output.old) (λ before.
+        ServesHalf half read before (O.contents output.new) result)) }
+    ensures end { MayEnd I.can_fail O.can_fail result }
 {
     match half {
-        Half::Buffers => buffers::serve(alloc, input, output),
-        Half::Machine => machine::serve(alloc, input, output),
+        Half::Buffers => buffers::answer_lines(alloc, input, output),
+        Half::Machine => machine::answer_lines(alloc, input, output),
     }
 }
 
+/// Answers each line of the input, and flushes the last replies.
+pub fn over_source<I: Source, O: Sink>(
+    alloc: Global,
+    half: Half,
+    input: &mut I,
+    output: &mut O,
+) -> Result<(), Stop>
+    ensures serves { IfSome (I.unread input.old) (λ read. IfSome (O.contents output.old) (λ before.
+        ServesHalf half read before (O.contents output.new) result)) }
+    ensures end { MayEnd I.can_fail O.can_fail result }
+    ensures flushed { IsFlushed result (O.is_sent output.new) }
+{
+    let served = answer_lines(alloc, half, input, output);
+    if let Err(fault) = output.send() {
+        return Err(Stop::CannotContinue(fault));
+    }
+    served
+}
+
 // Answers each line of a reader, and flushes the last replies.
-fn run<R: Read + Drop, W: Write>(
+fn over_reader<R: Read + Drop, W: Write>(
     alloc: Global,
     half: Half,
     input: R,
@@ -51,18 +71,26 @@ fn run<R: Read + Drop, W: Write>(
 ) -> Result<(), Stop>
     ensures serves { IfSome (R.remaining input) (λ read. IfSome (W.contents output.old.writer) (λ before.
         ServesHalf half read before (W.contents output.new.writer) result)) }
-    ensures sent { OnOk result (output.new.is_sent ≡ true) }
     ensures flushed { IsFlushed result output.new.is_sent }
 {
-    let mut input = match Input::new(alloc, input) {
-        Ok(input) => input,
-        Err(_) => return Err(Stop::CannotContinue(Obstacle::Memory)),
-    };
-    let served = serve_half(alloc, half, &mut input, output);
-    if let Err(failure) = output.send() {
-        return Err(Stop::CannotContinue(failure));
+    if let Ok(mut input) = Input::new(alloc, input) {
+        return over_source(alloc, half, &mut input, output);
     }
-    served
+    match output.send() {
+        Ok(()) => Err(Stop::CannotContinue(Obstacle::Memory)),
+        Err(fault) => Err(Stop::CannotContinue(fault)),
+    }
+}
+
+/// A session over bytes in memory: how it ends, and what it prints. It ends early only at a line that is no command, or
+/// not UTF-8, if there are too many lines, or if an allocation fails.
+pub fn in_memory(alloc: Global, half: Half, input: &[u8]) -> (Result<(), Stop>, Vec<u8>)
+    ensures serves { ServesHalf half input.now [] (Some result.1.items) result.0 }
+    ensures end { MayEnd false false result.0 }
+{
+    let mut output = Vec::new(alloc);
+    let ended = over_source(alloc, half, &mut InMemory::new(alloc, input), &mut output);
+    (ended, output)
 }
 
 // The half that the words after the program's name ask for.
@@ -98,7 +126,7 @@ pub fn session<R: Read + Drop, W: Write, E: Write>(
     ensures silent { OnOk result.0 (errors.new ≡ errors.old) }
 {
     let ended = match half_of(args) {
-        Some(half) => run(alloc, half, input, output),
+        Some(half) => over_reader(alloc, half, input, output),
         None => Err(Stop::OtherWords),
     };
     let told = match &ended {

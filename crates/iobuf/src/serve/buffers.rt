@@ -1,18 +1,17 @@
 // Named buffers, line by line.
 ghost use Rattle.std.specs.Prelude.{IfSome};
-ghost use Rattle.iobuf.specs.Reading.{input_left};
+ghost use Rattle.iobuf.specs.Faults.{MayEnd};
 ghost use Rattle.iobuf.specs.Session.{AnswersLine, Serves};
 
 use crate::fault::{Obstacle, Stop};
-use crate::input::{Input, stop_at, text};
-use crate::output::Output;
+use crate::input::{Source, stop_at, text};
+use crate::output::Sink;
 use iobuf_lines::buffers::line::command;
 use iobuf_lines::buffers::reply::{push_line, push_shown};
 use iobuf_lines::words::LineError;
 use iobufs_run::command::{Cmd, Reply};
 use iobufs_run::table::Table;
 use std::alloc::Global;
-use std::io::{Read, Write};
 
 // How many names there are.
 const NAMES: usize = 16;
@@ -47,13 +46,14 @@ fn answer<'r>(
 }
 
 /// Answers each line of the input by a table of named buffers.
-pub fn serve<R: Read + Drop, W: Write>(
+pub fn answer_lines<I: Source, O: Sink>(
     alloc: Global,
-    input: &mut Input<R>,
-    output: &mut Output<W>,
+    input: &mut I,
+    output: &mut O,
 ) -> Result<(), Stop>
-    ensures { IfSome (input_left R.remaining input.old) (λ read. IfSome (W.contents output.old.writer) (λ before.
-        Serves read before (W.contents output.new.writer) result)) }
+    ensures serves { IfSome (I.unread input.old) (λ read. IfSome (O.contents output.old) (λ before.
+        Serves read before (O.contents output.new) result)) }
+    ensures end { MayEnd I.can_fail O.can_fail result }
 {
     let Ok(mut table) = Table::new(alloc, NAMES) else {
         return Err(Stop::CannotContinue(Obstacle::Memory));

@@ -1,26 +1,26 @@
 // The owner machine, line by line.
 ghost use Rattle.std.specs.Prelude.{IfSome};
+ghost use Rattle.iobuf.specs.Faults.{MayEnd};
 ghost use Rattle.iobuf.specs.MachineSession.{AnswersMachineLine, MakesMachine, ServesMachine};
-ghost use Rattle.iobuf.specs.Reading.{input_left};
 
 use crate::fault::{Obstacle, Stop};
-use crate::input::{Input, stop_at, text};
-use crate::output::Output;
+use crate::input::{Source, stop_at, text};
+use crate::output::Sink;
 use iobuf_lines::owner::line::{first_line, further_line};
 use iobuf_lines::owner::session;
 use iobuf_lines::words::LineError;
 use iobufs_owner::owner::Machine;
 use std::alloc::Global;
-use std::io::{Read, Write};
 
 /// Answers each line of the input by an owner machine, which the first line asks for.
-pub fn serve<R: Read + Drop, W: Write>(
+pub fn answer_lines<I: Source, O: Sink>(
     alloc: Global,
-    input: &mut Input<R>,
-    output: &mut Output<W>,
+    input: &mut I,
+    output: &mut O,
 ) -> Result<(), Stop>
-    ensures { IfSome (input_left R.remaining input.old) (λ read. IfSome (W.contents output.old.writer) (λ before.
-        ServesMachine read before (W.contents output.new.writer) result)) }
+    ensures serves { IfSome (I.unread input.old) (λ read. IfSome (O.contents output.old) (λ before.
+        ServesMachine read before (O.contents output.new) result)) }
+    ensures end { MayEnd I.can_fail O.can_fail result }
 {
     match input.read_line(output) {
         Ok(true) => {}
