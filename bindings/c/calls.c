@@ -196,6 +196,11 @@ static void texts(void) {
     CHECK(text_is(&t, "hello worldabcdefghi") && view_is(&v, ""));
     OK(iobufs_clone(&t, &u));
     CHECK(iobufs_split_to(&t, 21, &u) == IOBUFS_OUT_OF_RANGE && text_is(&u, "hello worldabcdefghi"));
+    OK(iobufs_slice(&t, 9, 15, &u));
+    CHECK(text_is(&u, "ldabcd") && iobufs_chunk_count(&u) == 3 && iobufs_len(&t) == 20);
+    CHECK(iobufs_slice(&t, 3, 21, &u) == IOBUFS_OUT_OF_RANGE && iobufs_slice(&t, 3, 2, &u) == IOBUFS_OUT_OF_RANGE && text_is(&u, "ldabcd"));
+    OK(iobufs_slice(&t, 20, 20, &u));
+    CHECK(text_is(&u, "") && text_is(&t, "hello worldabcdefghi"));
     OK(iobufs_split_to(&t, 12, &u));
     CHECK(text_is(&u, "hello worlda") && text_is(&t, "bcdefghi"));
     CHECK(iobufs_advance(&t, 9) == IOBUFS_OUT_OF_RANGE);
@@ -401,7 +406,8 @@ static void prefixes(void) {
     static const struct { uint8_t prefix; const char *bytes; size_t n; } cases[] = {
         { IOBUFS_VARINT, "\3abc", 4 }, { IOBUFS_U16_BE, "\0\3abc", 5 }, { IOBUFS_U32_BE, "\0\0\0\3abc", 7 },
         { IOBUFS_U64_BE, "\0\0\0\0\0\0\0\3abc", 11 }, { IOBUFS_U16_LE, "\3\0abc", 5 }, { IOBUFS_U32_LE, "\3\0\0\0abc", 7 },
-        { IOBUFS_U64_LE, "\3\0\0\0\0\0\0\0abc", 11 },
+        { IOBUFS_U64_LE, "\3\0\0\0\0\0\0\0abc", 11 }, { IOBUFS_U8, "\3abc", 4 }, { IOBUFS_U24_BE, "\0\0\3abc", 6 },
+        { IOBUFS_U24_LE, "\3\0\0abc", 6 },
     };
     FRAMES(f); VIEW(v);
     size_t wrong = 0;
@@ -413,7 +419,7 @@ static void prefixes(void) {
         OK(iobufs_frames_next(&f, 0, 3, &v, &wrong));
         CHECK(view_is(&v, "abc") && iobufs_frames_len(&f) == 0);
     }
-    CHECK(iobufs_frames_set_prefix(&f, 7) == IOBUFS_BAD_KIND && iobufs_frames_set_prefix(&f, 255) == IOBUFS_BAD_KIND);
+    CHECK(iobufs_frames_set_prefix(&f, 10) == IOBUFS_BAD_KIND && iobufs_frames_set_prefix(&f, 255) == IOBUFS_BAD_KIND);
     iobufs_frames_drop(&f); iobuf_drop(&v);
 }
 

@@ -110,6 +110,17 @@ static struct text split(struct text *t, size_t at) {
     text_rest(t, at);
     return front;
 }
+static struct text sliced(const struct text *t, size_t lo, size_t hi) {
+    struct text out;
+    no_text(&out);
+    for (size_t i = 0, at = 0; i < t->count && at < hi; at += t->piece[i++].len) {
+        size_t from = lo > at ? lo - at : 0, to = hi - at < t->piece[i].len ? hi - at : t->piece[i].len;
+        if (from >= to) continue;
+        struct view v = between(&t->piece[i], from, to);
+        push(&out, &v);
+    }
+    return out;
+}
 static size_t row_len(const struct row *r) { size_t n = 0; for (size_t i = 0; i < r->count; i++) n += r->part[i].len; return n; }
 static size_t row_capacity(const struct row *r) { size_t n = 0; for (size_t i = 0; i < r->count; i++) n += r->part[i].capacity; return n; }
 static void keep_parts(struct row *r) {
@@ -334,7 +345,7 @@ static void text_call(int i, int j, int k) {
     size_t len = text_len(t), n = about(len), m;
     uint8_t byte;
     int full = t->count > 12 || len + v->len > MOST;
-    switch (full ? 4 + below(10) : below(14)) {
+    switch (full ? 4 + below(11) : below(15)) {
     case 0: OK(iobufs_append(at, &view_at[k])); push(t, v); *v = no_bytes; break;
     case 1:
         OK(iobufs_prepend(at, &view_at[k]));
@@ -390,6 +401,10 @@ static void text_call(int i, int j, int k) {
         bytes_of(t, all);
         OK(iobufs_get_u32(at, &four)); CHECK(four == number_of(all, 4)); text_advance(t, 4); break;
     }
+    case 14:
+        m = about(len);
+        if (n > m || m > len) { CHECK(iobufs_slice(at, n, m, to) == IOBUFS_OUT_OF_RANGE); break; }
+        OK(iobufs_slice(at, n, m, to)); drop_text(out); *out = sliced(t, n, m); break;
     }
     same_text(i); same_text(j); same_view(k);
 }

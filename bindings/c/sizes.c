@@ -107,6 +107,9 @@ static void texts(size_t count, size_t n) {
     OK(iobufs_take_after(&front, n / 2, all - n, &view));
     CHECK(view_shows(&view, n / 2, all - n + n / 2) && text_shows(&front, n, all - n + n / 2, all));
     iobuf_drop(&view), iobufs_drop(&front);
+    OK(iobufs_slice(&text, all / 5, all - 1, &front));
+    CHECK(text_shows(&front, n, all / 5, all - 1));
+    iobufs_drop(&front);
     OK(iobufs_split_to(&text, all / 3, &front));
     CHECK(text_shows(&front, n, 0, all / 3) && text_shows(&text, n, all / 3, all));
     OK(iobufs_copy_to_slice(&text, room, all / 3));
@@ -153,6 +156,7 @@ static void ranges(void) {
     CHECK(iobufs_is_empty(&front) && iobuf_is_empty(&out) && text_shows(&text, n, 0, n));
     CHECK(iobufs_take_after(&text, SIZE_MAX, 1, &out) == IOBUFS_END_OF_BUFFER);
     CHECK(iobufs_take_after(&text, FAR, SIZE_MAX - FAR, &out) == IOBUFS_END_OF_BUFFER);
+    CHECK(iobufs_slice(&text, 0, FAR, &front) == IOBUFS_OUT_OF_RANGE && iobufs_slice(&text, SIZE_MAX, n, &front) == IOBUFS_OUT_OF_RANGE);
     CHECK(iobufs_split_to(&text, FAR, &front) == IOBUFS_OUT_OF_RANGE && iobufs_advance(&text, SIZE_MAX) == IOBUFS_OUT_OF_RANGE);
     size_t index, offset;
     CHECK(iobufs_locate(&text, n, &index, &offset) == IOBUFS_OUT_OF_RANGE && iobufs_locate(&text, FAR, &index, &offset) == IOBUFS_OUT_OF_RANGE);

@@ -118,12 +118,13 @@ struct iobufs_chunk { const uint8_t *base; size_t len; };
 /* The bounds of a range. */
 enum iobufs_bound { IOBUFS_INCLUDED = 0, IOBUFS_EXCLUDED = 1, IOBUFS_UNBOUNDED = 2 };
 
-/* How the length before a frame is written: a varint, or a number of two, four or eight bytes, whose highest byte is the first
- * (BE) or the last (LE). */
+/* How the length before a frame is written: a varint, or a number of one, two, three, four or eight bytes, whose highest byte
+ * is the first (BE) or the last (LE). */
 enum iobufs_prefix {
     IOBUFS_VARINT = 0,
     IOBUFS_U16_BE = 1, IOBUFS_U32_BE = 2, IOBUFS_U64_BE = 3,
-    IOBUFS_U16_LE = 4, IOBUFS_U32_LE = 5, IOBUFS_U64_LE = 6
+    IOBUFS_U16_LE = 4, IOBUFS_U32_LE = 5, IOBUFS_U64_LE = 6,
+    IOBUFS_U8 = 7, IOBUFS_U24_BE = 8, IOBUFS_U24_LE = 9
 };
 
 /* ---- iobuf (IoBuf): a view of bytes, which shares their storage with its clones and slices ---- */
@@ -280,6 +281,9 @@ IOBUFS_CHECKED iobufs_status iobufs_append(struct iobufs_at *text, struct iobuf_
 IOBUFS_CHECKED iobufs_status iobufs_prepend(struct iobufs_at *text, struct iobuf_at *piece);
 /* Takes the first `at` bytes; IOBUFS_OUT_OF_RANGE if there are fewer; at times memory. (IoBufs::split_to) */
 IOBUFS_CHECKED iobufs_status iobufs_split_to(struct iobufs_at *text, size_t at, struct iobufs_at *out);
+/* The bytes from offset lo to hi, in their storage; IOBUFS_OUT_OF_RANGE if lo is above hi, or hi above the length; memory. It costs
+ * the chunks of that range alone. (own) */
+IOBUFS_CHECKED iobufs_status iobufs_slice(const struct iobufs_at *text, size_t lo, size_t hi, struct iobufs_at *out);
 /* Drops the first n bytes; IOBUFS_OUT_OF_RANGE if there are fewer. No memory. (Buf::advance) */
 IOBUFS_CHECKED iobufs_status iobufs_advance(struct iobufs_at *text, size_t n);
 /* Copies the first n bytes out and drops them; IOBUFS_END_OF_BUFFER if there are fewer. (Buf::copy_to_slice) */

@@ -1,9 +1,10 @@
 //! Values that are written and read, by traits with the names of the original's codec: `EncodeSize`, `Write`, `Read`, and
 //! what they write to and read from, `Sink`, `BufsMut` and `Source`.
 //!
-//! A number of a fixed size is written with its highest byte first, a `usize` as a length, and an `IoBuf` behind its length.
-//! What is read is a view of the buffer's own storage, where it lies in one piece. Where a value isn't read, the buffer is as
-//! it was (the original has dropped the length in front of a view then).
+//! A number of a fixed size is written with its highest byte first, a `usize` as a length, and an `IoBuf` after its length.
+//! A view that is read shares the buffer's storage, if it is in one chunk. If one of these isn't read, the buffer is unchanged (the
+//! original has dropped the length before a view then). A value of several parts is read whole or not at all by `Read::read_whole`.
+#![forbid(unsafe_code)]
 use crate::{Builder, Error, IoBuf, IoBufMut, IoBufs, IoBufsMut, TryGetError, length_size};
 use std::ops::{Bound, RangeBounds};
 
@@ -63,44 +64,35 @@ pub trait Source {
     fn try_get_u32(&mut self) -> Result<u32, TryGetError>;
     /// Reads a number of eight bytes.
     fn try_get_u64(&mut self) -> Result<u64, TryGetError>;
-    /// Reads the length in front, if it is in the range.
+    /// Reads the length at the front, if it is in the range.
     fn read_length(&mut self, range: &RangeCfg<usize>) -> Result<usize, Error>;
-    /// Reads the bytes behind a length, if this is in the range.
+    /// Reads the bytes after a length, if this is in the range.
     fn read_view(&mut self, range: &RangeCfg<usize>) -> Result<IoBuf, Error>;
 }
 
 macro_rules! reads {
-    ($($buffer:ty)*) => {$(
+    ($($buffer:ident)*) => {$(
+        reads! { $buffer, try_get_u8 u8, try_get_u16 u16, try_get_u32 u32, try_get_u64 u64 }
+    )*};
+    ($buffer:ident, $($get:ident $number:ty),*) => {
         impl Source for $buffer {
             fn remaining(&self) -> usize {
                 self.len()
             }
-
-            fn try_get_u8(&mut self) -> Result<u8, TryGetError> {
-                <$buffer>::try_get_u8(self)
-            }
-
-            fn try_get_u16(&mut self) -> Result<u16, TryGetError> {
-                <$buffer>::try_get_u16(self)
-            }
-
-            fn try_get_u32(&mut self) -> Result<u32, TryGetError> {
-                <$buffer>::try_get_u32(self)
-            }
-
-            fn try_get_u64(&mut self) -> Result<u64, TryGetError> {
-                <$buffer>::try_get_u64(self)
-            }
-
+            $(
+                fn $get(&mut self) -> Result<$number, TryGetError> {
+                    $buffer::$get(self)
+                }
+            )*
             fn read_length(&mut self, range: &RangeCfg<usize>) -> Result<usize, Error> {
-                <$buffer>::read_length(self, *range)
+                $buffer::read_length(self, *range)
             }
 
             fn read_view(&mut self, range: &RangeCfg<usize>) -> Result<IoBuf, Error> {
-                <$buffer>::read_view(self, *range)
+                $buffer::read_view(self, *range)
             }
         }
-    )*};
+    };
 }
 
 reads! { IoBuf IoBufs }
@@ -121,53 +113,35 @@ pub trait Sink {
     fn put_u32(&mut self, n: u32);
     /// Puts eight bytes, the highest of the number first.
     fn put_u64(&mut self, n: u64);
-    /// Puts the spelling of a length.
+    /// Puts a length as a varint.
     fn put_length(&mut self, n: usize);
 }
 
 macro_rules! writes {
-    ($($buffer:ty)*) => {$(
+    ($($buffer:ident)*) => {$(
+        writes! { $buffer, put_slice(src: &[u8]), put_bytes(value: u8, n: usize), put_u8(n: u8), put_u16(n: u16), put_u32(n: u32),
+            put_u64(n: u64), put_length(n: usize) }
+    )*};
+    ($buffer:ident, $($put:ident($($arg:ident: $type:ty),*)),*) => {
         impl Sink for $buffer {
             fn remaining_mut(&self) -> usize {
-                <$buffer>::remaining_mut(self)
+                $buffer::remaining_mut(self)
             }
-
-            fn put_slice(&mut self, src: &[u8]) {
-                <$buffer>::put_slice(self, src)
-            }
-
-            fn put_bytes(&mut self, value: u8, n: usize) {
-                <$buffer>::put_bytes(self, value, n)
-            }
-
-            fn put_u8(&mut self, n: u8) {
-                <$buffer>::put_u8(self, n)
-            }
-
-            fn put_u16(&mut self, n: u16) {
-                <$buffer>::put_u16(self, n)
-            }
-
-            fn put_u32(&mut self, n: u32) {
-                <$buffer>::put_u32(self, n)
-            }
-
-            fn put_u64(&mut self, n: u64) {
-                <$buffer>::put_u64(self, n)
-            }
-
-            fn put_length(&mut self, n: usize) {
-                <$buffer>::put_length(self, n)
-            }
+            $(
+                #[track_caller]
+                fn $put(&mut self, $($arg: $type),*) {
+                    $buffer::$put(self, $($arg),*)
+                }
+            )*
         }
-    )*};
+    };
 }
 
 writes! { IoBufMut IoBufsMut Builder }
 
 /// A destination that also takes whole views, with no copy: `Builder`.
 pub trait BufsMut: Sink {
-    /// Puts a view behind what was put and pushed.
+    /// Puts a view after what was put and pushed.
     fn push(&mut self, chunk: impl Into<IoBuf>);
 }
 
@@ -179,7 +153,7 @@ impl BufsMut for Builder {
 
 /// How many bytes a value is written as.
 pub trait EncodeSize {
-    /// All of them. Panics where they are more than `usize::MAX`.
+    /// All of them. Panics if they are more than `usize::MAX`.
     fn encode_size(&self) -> usize;
 
     /// Those that `write_bufs` doesn't push.
@@ -190,7 +164,7 @@ pub trait EncodeSize {
 
 /// A value that is written.
 pub trait Write {
-    /// Puts it. Panics where there is no room.
+    /// Puts it. Panics if it doesn't fit.
     fn write(&self, buf: &mut impl Sink);
 
     /// Puts it, with views pushed and not copied.
@@ -204,8 +178,18 @@ pub trait Read: Sized {
     /// The requirements on the value.
     type Cfg;
 
-    /// Reads a value from the front. Where that is refused, the buffer is as it was.
+    /// Reads a value from the front. An error of a number, a length or a view leaves the buffer unchanged; a value of several parts
+    /// has then dropped those before the one that failed.
     fn read_cfg(buf: &mut impl Source, cfg: &Self::Cfg) -> Result<Self, Error>;
+
+    /// Reads a value from the front, as `read_cfg` does, from a clone of the buffer, so an error (or a panic) leaves it unchanged.
+    /// (own)
+    fn read_whole(buf: &mut (impl Source + Clone), cfg: &Self::Cfg) -> Result<Self, Error> {
+        let mut rest = buf.clone();
+        let value = Self::read_cfg(&mut rest, cfg)?;
+        *buf = rest;
+        Ok(value)
+    }
 }
 
 /// A source of one whole value: a buffer to write is frozen first.
@@ -232,7 +216,7 @@ impl Input for IoBufsMut {
 
 /// Decoding of a whole buffer.
 pub trait Decode: Read {
-    /// The value that is all of the buffer; `Error::ExtraData` where bytes are left behind it.
+    /// The value that is all of the buffer; `Error::ExtraData` if bytes are left after it.
     fn decode_cfg(buf: impl Input, cfg: &Self::Cfg) -> Result<Self, Error> {
         let mut buf = buf.into();
         let value = Self::read_cfg(&mut buf, cfg)?;
@@ -258,7 +242,7 @@ pub trait Encode: EncodeSize + Write {
 
 impl<T: EncodeSize + Write> Encode for T {}
 
-/// Encoding into a text.
+/// Encoding into an `IoBufs`.
 pub trait EncodeExt: EncodeSize + Write {
     /// The written value, whose views are not copied.
     fn encode_iobufs(&self) -> IoBufs {

@@ -1,33 +1,35 @@
 //! The byte buffers of commonware-runtime (`src/iobuf`): `IoBuf`, `IoBufMut`, `IoBufs`, `IoBufsMut`, `Builder`, `Frames`,
 //! over the static library `libiobufs.a`, which is proved in Rattle.
 //!
-//! Names, arguments and panics are the original's. It has no dependency, so methods of the traits of the crate `bytes` are
-//! methods here. If an allocation fails, the process ends, as it does if one of std's collections can't allocate.
-//! `try_with_capacity`, `try_zeroed` and `try_copy_from_slice` return an error instead. Clones, splits and appends allocate too:
-//! headers, and lists of chunks.
+//! Names, arguments and panics are the original's. Without the feature `bytes` the methods of that crate's traits are methods
+//! here. If an allocation fails, the process ends, as it does if one of std's collections can't allocate. `try_with_capacity`,
+//! `try_zeroed` and `try_copy_from_slice` return an error instead. Clones, splits and appends allocate too: headers, and lists of
+//! chunks.
 //!
 //! A view of a `Vec`, or of any owner of bytes (`IoBuf::from_owner`), copies nothing. The owner lives until the last buffer made
-//! of it is dropped; a text drops the owner of a chunk with its last byte. A view of one byte keeps its whole block, as a clone of
-//! a `Bytes` does. An owner's `Drop` runs inside the call that drops that buffer. Writable buffers copy.
+//! of it is dropped; an `IoBufs` drops the owner of a chunk with its last byte. A view of one byte keeps its whole block, as a clone
+//! of a `Bytes` does. An owner's `Drop` runs inside the call that drops that buffer. Writable buffers copy.
 //!
 //! With the feature `bytes` (1.9 or later) the buffers have the traits `Buf` and `BufMut` of that crate. A `Bytes` or `BytesMut`
 //! becomes a view, and a view a `Bytes`, without a copy. Bytes that are put by `chunk_mut` and `advance_mut` are copied once more
 //! than by `put_slice`, since the library lends no space that isn't readable.
 //!
 //! These differ from the original: the method `copy_to_bytes` returns an `IoBuf` (that of the trait a `Bytes`); `set_len` is
-//! safe, and new bytes are zero; an alignment is tested and not promised; `as_mut_ptr` is missing; `put` of any reader needs
-//! the feature. Values (`codec`) are numbers, lengths, views, and types of a caller's own.
-//!
-//! What each `unsafe` block does is call the library; the comment names the duties of `iobufs.h` that it meets. Duties
-//! that all meet: (1) a buffer's memory is made by `.._init` in `Memory::made`, may move, and is dropped once by `Drop`, or
-//! forgotten where a call left it empty, since what it held is in another buffer; (2) places of one call are of different
-//! variables, since a `&mut` or an owned buffer is one of them; (3) a call that changes a buffer has it by `&mut` or owned,
-//! and others only look; (6) Rust doesn't call from signal handlers.
+//! safe, and new bytes are zero; an alignment is tested and not promised; `put` of any reader needs the feature. `as_mut_ptr` is
+//! missing, since space that isn't readable has no address here: in place of writing there before `set_len(n)`, put the bytes, or
+//! call `set_len(n)` first and write over the zeros by `as_mut()`. Values (`codec`) are numbers, lengths, views, and types of a
+//! caller's own.
+#![deny(unsafe_code)]
+#![warn(clippy::undocumented_unsafe_blocks)]
+
 pub mod codec;
+mod io;
+#[allow(unsafe_code)]
 mod owner;
 mod part;
 mod parts;
 mod streams;
+#[allow(unsafe_code)]
 mod sys;
 mod text;
 #[cfg(feature = "bytes")]
@@ -45,22 +47,31 @@ use traits::Scratch;
 
 /// Without the feature `bytes` nothing is lent.
 #[cfg(not(feature = "bytes"))]
-type Scratch = std::marker::PhantomData<()>;
+#[derive(Default)]
+struct Scratch {}
+
+#[cfg(not(feature = "bytes"))]
+impl Scratch {
+    fn pass<'a>(&mut self, _: impl FnOnce() -> (usize, &'a [u8])) {}
+}
 
 use std::alloc::{self, Layout};
 use std::ops::{Bound, RangeBounds};
 use std::{fmt, process};
+
+/// The original's message for bytes that don't fit, or aren't there.
+const PAST: &str = "cannot advance past end of buffer";
 
 /// Why a value was not read (the codec's `Error`).
 #[derive(Clone, Copy, Debug, PartialEq, Eq)]
 pub enum Error {
     /// Fewer bytes are left than were asked for.
     EndOfBuffer,
-    /// The bytes spell no length.
+    /// The bytes are no varint.
     InvalidVarint,
     /// The length, which is told, is outside the range.
     InvalidLength(usize),
-    /// So many bytes are left behind a value that was to be all.
+    /// So many bytes are left after a value that was to be all.
     ExtraData(usize),
 }
 
@@ -108,10 +119,9 @@ impl fmt::Display for Error {
 
 impl std::error::Error for Error {}
 
-/// How many bytes spell a length.
+/// How many bytes a length has as a varint.
 pub fn length_size(n: usize) -> usize {
-    // SAFETY: it asks for nothing.
-    unsafe { sys::iobufs_length_size(n) }
+    sys::iobufs_length_size(n)
 }
 
 /// Ends the process, as Rust's collections do if an allocation fails. Says of how many bytes, if the call asked for bytes.
@@ -132,6 +142,14 @@ fn done(status: u8, message: &str) {
     if status != sys::OK {
         failed(status, None, message);
     }
+}
+
+/// Returns what a call made, after its status was taken as by `done`.
+#[inline]
+#[track_caller]
+fn made<T>((made, status): (T, u8), message: &str) -> T {
+    done(status, message);
+    made
 }
 
 /// Ends the process or panics, as `done` says.
@@ -159,11 +177,6 @@ fn tried<T>(status: u8, bytes: usize, made: T) -> Result<T, AllocError> {
         sys::OK => Ok(made),
         _ => Err(AllocError { bytes }),
     }
-}
-
-/// A pointer that is not null, for no bytes (duty 4).
-fn no_bytes() -> *const u8 {
-    std::ptr::NonNull::dangling().as_ptr()
 }
 
 /// The lowest and the highest length of a range; of an empty one, none.
@@ -210,29 +223,24 @@ fn read(status: u8, length: impl FnOnce() -> usize) -> Result<(), Error> {
     }
 }
 
-/// Equality with bytes, as the original has it, and the methods of slices.
-macro_rules! as_bytes {
-    ($buffer:ty) => {
-        impl PartialEq<[u8]> for $buffer {
-            fn eq(&self, other: &[u8]) -> bool {
-                self.as_ref() == other
+/// Equality with bytes, as the original has it, by the method `has`.
+macro_rules! equals_bytes {
+    ($buffer:ident) => {
+        crate::equals_bytes! { $buffer, [] [u8], [] &[u8], [const N: usize] [u8; N], [const N: usize] &[u8; N] }
+    };
+    ($buffer:ident, $([$($param:tt)*] $bytes:ty),*) => {$(
+        impl<$($param)*> PartialEq<$bytes> for $buffer {
+            fn eq(&self, other: &$bytes) -> bool {
+                self.has(&other[..])
             }
         }
-        impl PartialEq<&[u8]> for $buffer {
-            fn eq(&self, other: &&[u8]) -> bool {
-                self.as_ref() == *other
-            }
-        }
-        impl<const N: usize> PartialEq<[u8; N]> for $buffer {
-            fn eq(&self, other: &[u8; N]) -> bool {
-                self.as_ref() == other
-            }
-        }
-        impl<const N: usize> PartialEq<&[u8; N]> for $buffer {
-            fn eq(&self, other: &&[u8; N]) -> bool {
-                self.as_ref() == *other
-            }
-        }
+    )*};
+}
+pub(crate) use equals_bytes;
+
+/// The methods of slices.
+macro_rules! derefs {
+    ($buffer:ident) => {
         impl std::ops::Deref for $buffer {
             type Target = [u8];
 
@@ -240,28 +248,62 @@ macro_rules! as_bytes {
                 self.as_ref()
             }
         }
+
+        impl $buffer {
+            fn has(&self, bytes: &[u8]) -> bool {
+                self.as_ref() == bytes
+            }
+        }
     };
 }
-pub(crate) use as_bytes;
+pub(crate) use derefs;
 
-/// Numbers are put by the calls of their names.
+/// What writable buffers and a builder have alike: puts at the end, by these calls.
 macro_rules! puts {
-    ($($number:ty, $put:ident, $call:path;)*) => {$(
-        /// Puts a number, the highest byte first. Panics where there is no room (`BufMut`).
+    ($room:path, $bytes:path, $length:path; $($number:ty, $put:ident, $call:path;)*) => {
+        /// How many bytes may still be put (`BufMut`).
+        #[inline]
+        pub fn remaining_mut(&self) -> usize {
+            $room(&mut self.0.look())
+        }
+
+        /// Puts bytes. Panics if they don't fit (`BufMut`).
         #[inline]
         #[track_caller]
-        pub fn $put(&mut self, n: $number) {
-            // SAFETY: duties 1 and 3.
-            done(unsafe { $call(&mut self.0.at(), n) }, "cannot advance past end of buffer");
+        pub fn put_slice(&mut self, src: &[u8]) {
+            done(self.0.at().put_slice(src), crate::PAST);
         }
-    )*};
+
+        /// Puts a byte `n` times. Panics if they don't fit (`BufMut`).
+        #[inline]
+        #[track_caller]
+        pub fn put_bytes(&mut self, value: u8, n: usize) {
+            done($bytes(&mut self.0.at(), value, n), crate::PAST);
+        }
+
+        /// Puts a length as a varint. Panics if it doesn't fit (`usize::write`).
+        #[inline]
+        #[track_caller]
+        pub fn put_length(&mut self, n: usize) {
+            done($length(&mut self.0.at(), n), crate::PAST);
+        }
+
+        $(
+            /// Puts a number, the highest byte first. Panics if it doesn't fit (`BufMut`).
+            #[inline]
+            #[track_caller]
+            pub fn $put(&mut self, n: $number) {
+                done($call(&mut self.0.at(), n), crate::PAST);
+            }
+        )*
+    };
 }
 pub(crate) use puts;
 
-/// As `copy_to_slice`, where there are enough bytes.
+/// `try_copy_to_slice`, by `copy_to_slice`.
 macro_rules! try_copy {
     () => {
-        /// As `copy_to_slice`, where there are enough bytes; else nothing changes, and both lengths are told (`Buf`).
+        /// Acts as `copy_to_slice`, if there are enough bytes; else nothing changes, and the error has both lengths (`Buf`).
         pub fn try_copy_to_slice(&mut self, dst: &mut [u8]) -> Result<(), crate::TryGetError> {
             let (requested, available) = (dst.len(), self.remaining());
             if requested > available {
@@ -274,11 +316,52 @@ macro_rules! try_copy {
 }
 pub(crate) use try_copy;
 
-/// Numbers, lengths and views are read by the calls of their names.
+/// What `IoBuf` and `IoBufs` have alike: reads from the front, by the calls of their names.
 macro_rules! gets {
-    ($length:path, $view:path; $($number:ty, $get:ident, $try_get:ident, $call:path;)*) => {
+    ($($number:ty, $get:ident, $try_get:ident;)*) => {
+        /// Whether there are no bytes.
+        #[inline]
+        pub fn is_empty(&self) -> bool {
+            self.len() == 0
+        }
+
+        /// How many bytes are left (`Buf`).
+        #[inline]
+        pub fn remaining(&self) -> usize {
+            self.len()
+        }
+
+        /// Whether bytes are left (`Buf`).
+        #[inline]
+        pub fn has_remaining(&self) -> bool {
+            !self.is_empty()
+        }
+
+        /// Drops the first `n` bytes. Panics if there are fewer (`Buf`).
+        #[inline]
+        #[track_caller]
+        pub fn advance(&mut self, n: usize) {
+            done(self.0.advance(n), crate::PAST);
+        }
+
+        /// Fills `dst` with the first bytes, and drops these. Panics if there are fewer (`Buf`).
+        #[inline]
+        #[track_caller]
+        pub fn copy_to_slice(&mut self, dst: &mut [u8]) {
+            done(self.0.copy_to_slice(dst), "Not enough bytes remaining in buffer");
+        }
+
+        crate::try_copy!();
+
+        /// `take_owned`, by the name that the original has for a result of `Bytes`.
+        #[track_caller]
+        pub fn copy_to_bytes(&mut self, n: usize) -> IoBuf {
+            assert!(n <= self.len(), "copy_to_bytes out of bounds");
+            self.take_owned(n)
+        }
+
         $(
-            /// Reads the number in front, the highest byte first. Panics where there are fewer bytes (`Buf`).
+            /// Reads the number at the front, the highest byte first. Panics if there are fewer bytes (`Buf`).
             #[inline]
             #[track_caller]
             pub fn $get(&mut self) -> $number {
@@ -290,39 +373,35 @@ macro_rules! gets {
                 }
             }
 
-            /// Reads the number in front, the highest byte first; where there are fewer bytes, nothing changes (`Buf`).
+            /// Reads the number at the front, the highest byte first; if there are fewer bytes, nothing changes (`Buf`).
             #[inline]
             pub fn $try_get(&mut self) -> Result<$number, crate::TryGetError> {
                 let mut n = 0;
-                // SAFETY: duties 1 to 3.
-                match self.0.cut(|from| unsafe { $call(from, &mut n) }) {
+                match self.0.$get(&mut n) {
                     sys::OK => Ok(n),
                     _ => Err(crate::TryGetError { requested: size_of::<$number>(), available: self.len() }),
                 }
             }
         )*
 
-        /// Reads the length in front, if it is in the range (`usize::read_cfg`).
+        /// Reads the length at the front, if it is in the range (`usize::read_cfg`).
         pub fn read_length(&mut self, range: impl RangeBounds<usize>) -> Result<usize, Error> {
             let ((lo, hi), mut n) = (limits(range), 0);
-            // SAFETY: duties 1 to 3.
-            let status = self.0.cut(|from| unsafe { $length(from, lo, hi, &mut n) });
-            read(status, || n)?;
+            read(self.0.read_length(lo, hi, &mut n), || n)?;
             Ok(n)
         }
 
-        /// Reads the bytes behind a length in the range, as one view: shared within a piece, copied across pieces
+        /// Reads the bytes after a length in the range, as one view: shared within a chunk, copied across chunks
         /// (`IoBuf::read_cfg`).
         pub fn read_view(&mut self, range: impl RangeBounds<usize>) -> Result<IoBuf, Error> {
-            let ((lo, hi), mut n, mut out) = (limits(range), 0, IoBuf::default());
-            // SAFETY: duties 1 to 3.
-            let status = self.0.take(&mut out.0, |from, out| unsafe { $view(from, lo, hi, out) });
+            let ((lo, hi), mut n) = (limits(range), 0);
+            let (view, status) = self.0.read_view(lo, hi);
+            // A length that is outside the range is read again, for the error.
             read(status, || {
-                // SAFETY: the same. The length is outside again, and returned.
-                self.0.cut(|from| unsafe { $length(from, lo, hi, &mut n) });
+                self.0.read_length(lo, hi, &mut n);
                 n
             })?;
-            Ok(out)
+            Ok(IoBuf(view))
         }
     };
 }

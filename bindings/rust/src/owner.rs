@@ -1,30 +1,52 @@
 //! Owners of memory that isn't the library's.
 //!
-//! The library takes a view of such memory for static, so its owner is kept here: beside a view, and beside a text for each
-//! chunk. A view keeps its owner until it is dropped. A text, a builder and frames keep the owner of a chunk until its last byte
-//! is taken. No call can leave an owner out: what makes a buffer of other buffers' bytes writes it to a `Made`, what moves a
-//! view takes it as `Moved`, and what takes bytes from the front of a text takes it as `Cut`. Only this module makes these.
-use crate::no_bytes;
-use crate::sys::{self, At, Memory};
+//! The library takes a view of such memory for static, so its owner is kept here: with a view, and with an `IoBufs` for each
+//! chunk. A view keeps its owner until it is dropped. An `IoBufs`, a builder and frames keep the owner of a chunk until its last
+//! byte is taken. No call leaves an owner out: those that let two buffers share bytes, move a view, or drop bytes from the front
+//! are declared in this module alone.
+//!
+//! An owner's `Drop` is foreign code, which may panic: each call changes its buffers and what is kept first, and then drops.
+use crate::sys::{self, At, Builder, Frames, Iobuf, IobufMut, Iobufs, Kind, Look, Memory};
 use std::any::Any;
 use std::collections::VecDeque;
-use std::mem::ManuallyDrop;
-use std::slice;
+use std::mem::{self, ManuallyDrop};
 use std::sync::Arc;
 
-/// The place of a buffer that a call makes of other buffers' bytes.
-#[repr(transparent)]
-pub struct Made<const N: usize>(At<N>);
+// SAFETY: the signatures are those of the header, with a handle for a pointer to one (`sys` says which duties that meets).
+unsafe extern "C" {
+    fn iobuf_from_static(text: *const u8, n: usize, out: &mut At<Iobuf>);
+    safe fn iobuf_clone(src: &mut Look<Iobuf>, out: &mut At<Iobuf>) -> u8;
+    safe fn iobuf_split_to(src: &mut At<Iobuf>, at: usize, out: &mut At<Iobuf>) -> u8;
+    safe fn iobuf_take(src: &mut At<Iobuf>, n: usize, out: &mut At<Iobuf>) -> u8;
+    safe fn iobuf_slice(src: &mut Look<Iobuf>, lo_kind: u8, lo: usize, hi_kind: u8, hi: usize, out: &mut At<Iobuf>) -> u8;
+    safe fn iobuf_read_view(src: &mut At<Iobuf>, lo: usize, hi: usize, out: &mut At<Iobuf>) -> u8;
 
-/// The place of a view that a call moves into another buffer.
-#[repr(transparent)]
-pub struct Moved(At<{ sys::VIEW }>);
+    safe fn iobufs_from_view(src: &mut At<Iobuf>, out: &mut At<Iobufs>);
+    safe fn iobufs_clone(text: &mut Look<Iobufs>, out: &mut At<Iobufs>) -> u8;
+    safe fn iobufs_append(text: &mut At<Iobufs>, piece: &mut At<Iobuf>) -> u8;
+    safe fn iobufs_prepend(text: &mut At<Iobufs>, piece: &mut At<Iobuf>) -> u8;
+    safe fn iobufs_split_to(text: &mut At<Iobufs>, at: usize, out: &mut At<Iobufs>) -> u8;
+    safe fn iobufs_slice(text: &mut Look<Iobufs>, lo: usize, hi: usize, out: &mut At<Iobufs>) -> u8;
+    safe fn iobufs_advance(text: &mut At<Iobufs>, n: usize) -> u8;
+    fn iobufs_copy_to_slice(text: &mut At<Iobufs>, dst: *mut u8, n: usize) -> u8;
+    safe fn iobufs_take(text: &mut At<Iobufs>, n: usize, out: &mut At<Iobuf>) -> u8;
+    safe fn iobufs_coalesce(text: &mut At<Iobufs>, out: &mut At<Iobuf>) -> u8;
+    safe fn iobufs_try_into_single(text: &mut At<Iobufs>, out: &mut At<Iobuf>) -> u8;
+    safe fn iobufs_read_length(text: &mut At<Iobufs>, lo: usize, hi: usize, out: &mut usize) -> u8;
+    safe fn iobufs_read_view(text: &mut At<Iobufs>, lo: usize, hi: usize, out: &mut At<Iobuf>) -> u8;
+    safe fn iobufs_get_u8(text: &mut At<Iobufs>, out: &mut u8) -> u8;
+    safe fn iobufs_get_u16(text: &mut At<Iobufs>, out: &mut u16) -> u8;
+    safe fn iobufs_get_u32(text: &mut At<Iobufs>, out: &mut u32) -> u8;
+    safe fn iobufs_get_u64(text: &mut At<Iobufs>, out: &mut u64) -> u8;
 
-/// The place of a buffer from whose front a call takes bytes.
-#[repr(transparent)]
-pub struct Cut<const N: usize>(At<N>);
+    safe fn iobufs_builder_push(builder: &mut At<Builder>, piece: &mut At<Iobuf>) -> u8;
+    safe fn iobufs_builder_finish(builder: &mut At<Builder>, out: &mut At<Iobufs>) -> u8;
 
-/// An owner of memory. It is dropped with its last clone; nothing else reaches it, except `View::vec`.
+    safe fn iobufs_frames_feed(frames: &mut At<Frames>, piece: &mut At<Iobuf>) -> u8;
+    safe fn iobufs_frames_next(frames: &mut At<Frames>, lo: usize, hi: usize, out: &mut At<Iobuf>, wrong: &mut usize) -> u8;
+}
+
+/// An owner of memory, which is dropped with its last clone.
 #[derive(Clone)]
 struct Owner(Arc<dyn Any + Send + Sync>);
 
@@ -37,7 +59,7 @@ impl std::panic::UnwindSafe for Owner {}
 /// The paths of a view with an owner are cold, so that the others pay for a test alone. The owner is dropped by hand, since a
 /// field that is dropped after `Drop::drop` costs each view a saved register.
 pub(crate) struct View {
-    memory: Memory<{ sys::VIEW }>,
+    memory: Memory<Iobuf>,
     owner: ManuallyDrop<Option<Owner>>,
 }
 
@@ -45,69 +67,50 @@ impl View {
     /// The empty view.
     #[inline]
     pub(crate) fn new() -> Self {
-        Self::of(Memory::new(sys::iobuf_init))
+        Self::of(Memory::new())
     }
 
     /// The view in this memory, whose bytes are the library's.
     #[inline]
-    pub(crate) fn of(memory: Memory<{ sys::VIEW }>) -> Self {
+    pub(crate) fn of(memory: Memory<Iobuf>) -> Self {
         View { memory, owner: ManuallyDrop::new(None) }
+    }
+
+    pub(crate) fn of_static(bytes: &'static [u8]) -> Self {
+        let mut view = View::new();
+        // SAFETY: duty 4: `'static` bytes outlive every buffer, and never change.
+        unsafe { iobuf_from_static(bytes.as_ptr(), bytes.len(), &mut view.at()) };
+        view
     }
 
     /// Makes a view of the bytes of `owner`, which is asked for them once.
     pub(crate) fn of_owner<T: AsRef<[u8]> + Send + Sync + 'static>(owner: T) -> Self {
         let owner = Arc::new(owner);
-        let bytes: &[u8] = (*owner).as_ref();
+        let (bytes, mut view): (&[u8], _) = ((*owner).as_ref(), View::new());
         if bytes.is_empty() {
-            return View::new();
+            return view;
         }
-        let mut view = View::new();
-        // SAFETY: duty 4: the bytes stay, unchanged, until `owner` is dropped, since only `vec` reaches it, alone. It lies in an
-        // `Arc`, so it didn't move since. Each buffer that is made of the view keeps it.
-        unsafe { sys::iobuf_from_static(bytes.as_ptr(), bytes.len(), &mut view.at()) };
+        // SAFETY: duty 4: the bytes stay, unchanged, until `owner` is dropped: it is in an `Arc`, so it doesn't move, and nothing
+        // gets a `&mut` of it. Each buffer that is made of the view keeps it.
+        unsafe { iobuf_from_static(bytes.as_ptr(), bytes.len(), &mut view.at()) };
         *view.owner = Some(Owner(owner));
         view
     }
 
-    /// The place, for calls that move no bytes into another buffer.
     #[inline]
-    pub(crate) fn at(&self) -> At<{ sys::VIEW }> {
+    pub(crate) fn look(&self) -> Look<'_, Iobuf> {
+        self.memory.look()
+    }
+
+    #[inline]
+    pub(crate) fn at(&mut self) -> At<'_, Iobuf> {
         self.memory.at()
     }
 
     /// The bytes.
     #[inline]
     pub(crate) fn bytes(&self) -> &[u8] {
-        let mut at = no_bytes();
-        // SAFETY: duty 5: the bytes may be read until `self` is changed or dropped, which the borrow rules out.
-        unsafe {
-            let n = sys::iobuf_chunk(&mut self.at(), &mut at);
-            slice::from_raw_parts(at, n)
-        }
-    }
-
-    /// Makes a view of bytes of this one by a call.
-    #[inline]
-    pub(crate) fn part(&self, call: impl FnOnce(&mut At<{ sys::VIEW }>, &mut Made<{ sys::VIEW }>)) -> Self {
-        // The owner is counted before the memory moves: otherwise that moves twice.
-        let (memory, owner) = Memory::made(sys::iobuf_init, |out| {
-            call(&mut self.at(), &mut Made(out));
-            Option::clone(&self.owner)
-        });
-        View { memory, owner: ManuallyDrop::new(owner) }
-    }
-
-    /// Takes bytes from the front by a call.
-    #[inline]
-    pub(crate) fn cut<R>(&mut self, call: impl FnOnce(&mut At<{ sys::VIEW }>) -> R) -> R {
-        call(&mut self.at())
-    }
-
-    /// Takes a view from the front by a call, whose result it returns.
-    #[inline]
-    pub(crate) fn take<R>(&mut self, out: &mut View, call: impl FnOnce(&mut At<{ sys::VIEW }>, &mut Made<{ sys::VIEW }>) -> R) -> R {
-        *out.owner = Option::clone(&self.owner);
-        call(&mut self.at(), &mut Made(out.at()))
+        self.look().chunk()
     }
 
     /// Whether the bytes aren't the library's.
@@ -116,15 +119,71 @@ impl View {
         self.owner.is_some()
     }
 
-    /// The `Vec` that owns the bytes, if no other buffer keeps it.
-    pub(crate) fn vec(&mut self) -> Option<&mut Vec<u8>> {
-        Arc::get_mut(&mut self.owner.as_mut()?.0)?.downcast_mut()
+    /// Recovers the storage of the library's bytes, and returns the call's status too.
+    #[inline]
+    pub(crate) fn recovered(&mut self) -> (Memory<IobufMut>, u8) {
+        self.memory.made(|mut view, mut out| sys::iobuf_try_into_mut(&mut view, &mut out))
     }
 
     /// The owner of the bytes, if it is a `T`.
-    #[cfg(feature = "bytes")]
     pub(crate) fn owner<T: Any>(&self) -> Option<&T> {
         self.owner.as_ref()?.0.downcast_ref()
+    }
+
+    /// Whether no other buffer keeps the owner.
+    pub(crate) fn is_sole(&self) -> bool {
+        self.owner.as_ref().is_some_and(|owner| Arc::strong_count(&owner.0) == 1)
+    }
+}
+
+// Each makes a view of bytes of this one by a call, after whose status `check` may panic.
+impl View {
+    #[inline]
+    #[track_caller]
+    pub(crate) fn same(&self, check: impl FnOnce(u8)) -> Self {
+        self.shared(|view, out| iobuf_clone(view, out), check)
+    }
+
+    #[inline]
+    #[track_caller]
+    pub(crate) fn slice(&self, lo_kind: u8, lo: usize, hi_kind: u8, hi: usize, check: impl FnOnce(u8)) -> Self {
+        self.shared(|view, out| iobuf_slice(view, lo_kind, lo, hi_kind, hi, out), check)
+    }
+
+    #[inline]
+    #[track_caller]
+    pub(crate) fn split_to(&mut self, n: usize, check: impl FnOnce(u8)) -> Self {
+        self.part(|view, out| iobuf_split_to(view, n, out), check)
+    }
+
+    #[inline]
+    pub(crate) fn take(&mut self, n: usize, check: impl FnOnce(u8)) -> Self {
+        self.part(|view, out| iobuf_take(view, n, out), check)
+    }
+
+    #[inline]
+    pub(crate) fn read_view(&mut self, lo: usize, hi: usize) -> (Self, u8) {
+        let mut status = 0;
+        (self.part(|view, out| iobuf_read_view(view, lo, hi, out), |it| status = it), status)
+    }
+
+    // The owner is counted before the memory moves: otherwise that moves twice.
+    #[inline]
+    fn shared(&self, call: impl FnOnce(&mut Look<Iobuf>, &mut At<Iobuf>) -> u8, check: impl FnOnce(u8)) -> Self {
+        let (memory, owner) = self.memory.shared(|mut view, mut out| {
+            check(call(&mut view, &mut out));
+            Option::clone(&self.owner)
+        });
+        View { memory, owner: ManuallyDrop::new(owner) }
+    }
+
+    #[inline]
+    fn part(&mut self, call: impl FnOnce(&mut At<Iobuf>, &mut At<Iobuf>) -> u8, check: impl FnOnce(u8)) -> Self {
+        let (memory, owner) = self.memory.made(|mut view, mut out| {
+            check(call(&mut view, &mut out));
+            Option::clone(&self.owner)
+        });
+        View { memory, owner: ManuallyDrop::new(owner) }
     }
 }
 
@@ -134,8 +193,7 @@ impl Drop for View {
         if self.owner.is_some() {
             return self.drop_both();
         }
-        // SAFETY: duty 1: the memory isn't used after it.
-        unsafe { sys::iobuf_drop(&mut self.at()) }
+        sys::iobuf_drop(&mut self.at());
     }
 }
 
@@ -143,90 +201,57 @@ impl View {
     /// Drops the view, and then the owner of its bytes.
     #[cold]
     fn drop_both(&mut self) {
-        // SAFETY: duty 1: the memory isn't used after it; nor is the owner, which is dropped once.
-        unsafe {
-            sys::iobuf_drop(&mut self.at());
-            ManuallyDrop::drop(&mut self.owner);
-        }
+        sys::iobuf_drop(&mut self.at());
+        // SAFETY: it isn't used after this, since the view is being dropped.
+        unsafe { ManuallyDrop::drop(&mut self.owner) }
     }
 }
 
-/// A chunk of an owner's memory.
+/// A chunk of an owner's memory: the positions of its first byte and after its last, and its owner.
 #[derive(Clone)]
 struct Chunk {
-    /// Its address, by which a view that a call took finds its owner.
-    at: usize,
-    len: usize,
-    /// Where it ends, counted as `Chunks::end` is.
-    end: u64,
+    start: i128,
+    end: i128,
     owner: Owner,
 }
 
-impl Chunk {
-    /// Whether an address is in it.
-    fn contains(&self, at: usize) -> bool {
-        at.wrapping_sub(self.at) < self.len
-    }
-}
-
-/// The chunks of a text that have an owner, in order.
+/// The chunks of a buffer that have an owner, in order. They are found by position, since owners may share addresses.
 #[derive(Clone, Default)]
-pub(crate) struct Chunks {
-    /// The end of the text, counted from anywhere, modulo 2^64.
-    end: u64,
+struct Chunks {
+    /// The position after the buffer's last byte. Positions count bytes from anywhere.
+    end: i128,
+    /// How many bytes fitted into a builder at `end`.
+    room: usize,
     list: VecDeque<Chunk>,
 }
 
-/// How many bytes the buffer at a place has.
-pub(crate) trait Length {
-    fn length(&mut self) -> usize;
-}
-
-impl Length for At<{ sys::TEXT }> {
-    #[inline]
-    fn length(&mut self) -> usize {
-        // SAFETY: it only looks (duty 3).
-        unsafe { sys::iobufs_len(self) }
-    }
-}
-
-impl Length for At<{ sys::FRAMES }> {
-    #[inline]
-    fn length(&mut self) -> usize {
-        // SAFETY: it only looks (duty 3).
-        unsafe { sys::iobufs_frames_len(self) }
-    }
-}
-
-/// A text, a builder or frames, and the owners of chunks that aren't the library's: one word, null until the first.
-pub(crate) struct Text<const N: usize> {
-    memory: Memory<N>,
+/// An `IoBufs`, a builder or frames, and the owners of chunks that aren't the library's: one word, null until the first.
+pub(crate) struct Chunked<K: Kind> {
+    memory: Memory<K>,
     owners: Option<Box<Chunks>>,
 }
 
-impl<const N: usize> Text<N> {
-    /// An empty buffer, made by `init`.
+impl<K: Kind> Chunked<K> {
+    /// An empty buffer.
     #[inline]
-    pub(crate) fn new(init: sys::Init<N>) -> Self {
-        Self::of(Memory::new(init))
+    pub(crate) fn new() -> Self {
+        Self::of(Memory::new())
     }
 
     /// The buffer in this memory, whose bytes are the library's.
     #[inline]
-    pub(crate) fn of(memory: Memory<N>) -> Self {
-        Text { memory, owners: None }
+    pub(crate) fn of(memory: Memory<K>) -> Self {
+        Chunked { memory, owners: None }
     }
 
-    /// The place, for calls that neither take bytes nor move views in.
     #[inline]
-    pub(crate) fn at(&self) -> At<N> {
+    pub(crate) fn look(&self) -> Look<'_, K> {
+        self.memory.look()
+    }
+
+    #[inline]
+    pub(crate) fn at(&mut self) -> At<'_, K> {
         self.memory.at()
-    }
-
-    /// Whether an owner's memory was put in.
-    #[inline]
-    pub(crate) fn has_owners(&self) -> bool {
-        self.owners.is_some()
     }
 
     /// How many owners are kept.
@@ -234,179 +259,310 @@ impl<const N: usize> Text<N> {
         self.owners.as_ref().map_or(0, |chunks| chunks.list.len())
     }
 
-    /// Says that `n` bytes of the library's were put at the end.
-    pub(crate) fn pass(&mut self, n: usize) {
-        if let Some(chunks) = &mut self.owners {
-            chunks.end = chunks.end.wrapping_add(n as u64);
-        }
-    }
-
     /// Moves a view to the end by a call, whose status it returns.
     #[inline]
-    pub(crate) fn put_back(&mut self, view: &mut View, call: impl FnOnce(&mut At<N>, &mut Moved) -> u8) -> u8 {
-        if self.has_owners() || view.is_lent() {
+    fn put_back(&mut self, view: &mut View, call: impl FnOnce(&mut At<K>, &mut At<Iobuf>) -> u8) -> u8 {
+        if self.owners.is_some() || view.is_lent() {
             return self.put_owned(view, None, call);
         }
-        call(&mut self.at(), &mut Moved(view.at()))
+        call(&mut self.memory.at(), &mut view.at())
     }
 
-    /// Moves a view in by a call: to the end, or to the front of so many bytes.
+    /// Moves a view by a call to the end, or to the front of so many bytes.
     #[cold]
-    fn put_owned(&mut self, view: &mut View, front: Option<usize>, call: impl FnOnce(&mut At<N>, &mut Moved) -> u8) -> u8 {
-        let (at, len) = (view.bytes().as_ptr() as usize, view.bytes().len());
+    fn put_owned(&mut self, view: &mut View, front: Option<usize>, call: impl FnOnce(&mut At<K>, &mut At<Iobuf>) -> u8) -> u8 {
+        let len = view.bytes().len();
+        let chunks = self.owners.get_or_insert_default();
         // Space for the owner is made first, since nothing may fail once the bytes are moved.
-        self.owners.get_or_insert_default().list.reserve(1);
-        let status = call(&mut self.memory.at(), &mut Moved(view.at()));
-        if let (sys::OK, Some(chunks)) = (status, &mut self.owners) {
-            chunks.moved(at, len, front, view.owner.take());
+        chunks.list.reserve(1);
+        let status = call(&mut self.memory.at(), &mut view.at());
+        if status == sys::OK {
+            // That of no bytes is dropped.
+            drop(chunks.moved(len, front, view.owner.take()));
         }
         status
     }
+}
 
-    /// Makes a text of the same bytes by a call.
-    #[inline]
-    pub(crate) fn same(&self, init: sys::Init<N>, call: impl FnOnce(&mut At<N>, &mut Made<N>)) -> Self {
-        let (memory, ()) = Memory::made(init, |out| call(&mut self.at(), &mut Made(out)));
-        Text { memory, owners: self.owners.clone() }
-    }
+/// A kind of buffer whose front is taken.
+pub(crate) trait Length: Kind + Sized {
+    fn length(look: &mut Look<Self>) -> usize;
+}
 
-    /// Makes another kind of text of the same bytes by a call, which leaves none.
+impl Length for Iobufs {
     #[inline]
-    pub(crate) fn finish<const M: usize>(&mut self, init: sys::Init<M>, call: impl FnOnce(&mut At<N>, &mut Made<M>)) -> Text<M> {
-        let (memory, ()) = Memory::made(init, |out| call(&mut self.at(), &mut Made(out)));
-        Text { memory, owners: self.owners.take() }
+    fn length(look: &mut Look<Self>) -> usize {
+        sys::iobufs_len(look)
     }
 }
 
-impl<const N: usize> Text<N>
-where
-    At<N>: Length,
-{
+impl Length for Frames {
+    #[inline]
+    fn length(look: &mut Look<Self>) -> usize {
+        sys::iobufs_frames_len(look)
+    }
+}
+
+impl<K: Length> Chunked<K> {
     /// The number of bytes.
     #[inline]
     pub(crate) fn len(&self) -> usize {
-        self.at().length()
-    }
-
-    /// Moves a view to the front by a call, whose status it returns.
-    #[inline]
-    pub(crate) fn put_front(&mut self, view: &mut View, call: impl FnOnce(&mut At<N>, &mut Moved) -> u8) -> u8 {
-        if self.has_owners() || view.is_lent() {
-            let len = self.len();
-            return self.put_owned(view, Some(len), call);
-        }
-        call(&mut self.at(), &mut Moved(view.at()))
+        K::length(&mut self.look())
     }
 
     /// Drops the owners of chunks that are gone.
     #[inline]
     fn settle(&mut self) {
-        if self.has_owners() {
+        if self.owners.is_some() {
             self.settle_chunks();
         }
     }
 
     #[cold]
     fn settle_chunks(&mut self) {
+        let len = self.len();
         if let Some(chunks) = &mut self.owners {
-            chunks.settle(self.memory.at().length() as u64);
+            chunks.settle(len);
         }
     }
 
-    /// Gives a view that was taken the owner of the memory that it shows.
+    /// Takes a view from the front by a call, and returns its status too. The view gets the owner of the chunk that it is in.
+    #[inline]
+    fn taken(&mut self, call: impl FnOnce(&mut At<K>, &mut At<Iobuf>) -> u8) -> (View, u8) {
+        let (memory, status) = self.memory.made(|mut from, mut out| call(&mut from, &mut out));
+        let mut out = View::of(memory);
+        if self.owners.is_some() {
+            self.give(&mut out);
+        }
+        (out, status)
+    }
+
     #[cold]
     fn give(&mut self, out: &mut View) {
         if let Some(chunks) = &self.owners {
-            *out.owner = chunks.owner_of(out.bytes(), self.len() as u64);
+            *out.owner = chunks.owner_of(out.bytes().len(), self.len());
         }
         self.settle_chunks();
     }
+}
 
-    /// Takes bytes from the front by a call, and drops the owners of chunks that are gone.
-    #[inline]
-    pub(crate) fn cut<R>(&mut self, call: impl FnOnce(&mut Cut<N>) -> R) -> R {
-        let result = call(&mut Cut(self.at()));
-        self.settle();
-        result
+/// Calls that drop bytes from the front, of a view and of an `IoBufs`; each returns its status.
+macro_rules! cuts {
+    ($($name:ident($($arg:ident: $type:ty),*) $of_view:expr, $of_chunks:expr;)*) => {
+        impl View {$(
+            #[inline]
+            pub(crate) fn $name(&mut self, $($arg: $type),*) -> u8 {
+                $of_view(&mut self.at(), $($arg),*)
+            }
+        )*}
+
+        impl Chunked<Iobufs> {$(
+            #[inline]
+            pub(crate) fn $name(&mut self, $($arg: $type),*) -> u8 {
+                let status = $of_chunks(&mut self.at(), $($arg),*);
+                self.settle();
+                status
+            }
+        )*}
+    };
+}
+
+cuts! {
+    advance(n: usize) sys::iobuf_advance, iobufs_advance;
+    copy_to_slice(dst: &mut [u8]) At::<Iobuf>::copy_to, copy_to;
+    read_length(lo: usize, hi: usize, n: &mut usize) sys::iobuf_read_length, iobufs_read_length;
+    get_u8(n: &mut u8) sys::iobuf_get_u8, iobufs_get_u8;
+    get_u16(n: &mut u16) sys::iobuf_get_u16, iobufs_get_u16;
+    get_u32(n: &mut u32) sys::iobuf_get_u32, iobufs_get_u32;
+    get_u64(n: &mut u64) sys::iobuf_get_u64, iobufs_get_u64;
+}
+
+#[inline]
+fn copy_to(text: &mut At<Iobufs>, dst: &mut [u8]) -> u8 {
+    // SAFETY: duty 4: the slice's pointer isn't null, it outlives the call, and its bytes may be written.
+    unsafe { iobufs_copy_to_slice(text, dst.as_mut_ptr(), dst.len()) }
+}
+
+impl Chunked<Iobufs> {
+    pub(crate) fn of_view(view: &mut View) -> Self {
+        let mut out = Self::new();
+        out.put_back(view, |out, view| {
+            iobufs_from_view(view, out);
+            sys::OK
+        });
+        out
     }
 
-    /// Takes a view from the front by a call, whose result it returns. The view gets the owner of the memory that it shows.
     #[inline]
-    pub(crate) fn take<R>(&mut self, out: &mut View, call: impl FnOnce(&mut Cut<N>, &mut Made<{ sys::VIEW }>) -> R) -> R {
-        let result = call(&mut Cut(self.at()), &mut Made(out.at()));
-        if self.has_owners() {
-            self.give(out);
+    pub(crate) fn append(&mut self, view: &mut View) -> u8 {
+        self.put_back(view, |to, view| iobufs_append(to, view))
+    }
+
+    #[inline]
+    pub(crate) fn prepend(&mut self, view: &mut View) -> u8 {
+        if self.owners.is_some() || view.is_lent() {
+            // The positions of chunks that are gone are given anew.
+            self.settle();
+            let len = self.len();
+            return self.put_owned(view, Some(len), |to, view| iobufs_prepend(to, view));
         }
-        result
+        iobufs_prepend(&mut self.at(), &mut view.at())
     }
 
-    /// Takes the first `n` bytes as a text by a call.
     #[inline]
-    pub(crate) fn split(&mut self, n: usize, init: sys::Init<N>, call: impl FnOnce(&mut Cut<N>, &mut Made<N>)) -> Self {
-        let owners = self.owners.as_ref().map(|chunks| Box::new(chunks.front(n as u64, self.len() as u64)));
-        let (memory, ()) = Memory::made(init, |out| call(&mut Cut(self.at()), &mut Made(out)));
-        self.settle();
-        Text { memory, owners }
+    pub(crate) fn take(&mut self, n: usize) -> (View, u8) {
+        self.taken(|from, out| iobufs_take(from, n, out))
+    }
+
+    #[inline]
+    pub(crate) fn coalesce(&mut self) -> (View, u8) {
+        self.taken(|from, out| iobufs_coalesce(from, out))
+    }
+
+    #[inline]
+    pub(crate) fn try_into_single(&mut self) -> (View, u8) {
+        self.taken(|from, out| iobufs_try_into_single(from, out))
+    }
+
+    #[inline]
+    pub(crate) fn read_view(&mut self, lo: usize, hi: usize) -> (View, u8) {
+        self.taken(|from, out| iobufs_read_view(from, lo, hi, out))
+    }
+
+    #[inline]
+    pub(crate) fn same(&self) -> (Self, u8) {
+        let (memory, status) = self.memory.shared(|mut from, mut out| iobufs_clone(&mut from, &mut out));
+        (Chunked { memory, owners: self.owners.clone() }, status)
+    }
+
+    #[inline]
+    pub(crate) fn slice(&self, lo: usize, hi: usize) -> (Self, u8) {
+        let (memory, status) = self.memory.shared(|mut from, mut out| iobufs_slice(&mut from, lo, hi, &mut out));
+        let owners = self.owners.as_ref().filter(|_| status == sys::OK);
+        (Chunked { memory, owners: owners.and_then(|chunks| chunks.slice(self.len() - lo, self.len() - hi)) }, status)
+    }
+
+    #[inline]
+    pub(crate) fn split_to(&mut self, n: usize) -> (Self, u8) {
+        let (memory, status) = self.memory.made(|mut from, mut out| iobufs_split_to(&mut from, n, &mut out));
+        let len = self.owners.as_ref().map(|_| self.len());
+        let owners = self.owners.as_mut().filter(|_| status == sys::OK).zip(len);
+        (Chunked { memory, owners: owners.and_then(|(chunks, len)| chunks.split(len)) }, status)
+    }
+}
+
+impl Chunked<Builder> {
+    #[inline]
+    pub(crate) fn push(&mut self, view: &mut View) -> u8 {
+        if view.is_lent() {
+            self.owners.get_or_insert_default();
+        }
+        self.pass();
+        self.put_back(view, |to, view| iobufs_builder_push(to, view))
+    }
+
+    #[inline]
+    pub(crate) fn finish(&mut self) -> (Chunked<Iobufs>, u8) {
+        self.pass();
+        let (memory, status) = self.memory.made(|mut builder, mut out| iobufs_builder_finish(&mut builder, &mut out));
+        (Chunked { memory, owners: self.owners.take() }, status)
+    }
+
+    /// Counts the bytes that were put since it last did, if owners are kept.
+    #[inline]
+    fn pass(&mut self) {
+        if let Some(chunks) = &mut self.owners {
+            let room = sys::iobufs_builder_remaining_mut(&mut self.memory.look());
+            chunks.end += chunks.room as i128 - room as i128;
+            chunks.room = room;
+        }
+    }
+}
+
+impl Chunked<Frames> {
+    #[inline]
+    pub(crate) fn feed(&mut self, view: &mut View) -> u8 {
+        self.put_back(view, |to, view| iobufs_frames_feed(to, view))
+    }
+
+    #[inline]
+    pub(crate) fn next(&mut self, lo: usize, hi: usize, wrong: &mut usize) -> (View, u8) {
+        self.taken(|from, out| iobufs_frames_next(from, lo, hi, out, wrong))
     }
 }
 
 impl Chunks {
-    /// A view of `len` bytes was moved to the end, or to the front of so many bytes.
-    fn moved(&mut self, at: usize, len: usize, front: Option<usize>, owner: Option<Owner>) {
-        if front.is_none() {
-            self.end = self.end.wrapping_add(len as u64);
+    /// Counts a view of `len` bytes at the end, or at the front of so many, and keeps its owner; that of no bytes comes back.
+    fn moved(&mut self, len: usize, front: Option<usize>, owner: Option<Owner>) -> Option<Owner> {
+        let end = match front {
+            Some(n) => self.end - n as i128,
+            None => self.end + len as i128,
+        };
+        self.end = self.end.max(end);
+        if len == 0 {
+            return owner;
         }
-        let Some(owner) = owner.filter(|_| len > 0) else { return };
-        let end = self.end.wrapping_sub(front.unwrap_or(0) as u64);
-        let chunk = Chunk { at, len, end, owner };
+        let chunk = Chunk { start: end - len as i128, end, owner: owner? };
         match front {
             Some(_) => self.list.push_front(chunk),
             None => self.list.push_back(chunk),
         }
+        None
     }
 
-    /// How many bytes follow a chunk.
-    fn after(&self, chunk: &Chunk) -> u64 {
-        self.end.wrapping_sub(chunk.end)
+    /// The owner of the last `n` bytes that were taken before the last `left`, if one chunk has them all: otherwise they were copied.
+    fn owner_of(&self, n: usize, left: usize) -> Option<Owner> {
+        let end = self.end - left as i128;
+        let start = end - n as i128;
+        let mut cut = self.list.iter().take_while(|chunk| n > 0 && chunk.start <= start);
+        cut.find(|chunk| end <= chunk.end).map(|chunk| chunk.owner.clone())
     }
 
-    /// The owner of bytes that were taken from the front, of which `left` are left.
-    fn owner_of(&self, bytes: &[u8], left: u64) -> Option<Owner> {
-        let at = bytes.first()? as *const u8 as usize;
-        let mut cut = self.list.iter().take_while(|chunk| self.after(chunk) + chunk.len as u64 > left);
-        cut.find(|chunk| chunk.contains(at)).map(|chunk| chunk.owner.clone())
-    }
-
-    /// Drops the owners of chunks that are gone, and the bytes that are gone of the first that isn't.
-    fn settle(&mut self, left: u64) {
-        while let Some(first) = self.list.front() {
-            let after = self.after(first);
-            if left > after {
-                self.trim(left - after);
+    /// Drops the owners of chunks before the last `left` bytes, one by one: one whose drop panics has left the list already. The
+    /// first chunk that stays begins there at the earliest.
+    fn settle(&mut self, left: usize) {
+        let front = self.end - left as i128;
+        while let Some(first) = self.list.front_mut() {
+            if first.end > front {
+                first.start = first.start.max(front);
                 return;
             }
-            // An owner whose drop panics has left the list already.
             drop(self.list.pop_front());
         }
     }
 
-    /// Keeps the last `n` bytes of the first chunk.
-    fn trim(&mut self, n: u64) {
-        if let Some(first) = self.list.front_mut() {
-            let gone = first.len.saturating_sub(n as usize);
-            first.at += gone;
-            first.len -= gone;
-        }
+    /// The chunks of a list, the last of which are cut off at a position; none if there are none.
+    fn of(mut list: VecDeque<Chunk>, end: i128) -> Option<Box<Chunks>> {
+        let last = list.back_mut()?;
+        last.end = last.end.min(end);
+        Some(Box::new(Chunks { end, room: 0, list }))
     }
 
-    /// The chunks of the first `n` bytes of the text, which has `len`; all of them if it has fewer.
-    fn front(&self, n: u64, len: u64) -> Chunks {
-        let left = len.saturating_sub(n);
-        let cut = self.list.iter().take_while(|chunk| self.after(chunk) + chunk.len as u64 > left);
-        let cut = cut.map(|chunk| {
-            let over = left.saturating_sub(self.after(chunk));
-            Chunk { len: chunk.len - over as usize, end: chunk.end.wrapping_sub(over), ..chunk.clone() }
-        });
-        Chunks { end: self.end.wrapping_sub(left), list: cut.collect() }
+    /// The chunks of the last `from` bytes without those of the last `to`.
+    fn slice(&self, from: usize, to: usize) -> Option<Box<Chunks>> {
+        let (start, end) = (self.end - from as i128, self.end - to as i128);
+        let first = self.list.partition_point(|chunk| chunk.end <= start);
+        let cut = self.list.range(first..).take_while(|chunk| start < end && chunk.start < end);
+        let mut list: VecDeque<Chunk> = cut.cloned().collect();
+        if let Some(first) = list.front_mut() {
+            first.start = first.start.max(start);
+        }
+        Chunks::of(list, end)
+    }
+
+    /// Takes the chunks before the last `left` bytes out, and moves those of the side that has fewer.
+    fn split(&mut self, left: usize) -> Option<Box<Chunks>> {
+        let end = self.end - left as i128;
+        let n = self.list.partition_point(|chunk| chunk.start < end);
+        let front = if n < self.list.len() / 2 {
+            self.list.drain(..n).collect()
+        } else {
+            let rest = self.list.split_off(n);
+            mem::replace(&mut self.list, rest)
+        };
+        if let Some(last) = front.back().filter(|last| last.end > end) {
+            self.list.push_front(Chunk { start: end, ..last.clone() });
+        }
+        Chunks::of(front, end)
     }
 }

@@ -1,4 +1,5 @@
 //! Frames over std's readers and writers.
+#![forbid(unsafe_code)]
 use crate::{Error, Frames, IoBuf, IoBufMut, IoBufs, Prefix};
 use std::io::{self, ErrorKind, IoSlice, Read, Write};
 use std::ops::RangeInclusive;
@@ -75,6 +76,7 @@ impl<R: Read> FrameReader<R> {
             match self.from.read(part.as_mut()) {
                 Err(error) if error.kind() == ErrorKind::Interrupted => {}
                 Err(error) => return Err(error),
+                Ok(n) if n > AT_ONCE => return Err(io::Error::other("a reader says that it read more than it was asked for")),
                 Ok(n) => {
                     part.truncate(n);
                     self.frames.feed(part.freeze());

@@ -1,76 +1,128 @@
-//! What the library exports (`bindings/include/iobufs.h`), and the memory of a buffer.
-use crate::owner::{Cut, Made, Moved};
+//! What the library exports (`bindings/include/iobufs.h`), the memory of a buffer, and its handles.
+//!
+//! `unsafe` is in this module and in `owner` alone. `iobufs.h` numbers the duties of a caller, and the comment of each block names
+//! those that it meets. A call is a `safe fn` if its types meet them all:
+//! 1. A handle is of memory that `Memory` made a buffer of. Memory may move. A buffer that isn't dropped only leaks.
+//! 2. The handles and pointers of one call don't overlap, since an `At` borrows its memory for itself, and a `&mut` its value.
+//! 3. One call at a time uses a buffer, but for calls that only look: these take a `Look`, and the others an `At`.
+//! 4. Pointers to bytes are those of slices, which aren't null and outlive the call.
+//! 5. Bytes that a call returns a pointer to are borrowed as long as the handle's memory.
+//! 6. Rust doesn't call from signal handlers.
 use std::cell::UnsafeCell;
+use std::io::IoSlice;
+use std::marker::PhantomData;
 use std::mem::MaybeUninit;
+use std::ptr::NonNull;
+use std::slice;
 use std::sync::atomic::{AtomicBool, Ordering::Relaxed};
 
-/// The memory of a buffer of `N` words. It lies in an `UnsafeCell`, since also calls that only look are lent it.
+/// A kind of buffer: its memory, and the call that makes an empty one of it.
+pub trait Kind {
+    type Room;
+    const INIT: unsafe extern "C" fn(*mut MaybeUninit<Self::Room>);
+}
+
+/// The memory of a buffer. It is in an `UnsafeCell`, since also calls that only look get a pointer to it that isn't const.
 #[repr(transparent)]
-pub struct Memory<const N: usize>(UnsafeCell<[MaybeUninit<u64>; N]>);
+pub struct Memory<K: Kind>(UnsafeCell<MaybeUninit<K::Room>>);
+
+/// A handle for one call: where the memory of a buffer is, which that call may change.
+#[repr(transparent)]
+pub struct At<'a, K: Kind>(*mut MaybeUninit<K::Room>, PhantomData<&'a mut K>);
+
+/// A handle for a call that only looks.
+#[repr(transparent)]
+pub struct Look<'a, K: Kind>(*mut MaybeUninit<K::Room>, PhantomData<&'a K>);
 
 /// Whether the sizes below are the library's.
 static COMPARED: AtomicBool = AtomicBool::new(false);
 
-/// Panics where a size isn't the library's: it would write beyond a buffer's memory.
-#[cold]
-fn compare_sizes() {
-    // SAFETY: they ask for nothing.
-    let sizes = unsafe {
-        [
-            iobuf_size(),
-            iobufmut_size(),
-            iobufs_size(),
-            iobufsmut_size(),
-            iobufs_builder_size(),
-            iobufs_frames_size(),
-        ]
+macro_rules! kinds {
+    ($($kind:ident, $words:literal, $size:ident, $init:ident;)*) => {
+        $(
+            pub enum $kind {}
+
+            impl Kind for $kind {
+                type Room = [u64; $words];
+                const INIT: unsafe extern "C" fn(*mut MaybeUninit<[u64; $words]>) = $init;
+            }
+        )*
+
+        /// Panics if a size isn't the library's: it would write beyond a buffer's memory.
+        #[cold]
+        fn compare_sizes() {
+            $(assert_eq!($size(), 8 * $words, "libiobufs.a is of another version than this crate");)*
+            assert_eq!(iobuf_align(), align_of::<u64>());
+            COMPARED.store(true, Relaxed);
+        }
+
+        unsafe extern "C" {
+            $(
+                safe fn $size() -> usize;
+                fn $init(at: *mut MaybeUninit<[u64; $words]>);
+            )*
+        }
     };
-    let words = [VIEW, PART, TEXT, PARTS, BUILDER, FRAMES].map(|words| 8 * words);
-    assert_eq!(sizes, words, "libiobufs.a is of another version than this crate");
-    // SAFETY: it asks for nothing.
-    assert_eq!(unsafe { iobuf_align() }, align_of::<u64>());
-    COMPARED.store(true, Relaxed);
 }
 
-/// A place: where that memory is, for one call.
-#[repr(C)]
-pub struct At<const N: usize>(*mut [MaybeUninit<u64>; N]);
+// Sizes in words, as the header's constants.
+kinds! {
+    Iobuf, 6, iobuf_size, iobuf_init;
+    IobufMut, 8, iobufmut_size, iobufmut_init;
+    Iobufs, 7, iobufs_size, iobufs_init;
+    IobufsMut, 23, iobufsmut_size, iobufsmut_init;
+    Builder, 15, iobufs_builder_size, iobufs_builder_init;
+    Frames, 8, iobufs_frames_size, iobufs_frames_init;
+}
 
-impl<const N: usize> Memory<N> {
-    /// An empty buffer, made by `init` of memory of the size that the library asks for.
+impl<K: Kind> Memory<K> {
+    /// An empty buffer.
     #[inline]
-    pub fn new(init: Init<N>) -> Self {
+    pub fn new() -> Self {
         if !COMPARED.load(Relaxed) {
             compare_sizes();
         }
-        Self::made(init, |_| ()).0
+        Self::filled(|_| ()).0
     }
 
-    /// A buffer that `init` makes empty and a call fills, and the call's result. The sizes were compared before: there is
-    /// another buffer. The call gets the memory before it moves, and what is returned moves once.
+    /// An empty buffer that a call fills before it moves, and the call's result.
     #[inline]
-    pub fn made<R>(init: Init<N>, call: impl FnOnce(At<N>) -> R) -> (Self, R) {
-        let memory = Memory(UnsafeCell::new([MaybeUninit::uninit(); N]));
-        // SAFETY: duty 1: the memory has the library's size, as was compared, and the alignment of a word; it may move
-        // after `init`.
-        unsafe { init(memory.0.get()) };
+    fn filled<R>(call: impl FnOnce(At<K>) -> R) -> (Self, R) {
+        let mut memory = Memory(UnsafeCell::new(MaybeUninit::uninit()));
+        // SAFETY: duty 1: the memory has the library's size, which was compared for the first buffer, and the alignment of a word.
+        unsafe { K::INIT(memory.0.get()) };
         let result = call(memory.at());
         (memory, result)
     }
 
-    /// The place, which is made anew for each call: the memory may have moved.
+    /// Makes a buffer by a call that changes this one, and returns the call's result too.
     #[inline]
-    pub fn at(&self) -> At<N> {
-        At(self.0.get())
+    pub fn made<J: Kind, R>(&mut self, call: impl FnOnce(At<K>, At<J>) -> R) -> (Memory<J>, R) {
+        Memory::filled(|out| call(self.at(), out))
+    }
+
+    /// Makes a buffer by a call that only looks at this one, and returns the call's result too.
+    #[inline]
+    pub fn shared<J: Kind, R>(&self, call: impl FnOnce(Look<K>, At<J>) -> R) -> (Memory<J>, R) {
+        Memory::filled(|out| call(self.look(), out))
+    }
+
+    #[inline]
+    pub fn at(&mut self) -> At<'_, K> {
+        At(self.0.get(), PhantomData)
+    }
+
+    #[inline]
+    pub fn look(&self) -> Look<'_, K> {
+        Look(self.0.get(), PhantomData)
     }
 }
 
-// SAFETY: duty 3: a buffer may go to another thread (its place is proved to), and calls that take `&self` here only look,
-// of which the header allows several at once.
-unsafe impl<const N: usize> Send for Memory<N> {}
-// SAFETY: the same.
-unsafe impl<const N: usize> Sync for Memory<N> {}
-impl<const N: usize> std::panic::RefUnwindSafe for Memory<N> {}
+// SAFETY: duty 3: a buffer may go to another thread (its handle is proved to).
+unsafe impl<K: Kind> Send for Memory<K> {}
+// SAFETY: duty 3: calls by a `&Memory` only look, and the header allows several at once.
+unsafe impl<K: Kind> Sync for Memory<K> {}
+impl<K: Kind> std::panic::RefUnwindSafe for Memory<K> {}
 
 pub const OK: u8 = 0;
 pub const MEMORY: u8 = 1;
@@ -78,155 +130,304 @@ pub const END_OF_BUFFER: u8 = 5;
 pub const INVALID_VARINT: u8 = 6;
 pub const INVALID_LENGTH: u8 = 7;
 
-/// A piece, as `struct iovec` and `IoSlice` say it.
+// SAFETY: the signatures are those of the header, with a handle for a pointer to one. Calls that let two buffers share bytes, or
+// drop an owner's, are declared in `owner`.
+unsafe extern "C" {
+    safe fn iobuf_align() -> usize;
+    pub safe fn iobuf_drop(src: &mut At<Iobuf>);
+    fn iobuf_copy_from_slice(src: *const u8, n: usize, out: &mut At<Iobuf>) -> u8;
+    pub safe fn iobuf_len(src: &mut Look<Iobuf>) -> usize;
+    safe fn iobuf_chunk(src: &mut Look<Iobuf>, out: &mut *const u8) -> usize;
+    pub safe fn iobuf_advance(src: &mut At<Iobuf>, n: usize) -> u8;
+    fn iobuf_copy_to_slice(src: &mut At<Iobuf>, dst: *mut u8, n: usize) -> u8;
+    pub safe fn iobuf_try_into_mut(src: &mut At<Iobuf>, out: &mut At<IobufMut>) -> u8;
+    pub safe fn iobuf_read_length(src: &mut At<Iobuf>, lo: usize, hi: usize, out: &mut usize) -> u8;
+    pub safe fn iobuf_get_u8(src: &mut At<Iobuf>, out: &mut u8) -> u8;
+    pub safe fn iobuf_get_u16(src: &mut At<Iobuf>, out: &mut u16) -> u8;
+    pub safe fn iobuf_get_u32(src: &mut At<Iobuf>, out: &mut u32) -> u8;
+    pub safe fn iobuf_get_u64(src: &mut At<Iobuf>, out: &mut u64) -> u8;
+
+    pub safe fn iobufmut_drop(part: &mut At<IobufMut>);
+    pub safe fn iobufmut_with_alignment(n: usize, align: usize, out: &mut At<IobufMut>) -> u8;
+    pub safe fn iobufmut_zeroed_with_alignment(n: usize, align: usize, out: &mut At<IobufMut>) -> u8;
+    fn iobufmut_copy_from_slice(src: *const u8, n: usize, out: &mut At<IobufMut>) -> u8;
+    pub safe fn iobufmut_from_view(src: &mut At<Iobuf>, out: &mut At<IobufMut>) -> u8;
+    pub safe fn iobufmut_len(part: &mut Look<IobufMut>) -> usize;
+    pub safe fn iobufmut_capacity(part: &mut Look<IobufMut>) -> usize;
+    pub safe fn iobufmut_remaining_mut(part: &mut Look<IobufMut>) -> usize;
+    safe fn iobufmut_chunk(part: &mut Look<IobufMut>, out: &mut *const u8) -> usize;
+    fn iobufmut_put_slice(part: &mut At<IobufMut>, src: *const u8, n: usize) -> u8;
+    pub safe fn iobufmut_put_bytes(part: &mut At<IobufMut>, value: u8, n: usize) -> u8;
+    pub safe fn iobufmut_put_u8(part: &mut At<IobufMut>, n: u8) -> u8;
+    pub safe fn iobufmut_put_u16(part: &mut At<IobufMut>, n: u16) -> u8;
+    pub safe fn iobufmut_put_u32(part: &mut At<IobufMut>, n: u32) -> u8;
+    pub safe fn iobufmut_put_u64(part: &mut At<IobufMut>, n: u64) -> u8;
+    pub safe fn iobufmut_put_length(part: &mut At<IobufMut>, n: usize) -> u8;
+    pub safe fn iobufmut_set_len(part: &mut At<IobufMut>, n: usize) -> u8;
+    pub safe fn iobufmut_truncate(part: &mut At<IobufMut>, n: usize);
+    pub safe fn iobufmut_advance(part: &mut At<IobufMut>, n: usize) -> u8;
+    fn iobufmut_copy_to_slice(part: &mut At<IobufMut>, dst: *mut u8, n: usize) -> u8;
+    pub safe fn iobufmut_freeze(part: &mut At<IobufMut>, out: &mut At<Iobuf>) -> u8;
+
+    pub safe fn iobufs_drop(text: &mut At<Iobufs>);
+    pub safe fn iobufs_len(text: &mut Look<Iobufs>) -> usize;
+    pub safe fn iobufs_is_single(text: &mut Look<Iobufs>) -> bool;
+    pub safe fn iobufs_chunk_count(text: &mut Look<Iobufs>) -> usize;
+    safe fn iobufs_chunk(text: &mut Look<Iobufs>, out: &mut *const u8) -> usize;
+    safe fn iobufs_chunk_at(text: &mut Look<Iobufs>, i: usize, out: &mut *const u8) -> usize;
+    fn iobufs_chunks_from(text: &mut Look<Iobufs>, first: usize, out: *mut Chunk, n: usize) -> usize;
+    pub safe fn iobufs_byte_at(text: &mut Look<Iobufs>, i: usize, out: &mut u8) -> bool;
+    pub safe fn iobufs_locate(text: &mut Look<Iobufs>, at: usize, index: &mut usize, offset: &mut usize) -> u8;
+
+    pub safe fn iobufsmut_drop(parts: &mut At<IobufsMut>);
+    pub safe fn iobufsmut_from_mut(part: &mut At<IobufMut>, out: &mut At<IobufsMut>);
+    fn iobufsmut_from_parts(places: *mut At<IobufMut>, n: usize, out: &mut At<IobufsMut>) -> u8;
+    pub safe fn iobufsmut_len(parts: &mut Look<IobufsMut>) -> usize;
+    pub safe fn iobufsmut_is_single(parts: &mut Look<IobufsMut>) -> bool;
+    pub safe fn iobufsmut_capacity(parts: &mut Look<IobufsMut>) -> usize;
+    pub safe fn iobufsmut_remaining_mut(parts: &mut Look<IobufsMut>) -> usize;
+    safe fn iobufsmut_chunk(parts: &mut Look<IobufsMut>, out: &mut *const u8) -> usize;
+    fn iobufsmut_chunks(parts: &mut Look<IobufsMut>, out: *mut Chunk, n: usize) -> usize;
+    fn iobufsmut_put_slice(parts: &mut At<IobufsMut>, src: *const u8, n: usize) -> u8;
+    pub safe fn iobufsmut_put_bytes(parts: &mut At<IobufsMut>, value: u8, n: usize) -> u8;
+    pub safe fn iobufsmut_put_u8(parts: &mut At<IobufsMut>, n: u8) -> u8;
+    pub safe fn iobufsmut_put_u16(parts: &mut At<IobufsMut>, n: u16) -> u8;
+    pub safe fn iobufsmut_put_u32(parts: &mut At<IobufsMut>, n: u32) -> u8;
+    pub safe fn iobufsmut_put_u64(parts: &mut At<IobufsMut>, n: u64) -> u8;
+    pub safe fn iobufsmut_put_length(parts: &mut At<IobufsMut>, n: usize) -> u8;
+    pub safe fn iobufsmut_set_len(parts: &mut At<IobufsMut>, n: usize) -> u8;
+    pub safe fn iobufsmut_advance(parts: &mut At<IobufsMut>, n: usize) -> u8;
+    fn iobufsmut_copy_to_slice(parts: &mut At<IobufsMut>, dst: *mut u8, n: usize) -> u8;
+    fn iobufsmut_copy_from_slice(parts: &mut At<IobufsMut>, src: *const u8, n: usize) -> u8;
+    pub safe fn iobufsmut_freeze(parts: &mut At<IobufsMut>, out: &mut At<Iobufs>) -> u8;
+    pub safe fn iobufsmut_coalesce(parts: &mut At<IobufsMut>, out: &mut At<IobufMut>) -> u8;
+    pub safe fn iobufsmut_try_into_single(parts: &mut At<IobufsMut>, out: &mut At<IobufMut>) -> u8;
+
+    pub safe fn iobufs_builder_drop(builder: &mut At<Builder>);
+    pub safe fn iobufs_builder_new(capacity: usize, out: &mut At<Builder>) -> u8;
+    pub safe fn iobufs_builder_remaining_mut(builder: &mut Look<Builder>) -> usize;
+    fn iobufs_builder_put_slice(builder: &mut At<Builder>, src: *const u8, n: usize) -> u8;
+    pub safe fn iobufs_builder_put_bytes(builder: &mut At<Builder>, value: u8, n: usize) -> u8;
+    pub safe fn iobufs_builder_put_u8(builder: &mut At<Builder>, n: u8) -> u8;
+    pub safe fn iobufs_builder_put_u16(builder: &mut At<Builder>, n: u16) -> u8;
+    pub safe fn iobufs_builder_put_u32(builder: &mut At<Builder>, n: u32) -> u8;
+    pub safe fn iobufs_builder_put_u64(builder: &mut At<Builder>, n: u64) -> u8;
+    pub safe fn iobufs_builder_put_length(builder: &mut At<Builder>, n: usize) -> u8;
+
+    pub safe fn iobufs_frames_drop(frames: &mut At<Frames>);
+    pub safe fn iobufs_frames_len(frames: &mut Look<Frames>) -> usize;
+    pub safe fn iobufs_frames_set_prefix(frames: &mut At<Frames>, kind: u8) -> u8;
+    pub safe fn iobufs_length_size(n: usize) -> usize;
+}
+
+/// Calls that copy a slice in (its pointer and length are the last arguments, or the first), and calls that fill one.
+macro_rules! of_slices {
+    ({ $($kind:ident $name:ident $call:ident;)* } { $($new:ident $copy:ident;)* } { $($from:ident $fill:ident;)* }) => {
+        $(
+            impl At<'_, $kind> {
+                #[inline]
+                pub fn $name(&mut self, src: &[u8]) -> u8 {
+                    // SAFETY: duty 4: the slice's pointer isn't null, and it outlives the call.
+                    unsafe { $call(self, src.as_ptr(), src.len()) }
+                }
+            }
+        )*
+        $(
+            impl At<'_, $new> {
+                #[inline]
+                pub fn copy_from(&mut self, src: &[u8]) -> u8 {
+                    // SAFETY: duty 4: the slice's pointer isn't null, and it outlives the call.
+                    unsafe { $copy(src.as_ptr(), src.len(), self) }
+                }
+            }
+        )*
+        $(
+            impl At<'_, $from> {
+                #[inline]
+                pub fn copy_to(&mut self, dst: &mut [u8]) -> u8 {
+                    // SAFETY: duty 4: the slice's pointer isn't null, it outlives the call, and its bytes may be written.
+                    unsafe { $fill(self, dst.as_mut_ptr(), dst.len()) }
+                }
+            }
+        )*
+    };
+}
+
+of_slices! {
+    {
+        IobufMut put_slice iobufmut_put_slice;
+        IobufsMut put_slice iobufsmut_put_slice;
+        IobufsMut copy_from iobufsmut_copy_from_slice;
+        Builder put_slice iobufs_builder_put_slice;
+    }
+    {
+        Iobuf iobuf_copy_from_slice;
+        IobufMut iobufmut_copy_from_slice;
+    }
+    {
+        Iobuf iobuf_copy_to_slice;
+        IobufMut iobufmut_copy_to_slice;
+        IobufsMut iobufsmut_copy_to_slice;
+    }
+}
+
+impl At<'_, IobufsMut> {
+    /// Makes it of these buffers, of which none are left.
+    pub fn set_parts(&mut self, parts: &mut [At<IobufMut>]) -> u8 {
+        // SAFETY: duty 4: the slice's pointer isn't null, and it outlives the call.
+        unsafe { iobufsmut_from_parts(parts.as_mut_ptr(), parts.len(), self) }
+    }
+}
+
+/// The pointer to no bytes, which isn't null.
+const NO_BYTES: *const u8 = NonNull::dangling().as_ptr();
+
+/// Bytes that are borrowed as long as their buffer's memory is.
+macro_rules! chunks {
+    ($($kind:ident $call:ident;)*) => {$(
+        impl<'a> Look<'a, $kind> {
+            /// The first chunk.
+            #[inline]
+            pub fn chunk(mut self) -> &'a [u8] {
+                let mut at = NO_BYTES;
+                let n = $call(&mut self, &mut at);
+                // SAFETY: duty 5: the bytes may be read until the buffer is changed or dropped, which `'a` rules out. Of none, the
+                // pointer isn't null.
+                unsafe { slice::from_raw_parts(at, n) }
+            }
+        }
+    )*};
+}
+
+chunks! {
+    Iobuf iobuf_chunk;
+    IobufMut iobufmut_chunk;
+    Iobufs iobufs_chunk;
+    IobufsMut iobufsmut_chunk;
+}
+
+impl<'a> At<'a, IobufMut> {
+    /// The bytes, to be written over.
+    #[inline]
+    pub fn chunk_mut(self) -> &'a mut [u8] {
+        let (mut look, mut at) = (Look(self.0, PhantomData), NO_BYTES);
+        let n = iobufmut_chunk(&mut look, &mut at);
+        // SAFETY: duty 5: as in `chunk`; these bytes may be written over too, and `'a` borrows the buffer for itself.
+        unsafe { slice::from_raw_parts_mut(at.cast_mut(), n) }
+    }
+}
+
+/// A chunk, as `struct iovec` and `IoSlice` have it.
 #[repr(C)]
 #[derive(Clone, Copy)]
-pub struct Chunk {
-    pub base: *const u8,
-    pub len: usize,
+struct Chunk {
+    base: *const u8,
+    len: usize,
 }
 
-/// Sizes in words, as the header's constants.
-pub const VIEW: usize = 6;
-pub const PART: usize = 8;
-pub const TEXT: usize = 7;
-pub const PARTS: usize = 23;
-pub const BUILDER: usize = 15;
-pub const FRAMES: usize = 8;
+/// How many chunks a batch has.
+pub const BATCH: usize = 32;
 
-type View = At<VIEW>;
-type Part = At<PART>;
-type Text = At<TEXT>;
-type Parts = At<PARTS>;
-type Builder = At<BUILDER>;
-type Frames = At<FRAMES>;
-type Room<const N: usize> = *mut [MaybeUninit<u64>; N];
-/// A call that makes an empty buffer of memory.
-pub type Init<const N: usize> = unsafe extern "C" fn(Room<N>);
-
-unsafe extern "C" {
-    pub fn iobuf_size() -> usize;
-    pub fn iobuf_align() -> usize;
-    pub fn iobuf_init(at: Room<VIEW>);
-    pub fn iobuf_drop(src: &mut View);
-    pub fn iobuf_copy_from_slice(src: *const u8, n: usize, out: &mut View) -> u8;
-    pub fn iobuf_from_static(text: *const u8, n: usize, out: &mut View);
-    pub fn iobuf_len(src: &mut View) -> usize;
-    pub fn iobuf_chunk(src: &mut View, out: &mut *const u8) -> usize;
-    pub fn iobuf_clone(src: &mut View, out: &mut Made<VIEW>) -> u8;
-    pub fn iobuf_advance(src: &mut View, n: usize) -> u8;
-    pub fn iobuf_split_to(src: &mut View, at: usize, out: &mut Made<VIEW>) -> u8;
-    pub fn iobuf_take(src: &mut View, n: usize, out: &mut Made<VIEW>) -> u8;
-    pub fn iobuf_copy_to_slice(src: &mut View, dst: *mut u8, n: usize) -> u8;
-    pub fn iobuf_slice(src: &mut View, lo_kind: u8, lo: usize, hi_kind: u8, hi: usize, out: &mut Made<VIEW>) -> u8;
-    pub fn iobuf_try_into_mut(src: &mut View, out: &mut Part) -> u8;
-    pub fn iobuf_read_length(src: &mut View, lo: usize, hi: usize, out: &mut usize) -> u8;
-    pub fn iobuf_read_view(src: &mut View, lo: usize, hi: usize, out: &mut Made<VIEW>) -> u8;
-    pub fn iobuf_get_u8(src: &mut View, out: &mut u8) -> u8;
-    pub fn iobuf_get_u16(src: &mut View, out: &mut u16) -> u8;
-    pub fn iobuf_get_u32(src: &mut View, out: &mut u32) -> u8;
-    pub fn iobuf_get_u64(src: &mut View, out: &mut u64) -> u8;
-
-    pub fn iobufmut_size() -> usize;
-    pub fn iobufmut_init(at: Room<PART>);
-    pub fn iobufmut_drop(part: &mut Part);
-    pub fn iobufmut_with_alignment(n: usize, align: usize, out: &mut Part) -> u8;
-    pub fn iobufmut_zeroed_with_alignment(n: usize, align: usize, out: &mut Part) -> u8;
-    pub fn iobufmut_copy_from_slice(src: *const u8, n: usize, out: &mut Part) -> u8;
-    pub fn iobufmut_from_view(src: &mut View, out: &mut Part) -> u8;
-    pub fn iobufmut_len(part: &mut Part) -> usize;
-    pub fn iobufmut_capacity(part: &mut Part) -> usize;
-    pub fn iobufmut_remaining_mut(part: &mut Part) -> usize;
-    pub fn iobufmut_chunk(part: &mut Part, out: &mut *mut u8) -> usize;
-    pub fn iobufmut_put_slice(part: &mut Part, src: *const u8, n: usize) -> u8;
-    pub fn iobufmut_put_bytes(part: &mut Part, value: u8, n: usize) -> u8;
-    pub fn iobufmut_put_u8(part: &mut Part, n: u8) -> u8;
-    pub fn iobufmut_put_u16(part: &mut Part, n: u16) -> u8;
-    pub fn iobufmut_put_u32(part: &mut Part, n: u32) -> u8;
-    pub fn iobufmut_put_u64(part: &mut Part, n: u64) -> u8;
-    pub fn iobufmut_put_length(part: &mut Part, n: usize) -> u8;
-    pub fn iobufmut_set_len(part: &mut Part, n: usize) -> u8;
-    pub fn iobufmut_truncate(part: &mut Part, n: usize);
-    pub fn iobufmut_advance(part: &mut Part, n: usize) -> u8;
-    pub fn iobufmut_copy_to_slice(part: &mut Part, dst: *mut u8, n: usize) -> u8;
-    pub fn iobufmut_freeze(part: &mut Part, out: &mut View) -> u8;
-
-    pub fn iobufs_size() -> usize;
-    pub fn iobufs_init(at: Room<TEXT>);
-    pub fn iobufs_drop(text: &mut Text);
-    pub fn iobufs_from_view(src: &mut Moved, out: &mut Text);
-    pub fn iobufs_clone(text: &mut Text, out: &mut Made<TEXT>) -> u8;
-    pub fn iobufs_len(text: &mut Text) -> usize;
-    pub fn iobufs_is_single(text: &mut Text) -> bool;
-    pub fn iobufs_chunk_count(text: &mut Text) -> usize;
-    pub fn iobufs_chunk(text: &mut Text, out: &mut *const u8) -> usize;
-    pub fn iobufs_chunk_at(text: &mut Text, i: usize, out: &mut *const u8) -> usize;
-    pub fn iobufs_chunks(text: &mut Text, out: *mut Chunk, n: usize) -> usize;
-    pub fn iobufs_chunks_from(text: &mut Text, first: usize, out: *mut Chunk, n: usize) -> usize;
-    pub fn iobufs_byte_at(text: &mut Text, i: usize, out: &mut u8) -> bool;
-    pub fn iobufs_locate(text: &mut Text, at: usize, index: &mut usize, offset: &mut usize) -> u8;
-    pub fn iobufs_append(text: &mut Text, piece: &mut Moved) -> u8;
-    pub fn iobufs_prepend(text: &mut Text, piece: &mut Moved) -> u8;
-    pub fn iobufs_split_to(text: &mut Cut<TEXT>, at: usize, out: &mut Made<TEXT>) -> u8;
-    pub fn iobufs_advance(text: &mut Cut<TEXT>, n: usize) -> u8;
-    pub fn iobufs_copy_to_slice(text: &mut Cut<TEXT>, dst: *mut u8, n: usize) -> u8;
-    pub fn iobufs_take(text: &mut Cut<TEXT>, n: usize, out: &mut Made<VIEW>) -> u8;
-    pub fn iobufs_coalesce(text: &mut Cut<TEXT>, out: &mut Made<VIEW>) -> u8;
-    pub fn iobufs_try_into_single(text: &mut Cut<TEXT>, out: &mut Made<VIEW>) -> u8;
-    pub fn iobufs_read_length(text: &mut Cut<TEXT>, lo: usize, hi: usize, out: &mut usize) -> u8;
-    pub fn iobufs_read_view(text: &mut Cut<TEXT>, lo: usize, hi: usize, out: &mut Made<VIEW>) -> u8;
-    pub fn iobufs_get_u8(text: &mut Cut<TEXT>, out: &mut u8) -> u8;
-    pub fn iobufs_get_u16(text: &mut Cut<TEXT>, out: &mut u16) -> u8;
-    pub fn iobufs_get_u32(text: &mut Cut<TEXT>, out: &mut u32) -> u8;
-    pub fn iobufs_get_u64(text: &mut Cut<TEXT>, out: &mut u64) -> u8;
-
-    pub fn iobufsmut_size() -> usize;
-    pub fn iobufsmut_init(at: Room<PARTS>);
-    pub fn iobufsmut_drop(parts: &mut Parts);
-    pub fn iobufsmut_from_mut(part: &mut Part, out: &mut Parts);
-    pub fn iobufsmut_from_parts(places: *mut Part, n: usize, out: &mut Parts) -> u8;
-    pub fn iobufsmut_len(parts: &mut Parts) -> usize;
-    pub fn iobufsmut_is_single(parts: &mut Parts) -> bool;
-    pub fn iobufsmut_capacity(parts: &mut Parts) -> usize;
-    pub fn iobufsmut_remaining_mut(parts: &mut Parts) -> usize;
-    pub fn iobufsmut_chunk(parts: &mut Parts, out: &mut *mut u8) -> usize;
-    pub fn iobufsmut_chunks(parts: &mut Parts, out: *mut Chunk, n: usize) -> usize;
-    pub fn iobufsmut_put_slice(parts: &mut Parts, src: *const u8, n: usize) -> u8;
-    pub fn iobufsmut_put_bytes(parts: &mut Parts, value: u8, n: usize) -> u8;
-    pub fn iobufsmut_put_u8(parts: &mut Parts, n: u8) -> u8;
-    pub fn iobufsmut_put_u16(parts: &mut Parts, n: u16) -> u8;
-    pub fn iobufsmut_put_u32(parts: &mut Parts, n: u32) -> u8;
-    pub fn iobufsmut_put_u64(parts: &mut Parts, n: u64) -> u8;
-    pub fn iobufsmut_put_length(parts: &mut Parts, n: usize) -> u8;
-    pub fn iobufsmut_set_len(parts: &mut Parts, n: usize) -> u8;
-    pub fn iobufsmut_advance(parts: &mut Parts, n: usize) -> u8;
-    pub fn iobufsmut_copy_to_slice(parts: &mut Parts, dst: *mut u8, n: usize) -> u8;
-    pub fn iobufsmut_copy_from_slice(parts: &mut Parts, src: *const u8, n: usize) -> u8;
-    pub fn iobufsmut_freeze(parts: &mut Parts, out: &mut Text) -> u8;
-    pub fn iobufsmut_coalesce(parts: &mut Parts, out: &mut Part) -> u8;
-    pub fn iobufsmut_try_into_single(parts: &mut Parts, out: &mut Part) -> u8;
-
-    pub fn iobufs_builder_size() -> usize;
-    pub fn iobufs_builder_init(at: Room<BUILDER>);
-    pub fn iobufs_builder_drop(builder: &mut Builder);
-    pub fn iobufs_builder_new(capacity: usize, out: &mut Builder) -> u8;
-    pub fn iobufs_builder_remaining_mut(builder: &mut Builder) -> usize;
-    pub fn iobufs_builder_put_slice(builder: &mut Builder, src: *const u8, n: usize) -> u8;
-    pub fn iobufs_builder_put_bytes(builder: &mut Builder, value: u8, n: usize) -> u8;
-    pub fn iobufs_builder_put_u8(builder: &mut Builder, n: u8) -> u8;
-    pub fn iobufs_builder_put_u16(builder: &mut Builder, n: u16) -> u8;
-    pub fn iobufs_builder_put_u32(builder: &mut Builder, n: u32) -> u8;
-    pub fn iobufs_builder_put_u64(builder: &mut Builder, n: u64) -> u8;
-    pub fn iobufs_builder_put_length(builder: &mut Builder, n: usize) -> u8;
-    pub fn iobufs_builder_push(builder: &mut Builder, piece: &mut Moved) -> u8;
-    pub fn iobufs_builder_finish(builder: &mut Builder, out: &mut Made<TEXT>) -> u8;
-
-    pub fn iobufs_frames_size() -> usize;
-    pub fn iobufs_frames_init(at: Room<FRAMES>);
-    pub fn iobufs_frames_drop(frames: &mut Frames);
-    pub fn iobufs_frames_len(frames: &mut Frames) -> usize;
-    pub fn iobufs_frames_feed(frames: &mut Frames, piece: &mut Moved) -> u8;
-    pub fn iobufs_frames_next(frames: &mut Cut<FRAMES>, lo: usize, hi: usize, out: &mut Made<VIEW>, wrong: &mut usize) -> u8;
-    pub fn iobufs_frames_set_prefix(frames: &mut Frames, kind: u8) -> u8;
-    pub fn iobufs_length_size(n: usize) -> usize;
+/// Chunks that are taken at a time.
+pub struct Batch<'a> {
+    list: [MaybeUninit<Chunk>; BATCH],
+    /// How many of the list aren't filled. (If it were how many are, the compiler would fill a new list with zeros.)
+    left: usize,
+    of: PhantomData<&'a [u8]>,
 }
+
+impl<'a> Batch<'a> {
+    #[inline]
+    pub fn new() -> Self {
+        Batch { list: [MaybeUninit::uninit(); BATCH], left: BATCH, of: PhantomData }
+    }
+
+    /// Takes the chunks from the index `first` on, and returns how many there are.
+    #[inline]
+    pub fn fill(&mut self, mut of: Look<'a, Iobufs>, first: usize) -> usize {
+        // SAFETY: duty 4: the list has `BATCH` places.
+        let n = unsafe { iobufs_chunks_from(&mut of, first, self.list.as_mut_ptr().cast(), BATCH) };
+        self.left = BATCH - n;
+        n
+    }
+
+    #[inline]
+    pub fn get(&self, i: usize) -> Option<&'a [u8]> {
+        self.list[..BATCH - self.left].get(i).map(Self::bytes)
+    }
+
+    #[inline]
+    pub fn iter(&self) -> impl Iterator<Item = &'a [u8]> {
+        self.list[..BATCH - self.left].iter().map(Self::bytes)
+    }
+
+    /// The bytes of a chunk that is filled.
+    #[inline]
+    fn bytes(chunk: &MaybeUninit<Chunk>) -> &'a [u8] {
+        // SAFETY: it is filled. Duty 5: as in `chunk`.
+        unsafe { slice::from_raw_parts(chunk.assume_init_ref().base, chunk.assume_init_ref().len) }
+    }
+}
+
+impl<'a> Look<'a, Iobufs> {
+    /// The chunk of an index.
+    #[inline]
+    pub fn chunk_at(mut self, index: usize) -> Option<&'a [u8]> {
+        let mut at = NO_BYTES;
+        let n = iobufs_chunk_at(&mut self, index, &mut at);
+        // SAFETY: duty 5: as in `chunk`.
+        (n != 0).then(|| unsafe { slice::from_raw_parts(at, n) })
+    }
+
+    /// Fills a list with the first chunks, and returns how many it filled.
+    #[inline]
+    pub fn slices(mut self, dst: &mut [IoSlice<'a>]) -> usize {
+        // SAFETY: duty 4: the list isn't null, and std promises that an `IoSlice` is a `struct iovec`. Duty 5: `'a` borrows the buffer.
+        unsafe { iobufs_chunks_from(&mut self, 0, dst.as_mut_ptr().cast(), dst.len()) }
+    }
+}
+
+impl<'a> Look<'a, IobufsMut> {
+    /// Fills a list with the first chunks, and returns how many it filled.
+    #[inline]
+    pub fn slices(mut self, dst: &mut [IoSlice<'a>]) -> usize {
+        // SAFETY: duties 4 and 5, as above.
+        unsafe { iobufsmut_chunks(&mut self, dst.as_mut_ptr().cast(), dst.len()) }
+    }
+}
+
+/// `BufMut` of the crate `bytes`, which is an unsafe trait, by the calls of `Lend` and by those of the same names.
+#[cfg(feature = "bytes")]
+macro_rules! buf_mut {
+    ($($buffer:ident)*) => {$(
+        buf_mut! { $buffer, put_slice(src: &[u8]), put_bytes(value: u8, n: usize), put_u8(n: u8) }
+    )*};
+    ($buffer:ident, $($put:ident($($arg:ident: $type:ty),*)),*) => {
+        // SAFETY: `lend` lends no more than fits, of initialized bytes that are the buffer's own, and `put_lent` puts these alone.
+        unsafe impl bytes::BufMut for crate::$buffer {
+            fn remaining_mut(&self) -> usize {
+                self.remaining_mut()
+            }
+
+            unsafe fn advance_mut(&mut self, n: usize) {
+                crate::traits::Lend::put_lent(self, n)
+            }
+
+            fn chunk_mut(&mut self) -> &mut bytes::buf::UninitSlice {
+                crate::traits::Lend::lend(self)
+            }
+
+            fn put<B: bytes::Buf>(&mut self, src: B) {
+                crate::traits::Lend::put_all(self, src)
+            }
+            $(
+                fn $put(&mut self, $($arg: $type),*) {
+                    self.$put($($arg),*)
+                }
+            )*
+        }
+    };
+}
+
+#[cfg(feature = "bytes")]
+buf_mut! { IoBufMut IoBufsMut Builder }

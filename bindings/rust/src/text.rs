@@ -1,35 +1,19 @@
 //! `IoBufs` and `Frames`.
-use crate::owner::Text;
+#![forbid(unsafe_code)]
+use crate::owner::Chunked;
 use crate::part::IoBufMut;
-use crate::sys::{self, Chunk};
+use crate::sys::{self, BATCH, Batch};
 use crate::view::IoBuf;
-use crate::{Error, allocated, bounds, done, gets, length_size, limits, no_bytes, read, try_copy};
+use crate::{Error, allocated, bounds, done, equals_bytes, gets, length_size, limits, made, read};
 use std::cmp::Ordering;
 use std::hash::{Hash, Hasher};
-use std::io::{self, IoSlice};
+use std::io::IoSlice;
 use std::ops::RangeBounds;
-use std::{fmt, mem, mem::MaybeUninit, slice};
+use std::{fmt, mem};
 
-/// The bytes of a piece.
-///
-/// # Safety
-/// The library said so of a buffer that is borrowed for `'a`.
-pub(crate) unsafe fn piece<'a>(chunk: &Chunk) -> &'a [u8] {
-    // SAFETY: duty 5: the bytes may be read until the buffer is changed or dropped, which its borrow rules out.
-    unsafe { slice::from_raw_parts(chunk.base, chunk.len) }
-}
-
-pub(crate) const NO_CHUNK: Chunk = Chunk {
-    base: std::ptr::null(),
-    len: 0,
-};
-
-// How many chunks are taken at a time.
-const BATCH: usize = 32;
-
-/// A read-only text in pieces, none of which is copied. A chunk of an owner's memory (`IoBuf::from_owner`) keeps the owner until
-/// its last byte is taken.
-pub struct IoBufs(pub(crate) Text<{ sys::TEXT }>);
+/// Read-only bytes in chunks, of which none is copied. A chunk of an owner's memory (`IoBuf::from_owner`) keeps the owner until its
+/// last byte is taken.
+pub struct IoBufs(pub(crate) Chunked<sys::Iobufs>);
 
 impl IoBufs {
     /// The number of bytes.
@@ -43,55 +27,33 @@ impl IoBufs {
         self.0.owners()
     }
 
-    /// Whether there are no bytes.
-    #[inline]
-    pub fn is_empty(&self) -> bool {
-        self.len() == 0
-    }
-
-    /// Whether all bytes are in one piece.
+    /// Whether all bytes are in one chunk.
     #[inline]
     pub fn is_single(&self) -> bool {
-        // SAFETY: it only looks (duty 3).
-        unsafe { sys::iobufs_is_single(&mut self.0.at()) }
+        sys::iobufs_is_single(&mut self.0.look())
     }
 
-    /// The number of pieces that hold bytes.
+    /// The number of chunks that hold bytes.
     pub fn chunk_count(&self) -> usize {
-        // SAFETY: it only looks (duty 3).
-        unsafe { sys::iobufs_chunk_count(&mut self.0.at()) }
+        sys::iobufs_chunk_count(&mut self.0.look())
     }
 
-    /// The bytes of a piece, counted from 0.
+    /// The bytes of the chunk of an index.
     #[inline]
     pub fn chunk_at(&self, index: usize) -> Option<&[u8]> {
-        let mut at = no_bytes();
-        // SAFETY: duty 5: the bytes may be read until `self` is changed or dropped, which the borrow rules out.
-        unsafe {
-            let n = sys::iobufs_chunk_at(&mut self.0.at(), index, &mut at);
-            (n != 0).then(|| slice::from_raw_parts(at, n))
-        }
-    }
-
-    // Fills a list with the chunks from `first` on, and returns how many it filled.
-    fn fill(&self, first: usize, chunks: &mut [MaybeUninit<Chunk>; BATCH]) -> usize {
-        // SAFETY: duty 4: the list has `BATCH` places. It only looks (duty 3).
-        unsafe { sys::iobufs_chunks_from(&mut self.0.at(), first, chunks.as_mut_ptr().cast(), BATCH) }
+        self.0.look().chunk_at(index)
     }
 
     /// Returns the chunks that hold bytes, in order.
     pub fn chunks(&self) -> impl Iterator<Item = &[u8]> {
-        let mut chunks = [MaybeUninit::uninit(); BATCH];
-        let (mut next, mut n, mut i) = (0, 0, BATCH);
+        let (mut batch, mut first, mut i) = (Batch::new(), 0, BATCH);
         std::iter::from_fn(move || {
             if i == BATCH {
-                n = self.fill(next, &mut chunks);
-                (next, i) = (next + BATCH, 0);
+                batch.fill(self.0.look(), first);
+                (first, i) = (first + BATCH, 0);
             }
-            let chunk = chunks[..n].get(i)?;
             i += 1;
-            // SAFETY: it was filled with a chunk of `self`, which is borrowed.
-            Some(unsafe { piece(chunk.assume_init_ref()) })
+            batch.get(i - 1)
         })
     }
 
@@ -104,15 +66,13 @@ impl IoBufs {
     /// Returns the byte at an offset, if there is one. (own)
     pub fn byte_at(&self, i: usize) -> Option<u8> {
         let mut byte = 0;
-        // SAFETY: it only looks (duty 3), and writes to a place that is lent.
-        unsafe { sys::iobufs_byte_at(&mut self.0.at(), i, &mut byte) }.then_some(byte)
+        sys::iobufs_byte_at(&mut self.0.look(), i, &mut byte).then_some(byte)
     }
 
     /// Returns the index of the chunk that contains an offset, and the distance from its start. (own)
     pub fn locate(&self, at: usize) -> Option<(usize, usize)> {
         let (mut index, mut offset) = (0, 0);
-        // SAFETY: it only looks (duty 3), and writes to places that are lent.
-        let status = unsafe { sys::iobufs_locate(&mut self.0.at(), at, &mut index, &mut offset) };
+        let status = sys::iobufs_locate(&mut self.0.look(), at, &mut index, &mut offset);
         (status == sys::OK).then_some((index, offset))
     }
 
@@ -121,10 +81,7 @@ impl IoBufs {
     #[track_caller]
     pub fn slice(&self, range: impl RangeBounds<usize>) -> Self {
         let (lo, hi) = bounds(range, self.len());
-        let mut out = self.clone();
-        out.truncate(hi);
-        out.advance(lo);
-        out
+        IoBufs(made(self.0.slice(lo, hi), "slice out of bounds"))
     }
 
     /// Keeps at most the first `len` bytes. (own)
@@ -135,183 +92,110 @@ impl IoBufs {
         }
     }
 
-    /// Shows each piece that holds bytes, in order.
+    /// Shows each chunk that holds bytes, in order.
     pub fn for_each_chunk(&self, mut visit: impl FnMut(&[u8])) {
-        let mut chunks = [MaybeUninit::uninit(); BATCH];
+        let mut batch = Batch::new();
         for first in (0..).step_by(BATCH) {
-            let n = self.fill(first, &mut chunks);
-            // SAFETY: they were filled with chunks of `self`, which is borrowed.
-            chunks[..n].iter().for_each(|chunk| visit(unsafe { piece(chunk.assume_init_ref()) }));
+            let n = batch.fill(self.0.look(), first);
+            batch.iter().for_each(&mut visit);
             if n < BATCH {
                 return;
             }
         }
     }
 
-    /// Puts a buffer behind the text.
+    /// Adds a buffer at the end.
     #[inline]
     #[track_caller]
-    pub fn append(&mut self, mut piece: IoBuf) {
-        // SAFETY: duties 1 to 3.
-        let status = self.0.put_back(&mut piece.0, |text, view| unsafe { sys::iobufs_append(text, view) });
-        done(status, "length overflow");
-        mem::forget(piece);
+    pub fn append(&mut self, mut chunk: IoBuf) {
+        done(self.0.append(&mut chunk.0), "length overflow");
+        mem::forget(chunk);
     }
 
-    /// Puts a buffer in front of the text.
+    /// Adds a buffer at the front.
     #[inline]
     #[track_caller]
-    pub fn prepend(&mut self, mut piece: IoBuf) {
-        // SAFETY: duties 1 to 3.
-        let status = self.0.put_front(&mut piece.0, |text, view| unsafe { sys::iobufs_prepend(text, view) });
-        done(status, "length overflow");
-        mem::forget(piece);
+    pub fn prepend(&mut self, mut chunk: IoBuf) {
+        done(self.0.prepend(&mut chunk.0), "length overflow");
+        mem::forget(chunk);
     }
 
-    /// Takes the first `at` bytes away. Panics where there are fewer.
+    /// Takes the first `at` bytes. Panics if there are fewer.
     #[inline]
     #[track_caller]
     pub fn split_to(&mut self, at: usize) -> Self {
-        // SAFETY: duties 1 to 3.
-        let split = |text: &mut _, out: &mut _| unsafe { sys::iobufs_split_to(text, at, out) };
-        IoBufs(self.0.split(at, sys::iobufs_init, |text, out| done(split(text, out), "split_to out of bounds")))
+        IoBufs(made(self.0.split_to(at), "split_to out of bounds"))
     }
 
-    /// The text as one piece, with a copy of several.
+    /// All bytes in one chunk, with a copy of several.
     #[track_caller]
     pub fn coalesce(mut self) -> IoBuf {
-        let (len, mut out) = (self.len(), IoBuf::default());
-        // SAFETY: duties 1 to 3.
-        let status = self.0.take(&mut out.0, |text, out| unsafe { sys::iobufs_coalesce(text, out) });
+        let (len, (view, status)) = (self.len(), self.0.coalesce());
         allocated(status, len, "the text is too long for one buffer");
-        out
+        IoBuf(view)
     }
 
-    /// The only piece; the text itself where there are more.
+    /// The only chunk; the `IoBufs` itself if there are more.
     pub fn try_into_single(mut self) -> Result<IoBuf, Self> {
-        let mut out = IoBuf::default();
-        // SAFETY: duties 1 to 3.
-        match self.0.take(&mut out.0, |text, out| unsafe { sys::iobufs_try_into_single(text, out) }) {
-            sys::OK => Ok(out),
+        match self.0.try_into_single() {
+            (view, sys::OK) => Ok(IoBuf(view)),
             _ => Err(self),
         }
     }
 
-    /// How many bytes are left (`Buf`).
-    #[inline]
-    pub fn remaining(&self) -> usize {
-        self.len()
-    }
-
-    /// Whether bytes are left (`Buf`).
-    #[inline]
-    pub fn has_remaining(&self) -> bool {
-        !self.is_empty()
-    }
-
-    /// The first piece (`Buf`).
+    /// The first chunk (`Buf`).
     #[inline]
     pub fn chunk(&self) -> &[u8] {
-        let mut at = no_bytes();
-        // SAFETY: duty 5: the bytes may be read until `self` is changed or dropped, which the borrow rules out.
-        unsafe {
-            let n = sys::iobufs_chunk(&mut self.0.at(), &mut at);
-            slice::from_raw_parts(at, n)
-        }
+        self.0.look().chunk()
     }
 
-    /// Fills `dst` with the first pieces, and says how many (`Buf`).
+    /// Fills `dst` with the first chunks, and returns how many (`Buf`).
     pub fn chunks_vectored<'a>(&'a self, dst: &mut [IoSlice<'a>]) -> usize {
-        let mut filled = 0;
-        while filled < dst.len() {
-            let Some(chunk) = self.chunk_at(filled) else { break };
-            dst[filled] = IoSlice::new(chunk);
-            filled += 1;
-        }
-        filled
+        self.0.look().slices(dst)
     }
 
-    /// The first pieces, at most `N`, as they are handed to `writev`.
+    /// The first chunks, at most `N`, as they are handed to `writev`.
     pub fn slices<const N: usize>(&self) -> ([IoSlice<'_>; N], usize) {
-        let mut chunks = [NO_CHUNK; N];
-        // SAFETY: duty 4: the list has `N` places. It only looks (duty 3).
-        let n = unsafe { sys::iobufs_chunks(&mut self.0.at(), chunks.as_mut_ptr(), N) };
-        let slice = |i: usize| match i < n {
-            // SAFETY: it is a piece of `self`, which is borrowed.
-            true => IoSlice::new(unsafe { piece(&chunks[i]) }),
-            false => IoSlice::new(&[]),
-        };
-        (std::array::from_fn(slice), n)
+        let mut slices = [IoSlice::new(&[]); N];
+        let n = self.chunks_vectored(&mut slices);
+        (slices, n)
     }
 
-    /// Drops the first `n` bytes. Panics where there are fewer (`Buf`).
-    #[inline]
-    #[track_caller]
-    pub fn advance(&mut self, n: usize) {
-        // SAFETY: duties 1 and 3.
-        let status = self.0.cut(|text| unsafe { sys::iobufs_advance(text, n) });
-        done(status, "cannot advance past end of buffer");
-    }
-
-    /// Fills `dst` with the first bytes, and drops these. Panics where there are fewer (`Buf`).
-    #[inline]
-    #[track_caller]
-    pub fn copy_to_slice(&mut self, dst: &mut [u8]) {
-        // SAFETY: duty 4: the slice's pointer is not null, and its bytes may be written during the call.
-        let status = self.0.cut(|text| unsafe { sys::iobufs_copy_to_slice(text, dst.as_mut_ptr(), dst.len()) });
-        done(status, "Not enough bytes remaining in buffer");
-    }
-
-    /// Takes the first `n` bytes out as one view: shared within a piece, copied across pieces. Panics where there are
-    /// fewer (`Buf`).
+    /// Takes the first `n` bytes as one view: shared within a chunk, copied across chunks. Panics if there are fewer (`Buf`).
     #[inline]
     #[track_caller]
     pub fn take_owned(&mut self, n: usize) -> IoBuf {
-        let mut out = IoBuf::default();
-        // SAFETY: duties 1 to 3.
-        let status = self.0.take(&mut out.0, |text, out| unsafe { sys::iobufs_take(text, n, out) });
+        let (view, status) = self.0.take(n);
         allocated(status, n, "take_owned out of bounds");
-        out
+        IoBuf(view)
     }
-
-    /// `take_owned`, by the name that the original has for a result of `Bytes`.
-    #[track_caller]
-    pub fn copy_to_bytes(&mut self, n: usize) -> IoBuf {
-        assert!(n <= self.len(), "copy_to_bytes out of bounds");
-        self.take_owned(n)
-    }
-
-    try_copy!();
 
     gets! {
-        sys::iobufs_read_length, sys::iobufs_read_view;
-        u8, get_u8, try_get_u8, sys::iobufs_get_u8;
-        u16, get_u16, try_get_u16, sys::iobufs_get_u16;
-        u32, get_u32, try_get_u32, sys::iobufs_get_u32;
-        u64, get_u64, try_get_u64, sys::iobufs_get_u64;
+        u8, get_u8, try_get_u8;
+        u16, get_u16, try_get_u16;
+        u32, get_u32, try_get_u32;
+        u64, get_u64, try_get_u64;
     }
 }
 
 impl Default for IoBufs {
     #[inline]
     fn default() -> Self {
-        IoBufs(Text::new(sys::iobufs_init))
+        IoBufs(Chunked::new())
     }
 }
 
 impl Drop for IoBufs {
     #[inline]
     fn drop(&mut self) {
-        // SAFETY: duty 1: the memory isn't used behind it.
-        unsafe { sys::iobufs_drop(&mut self.0.at()) }
+        sys::iobufs_drop(&mut self.0.at())
     }
 }
 
 impl Clone for IoBufs {
     #[inline]
     fn clone(&self) -> Self {
-        // SAFETY: it only looks at `self` (duty 3).
-        IoBufs(self.0.same(sys::iobufs_init, |text, out| done(unsafe { sys::iobufs_clone(text, out) }, "")))
+        IoBufs(made(self.0.same(), ""))
     }
 }
 
@@ -355,27 +239,11 @@ impl PartialEq for IoBufs {
 
 impl Eq for IoBufs {}
 
-impl PartialEq<[u8]> for IoBufs {
-    fn eq(&self, other: &[u8]) -> bool {
-        self.len() == other.len() && compare(self.chunks(), std::iter::once(other)).is_eq()
-    }
-}
+equals_bytes!(IoBufs);
 
-impl PartialEq<&[u8]> for IoBufs {
-    fn eq(&self, other: &&[u8]) -> bool {
-        self == *other
-    }
-}
-
-impl<const N: usize> PartialEq<[u8; N]> for IoBufs {
-    fn eq(&self, other: &[u8; N]) -> bool {
-        self == &other[..]
-    }
-}
-
-impl<const N: usize> PartialEq<&[u8; N]> for IoBufs {
-    fn eq(&self, other: &&[u8; N]) -> bool {
-        self == &other[..]
+impl IoBufs {
+    fn has(&self, bytes: &[u8]) -> bool {
+        self.len() == bytes.len() && compare(self.chunks(), std::iter::once(bytes)).is_eq()
     }
 }
 
@@ -403,13 +271,7 @@ impl Hash for IoBufs {
 impl From<IoBuf> for IoBufs {
     #[inline]
     fn from(mut view: IoBuf) -> Self {
-        let mut out = IoBufs::default();
-        out.0.put_back(&mut view.0, |text, view| {
-            // SAFETY: duties 1 to 3.
-            unsafe { sys::iobufs_from_view(view, text) };
-            sys::OK
-        });
-        out
+        IoBufs(Chunked::of_view(&mut view.0))
     }
 }
 
@@ -461,24 +323,6 @@ impl<const N: usize> From<[IoBuf; N]> for IoBufs {
     }
 }
 
-impl io::Read for IoBufs {
-    fn read(&mut self, dst: &mut [u8]) -> io::Result<usize> {
-        let n = dst.len().min(self.len());
-        self.copy_to_slice(&mut dst[..n]);
-        Ok(n)
-    }
-}
-
-impl io::BufRead for IoBufs {
-    fn fill_buf(&mut self) -> io::Result<&[u8]> {
-        Ok(self.chunk())
-    }
-
-    fn consume(&mut self, n: usize) {
-        self.advance(n);
-    }
-}
-
 /// How the length before a frame is written. (own)
 #[derive(Clone, Copy, Debug, Default, PartialEq, Eq, Hash)]
 pub enum Prefix {
@@ -517,34 +361,30 @@ impl Prefix {
 }
 
 /// Frames of bytes that come in chunks: each is a length followed by a body.
-pub struct Frames(Text<{ sys::FRAMES }>);
+pub struct Frames(Chunked<sys::Frames>);
 
 impl Frames {
     /// Makes frames to which nothing was fed, with lengths that are written as `prefix`.
     pub fn new(prefix: Prefix) -> Self {
-        let out = Frames::default();
-        // SAFETY: duties 1 and 3.
-        done(unsafe { sys::iobufs_frames_set_prefix(&mut out.0.at(), prefix as u8) }, "");
+        let mut out = Frames::default();
+        done(sys::iobufs_frames_set_prefix(&mut out.0.at(), prefix as u8), "");
         out
     }
 
     /// Adds bytes at the end.
     #[inline]
     #[track_caller]
-    pub fn feed(&mut self, mut piece: IoBuf) {
-        // SAFETY: duties 1 to 3.
-        let status = self.0.put_back(&mut piece.0, |frames, view| unsafe { sys::iobufs_frames_feed(frames, view) });
-        done(status, "length overflow");
-        mem::forget(piece);
+    pub fn feed(&mut self, mut chunk: IoBuf) {
+        done(self.0.feed(&mut chunk.0), "length overflow");
+        mem::forget(chunk);
     }
 
     /// Takes the first frame; `None` if it isn't whole yet. Fails if no further bytes can make it whole.
     pub fn next(&mut self, range: impl RangeBounds<usize>) -> Result<Option<IoBuf>, Error> {
-        let ((lo, hi), mut out, mut wrong) = (limits(range), IoBuf::default(), 0);
-        // SAFETY: duties 1 to 3.
-        let status = self.0.take(&mut out.0, |frames, out| unsafe { sys::iobufs_frames_next(frames, lo, hi, out, &mut wrong) });
+        let ((lo, hi), mut wrong) = (limits(range), 0);
+        let (view, status) = self.0.next(lo, hi, &mut wrong);
         match read(status, || wrong) {
-            Ok(()) => Ok(Some(out)),
+            Ok(()) => Ok(Some(IoBuf(view))),
             Err(Error::EndOfBuffer) => Ok(None),
             Err(error) => Err(error),
         }
@@ -571,14 +411,13 @@ impl Frames {
 impl Default for Frames {
     #[inline]
     fn default() -> Self {
-        Frames(Text::new(sys::iobufs_frames_init))
+        Frames(Chunked::new())
     }
 }
 
 impl Drop for Frames {
     #[inline]
     fn drop(&mut self) {
-        // SAFETY: duty 1: the memory isn't used behind it.
-        unsafe { sys::iobufs_frames_drop(&mut self.0.at()) }
+        sys::iobufs_frames_drop(&mut self.0.at())
     }
 }

@@ -1,17 +1,20 @@
-//! The traits of the crate `bytes` (feature `bytes`), and conversions from and to `Bytes` and `BytesMut`. A view or a text is
+//! The traits of the crate `bytes` (feature `bytes`), and conversions from and to `Bytes` and `BytesMut`. A view or an `IoBufs` is
 //! made of these, and these of a view, without a copy: each keeps the other's memory. A writable buffer is copied.
+#![forbid(unsafe_code)]
+use crate::codec::Sink;
 use crate::{Builder, IoBuf, IoBufMut, IoBufs, IoBufsMut};
 use bytes::buf::UninitSlice;
-use bytes::{Buf, BufMut, Bytes, BytesMut};
+use bytes::{Buf, Bytes, BytesMut};
 use std::io::IoSlice;
+use std::mem;
 
-/// Bytes that `chunk_mut` lends; `advance_mut` puts the first of them into the buffer, and a put drops as many as it writes.
-/// The library lends only room that is readable, so what is written by way of `chunk_mut` is copied once more; the other
-/// calls of `BufMut` aren't.
+/// Bytes that `chunk_mut` lends; `advance_mut` puts the first of them into the buffer, and a put drops as many as it writes. The
+/// library lends only space that is readable, so what is written by way of `chunk_mut` is copied once more; the other calls of
+/// `BufMut` aren't.
 #[derive(Default)]
 pub struct Scratch {
     bytes: Vec<u8>,
-    /// How many bytes fitted into the buffer when these were lent.
+    /// How many bytes fit into the buffer if its next byte is the first of these.
     room: usize,
 }
 
@@ -19,24 +22,66 @@ pub struct Scratch {
 const LENT: usize = 4096;
 
 impl Scratch {
-    /// How many of the bytes the buffer has got since, now that so many fit.
-    fn used(&self, room: usize) -> usize {
-        self.room.saturating_sub(room).min(self.bytes.len())
+    /// The `n` bytes that are the buffer's next, now that `room` bytes fit.
+    fn next(&self, n: usize, room: usize) -> Option<&[u8]> {
+        let lent = self.room.checked_sub(room).and_then(|used| self.bytes.get(used..));
+        lent.unwrap_or_default().get(..n)
     }
 
-    fn lend(&mut self, room: usize) -> &mut UninitSlice {
-        let (used, n) = (self.used(room), room.min(LENT));
+    /// Drops those before the buffer's next byte, now that `room` bytes fit.
+    fn drop_used(&mut self, room: usize) {
+        let used = self.room.saturating_sub(room).min(self.bytes.len());
         self.bytes.drain(..used);
-        self.bytes.resize(n, 0);
-        self.room = room;
-        // SAFETY: the bytes are borrowed for as long, and are initialized.
-        unsafe { UninitSlice::from_raw_parts_mut(self.bytes.as_mut_ptr(), n) }
+        self.room -= used;
+    }
+
+    /// Before a call that may drop bytes at the buffer's end: writes these over the first that were lent, as the puts did in the
+    /// buffer. `state` is how many bytes fit, and the last that are readable.
+    pub(crate) fn pass<'a>(&mut self, state: impl FnOnce() -> (usize, &'a [u8])) {
+        if self.bytes.is_empty() {
+            return;
+        }
+        let (room, readable) = state();
+        let known = self.room.saturating_sub(room).min(readable.len());
+        self.drop_used(room + known);
+        let n = known.min(self.bytes.len());
+        self.bytes[..n].copy_from_slice(&readable[readable.len() - known..][..n]);
+    }
+}
+
+/// What `BufMut` does by way of a scratch (`sys` has the trait itself, which is unsafe).
+pub(crate) trait Lend: Sink {
+    fn scratch(&mut self) -> &mut Scratch;
+
+    fn lend(&mut self) -> &mut UninitSlice {
+        let room = self.remaining_mut();
+        let scratch = self.scratch();
+        scratch.drop_used(room);
+        if scratch.room != room {
+            *scratch = Scratch { bytes: Vec::new(), room };
+        }
+        scratch.bytes.resize(room.min(LENT), 0);
+        UninitSlice::new(&mut scratch.bytes)
     }
 
     #[track_caller]
-    fn first(&self, n: usize, room: usize) -> &[u8] {
-        let left = &self.bytes[self.used(room)..];
-        left.get(..n).expect("cannot advance past end of buffer")
+    fn put_lent(&mut self, n: usize) {
+        let room = self.remaining_mut();
+        assert!(self.scratch().next(n, room).is_some(), "cannot advance past end of buffer");
+        let scratch = mem::take(self.scratch());
+        self.put_slice(scratch.next(n, room).unwrap_or_default());
+        *self.scratch() = scratch;
+    }
+
+    #[track_caller]
+    fn put_all(&mut self, mut src: impl Buf) {
+        assert!(src.remaining() <= self.remaining_mut(), "cannot advance past end of buffer");
+        while src.has_remaining() {
+            let chunk = src.chunk();
+            let n = chunk.len();
+            self.put_slice(chunk);
+            src.advance(n);
+        }
     }
 }
 
@@ -79,7 +124,7 @@ fn copied(from: &mut impl Buf, n: usize) -> Bytes {
 reads! {
     IoBuf, |view: &mut IoBuf, n| view.take_owned(n).into(), {}
     IoBufMut, copied, {}
-    IoBufs, |text: &mut IoBufs, n| text.take_owned(n).into(), {
+    IoBufs, |bufs: &mut IoBufs, n| bufs.take_owned(n).into(), {
         fn chunks_vectored<'a>(&'a self, dst: &mut [IoSlice<'a>]) -> usize {
             IoBufs::chunks_vectored(self, dst)
         }
@@ -91,54 +136,17 @@ reads! {
     }
 }
 
-macro_rules! writes {
+macro_rules! lends {
     ($($buffer:ty)*) => {$(
-        // SAFETY: `chunk_mut` lends no more than fits, of initialized bytes that are the buffer's own, and these alone
-        // does `advance_mut` put.
-        unsafe impl BufMut for $buffer {
-            fn remaining_mut(&self) -> usize {
-                <$buffer>::remaining_mut(self)
-            }
-
-            unsafe fn advance_mut(&mut self, n: usize) {
-                let room = <$buffer>::remaining_mut(self);
-                let scratch = std::mem::take(&mut self.1);
-                <$buffer>::put_slice(self, scratch.first(n, room));
-                self.1 = scratch;
-            }
-
-            fn chunk_mut(&mut self) -> &mut UninitSlice {
-                let room = <$buffer>::remaining_mut(self);
-                self.1.lend(room)
-            }
-
-            fn put_slice(&mut self, src: &[u8]) {
-                <$buffer>::put_slice(self, src)
-            }
-
-            fn put_bytes(&mut self, value: u8, n: usize) {
-                <$buffer>::put_bytes(self, value, n)
-            }
-
-            fn put_u8(&mut self, n: u8) {
-                <$buffer>::put_u8(self, n)
-            }
-
-            fn put<B: Buf>(&mut self, mut src: B) {
-                let fits = src.remaining() <= <$buffer>::remaining_mut(self);
-                assert!(fits, "cannot advance past end of buffer");
-                while src.has_remaining() {
-                    let chunk = src.chunk();
-                    let n = chunk.len();
-                    <$buffer>::put_slice(self, chunk);
-                    src.advance(n);
-                }
+        impl Lend for $buffer {
+            fn scratch(&mut self) -> &mut Scratch {
+                &mut self.1
             }
         }
     )*};
 }
 
-writes! { IoBufMut IoBufsMut Builder }
+lends! { IoBufMut IoBufsMut Builder }
 
 macro_rules! conversions {
     ($($(#[$said:meta])* $from:ty => $to:ty, $make:expr;)*) => {$(

@@ -1,5 +1,8 @@
 //! The original's unit tests of `IoBuf` and `IoBufMut` (commonware-runtime 2026.10.0, `src/iobuf/buf.rs`), as far as they
-//! have a meaning here: what they say of the crate `bytes`, of the words of owners and of alignments is left out.
+//! have a meaning here: what they say of the words of owners, of alignments, of the address of space that isn't readable and of the
+//! block of a `Vec` that becomes writable is left out. What they say of the crate `bytes` wants the feature `bytes`.
+#[cfg(feature = "bytes")]
+use bytes::{Buf, BufMut, Bytes, BytesMut};
 use iobufs::{IoBuf, IoBufMut, IoBufs};
 use std::num::NonZeroUsize;
 use std::ops::Bound;
@@ -28,6 +31,8 @@ fn test_iobuf_core_behaviors() {
     assert_ne!(eq, b"world");
     assert_eq!(IoBuf::from(b"hello"), IoBuf::from(b"hello"));
     assert_ne!(IoBuf::from(b"hello"), IoBuf::from(b"world"));
+    #[cfg(feature = "bytes")]
+    assert_eq!(Bytes::from(IoBuf::from(b"bytes")).as_ref(), b"bytes");
 
     // Buf trait operations keep `len()` and `remaining()` in sync.
     let mut buf = IoBuf::from(b"hello world");
@@ -143,6 +148,10 @@ fn test_iobuf_try_into_mut_empty_and_static() {
     // recover.
     let err = IoBuf::from(b"static").try_into_mut().unwrap_err();
     assert_eq!(err, b"static");
+
+    // Empty buffers convert to empty Bytes without touching an owner.
+    #[cfg(feature = "bytes")]
+    assert!(Bytes::from(IoBuf::default()).is_empty());
 
     // Empty static slices detach to the default representation.
     let empty = IoBuf::from(&b""[..]);
@@ -363,6 +372,8 @@ fn test_iobuf_additional_conversion_and_trait_paths() {
         exact.try_into_mut().expect("exactly-sized vec must adopt").capacity(),
         3
     );
+    #[cfg(feature = "bytes")]
+    assert!(IoBuf::from(Bytes::from(vec![7u8, 8, 9])).try_into_mut().is_err());
 
     let expected: &[u8] = &[9u8, 8];
     let eq_buf = IoBuf::from(vec![9u8, 8]);
@@ -374,8 +385,16 @@ fn test_iobuf_additional_conversion_and_trait_paths() {
     let mut native_mut = IoBufMut::with_capacity(3);
     native_mut.put_slice(b"xyz");
     let native = native_mut.freeze();
+    let native_ptr = native.as_ptr();
     let vec_out: Vec<u8> = native.clone().into();
     assert_eq!(vec_out, b"xyz");
+    assert_eq!(native.as_ptr(), native_ptr);
+    #[cfg(feature = "bytes")]
+    {
+        let bytes_out: Bytes = native.into();
+        assert_eq!(bytes_out.as_ref(), b"xyz");
+        assert_eq!(bytes_out.as_ptr(), native_ptr);
+    }
 }
 
 #[test]
@@ -389,15 +408,15 @@ fn test_handle_auto_traits() {
 fn test_unshared_lifecycle_keeps_descriptor() {
     let mut buf = IoBufMut::with_capacity(16);
     buf.put_slice(b"0123456789");
-    // Of a buffer without readable bytes no place is told here.
-    let base = buf.as_mut_ptr();
     let mut frozen = buf.freeze();
+    // The original takes the address before it puts: an empty buffer has none here.
+    let base = frozen.as_ptr();
 
     // Advancing keeps the descriptor, and recovery returns the spare
     // capacity counted from the new view start.
     frozen.advance(3);
     let mut buf = frozen.try_into_mut().unwrap();
-    assert_eq!(buf.as_mut_ptr(), base.wrapping_add(3));
+    assert_eq!(buf.as_ptr(), base.wrapping_add(3));
     assert_eq!(buf.as_ref(), b"3456789");
     assert_eq!(buf.capacity(), 13);
     buf.put_slice(b"abcdef");
@@ -422,10 +441,10 @@ fn test_iobufmut_from_iobuf() {
     // Unique buffers recover mutability without copying.
     let mut unique = IoBufMut::with_capacity(4);
     unique.put_slice(b"data");
-    let unique_ptr = unique.as_mut_ptr();
-    let mut recovered = IoBufMut::from(unique.freeze());
+    let unique_ptr = unique.as_ptr();
+    let recovered = IoBufMut::from(unique.freeze());
     assert_eq!(recovered.as_ref(), b"data");
-    assert_eq!(recovered.as_mut_ptr(), unique_ptr);
+    assert_eq!(recovered.as_ptr(), unique_ptr);
 
     // Shared buffers allocate and copy readable bytes.
     let mut shared = IoBufMut::with_capacity(4);
@@ -433,24 +452,24 @@ fn test_iobufmut_from_iobuf() {
     let shared = shared.freeze();
     let shared_ptr = shared.as_ptr();
     let _clone = shared.clone();
-    let mut copied = IoBufMut::from(shared);
+    let copied = IoBufMut::from(shared);
     assert_eq!(copied.as_ref(), b"copy");
-    assert_ne!(copied.as_mut_ptr() as *const u8, shared_ptr);
+    assert_ne!(copied.as_ptr(), shared_ptr);
 
     // Recovery after transient slices are dropped is zero-copy and preserves
     // the full readable length and capacity.
     let mut mirror = IoBufMut::with_capacity(8);
     mirror.put_slice(b"abcdefgh");
     let mirror_cap = mirror.capacity();
-    let mirror_ptr = mirror.as_mut_ptr();
+    let mirror_ptr = mirror.as_ptr();
     let frozen = mirror.freeze();
     let head = frozen.slice(0..3);
     let tail = frozen.slice(5..8);
     drop(head);
     drop(tail);
-    let mut recovered = IoBufMut::from(frozen);
+    let recovered = IoBufMut::from(frozen);
     assert_eq!(recovered.as_ref(), b"abcdefgh");
-    assert_eq!(recovered.as_mut_ptr(), mirror_ptr);
+    assert_eq!(recovered.as_ptr(), mirror_ptr);
     assert_eq!(recovered.capacity(), mirror_cap);
 }
 
@@ -475,6 +494,18 @@ fn test_iobufmut_additional_conversion_and_trait_paths() {
     // Conversions from common owned/shared containers preserve contents.
     let from_array = IoBufMut::from([7u8, 8]);
     assert_eq!(from_array.as_ref(), &[7u8, 8]);
+    #[cfg(feature = "bytes")]
+    {
+        let from_bytesmut = IoBufMut::from(BytesMut::from(&b"hi"[..]));
+        assert_eq!(from_bytesmut.as_ref(), b"hi");
+
+        let from_bytes = IoBufMut::from(Bytes::from_static(b"ok"));
+        assert_eq!(from_bytes.as_ref(), b"ok");
+
+        // `Bytes::from_static` cannot be converted to mutable without copy.
+        let from_iobuf = IoBufMut::from(IoBuf::from(Bytes::from_static(b"io")));
+        assert_eq!(from_iobuf.as_ref(), b"io");
+    }
 }
 
 #[test]
@@ -600,4 +631,207 @@ fn test_clone_of_empty_cursor_keeps_allocation() {
 
     let recovered = buf.try_into_mut().unwrap();
     assert_eq!((recovered.len(), recovered.capacity()), (0, 4));
+}
+
+#[cfg(feature = "bytes")]
+#[test]
+fn test_iobuf_from_conversions_are_zero_copy() {
+    // The `IoBuf` docs guarantee every From conversion into IoBuf is
+    // zero-copy. Pin payload pointer identity for each route.
+
+    // A vec adopts its own allocation.
+    let mut vec = Vec::with_capacity(128);
+    vec.extend_from_slice(b"adopt");
+    let ptr = vec.as_ptr();
+    let buf = IoBuf::from(vec);
+    assert_eq!(buf.as_ref().as_ptr(), ptr);
+
+    // So does an exactly-sized vec, and converting it onward to `Bytes`
+    // keeps the same payload.
+    let vec = b"exact".to_vec();
+    let ptr = vec.as_ptr();
+    let buf = IoBuf::from(vec);
+    assert_eq!(buf.as_ref().as_ptr(), ptr);
+    assert_eq!(Bytes::from(buf).as_ptr(), ptr);
+
+    // Bytes moves behind the external owner.
+    let bytes = Bytes::from(b"bytes".to_vec());
+    let ptr = bytes.as_ptr();
+    let buf = IoBuf::from(bytes);
+    assert_eq!(buf.as_ref().as_ptr(), ptr);
+
+    // BytesMut freezes in place.
+    let mut bytes = BytesMut::with_capacity(16);
+    bytes.put_slice(b"frozen");
+    let ptr = bytes.as_ref().as_ptr();
+    let buf = IoBuf::from(bytes);
+    assert_eq!(buf.as_ref().as_ptr(), ptr);
+
+    // Static views point at the static data itself.
+    static DATA: [u8; 4] = *b"data";
+    let buf = IoBuf::from(&DATA[..]);
+    assert_eq!(buf.as_ref().as_ptr(), DATA.as_ptr());
+}
+
+#[cfg(feature = "bytes")]
+#[test]
+fn test_iobufmut_put_multi_chunk_source() {
+    let mut buf = IoBufMut::with_capacity(8);
+    buf.put((&b"hel"[..]).chain(&b"lo"[..]));
+    assert_eq!(buf.as_ref(), b"hello");
+    assert_eq!(buf.remaining_mut(), 3);
+}
+
+#[cfg(feature = "bytes")]
+#[test]
+#[should_panic(expected = "cannot advance past end of buffer")]
+fn test_iobufmut_advance_mut_past_capacity() {
+    let mut buf = IoBufMut::with_capacity(4);
+    // SAFETY: the call panics on the bounds check before any byte in the
+    // advanced region could be observed.
+    unsafe { buf.advance_mut(5) };
+}
+
+#[cfg(feature = "bytes")]
+#[test]
+#[should_panic(expected = "cannot advance past end of buffer")]
+fn test_iobufmut_put_past_capacity() {
+    let mut buf = IoBufMut::with_capacity(4);
+    buf.put(&b"hello"[..]);
+}
+
+#[cfg(feature = "bytes")]
+#[test]
+fn test_iobuf_from_bytes_zero_copy_round_trip() {
+    // Bytes -> IoBuf is zero-copy. The handle points into the payload.
+    let bytes = Bytes::from(vec![1u8; 64]);
+    let payload_ptr = bytes.as_ptr();
+    let buf = IoBuf::from(bytes.clone());
+    assert_eq!(buf.as_ptr(), payload_ptr);
+    assert_eq!(buf, bytes.as_ref());
+
+    // IoBuf -> Bytes on an external backing uses slice_ref: same payload,
+    // no copy, no extra owner box.
+    let out: Bytes = buf.into();
+    assert_eq!(out.as_ptr(), payload_ptr);
+    assert_eq!(out, bytes);
+
+    // Sliced external views convert through slice_ref too.
+    let sliced = IoBuf::from(bytes).slice(8..32);
+    let sliced_ptr = sliced.as_ptr();
+    let sliced_out: Bytes = sliced.into();
+    assert_eq!(sliced_out.as_ptr(), sliced_ptr);
+    assert_eq!(sliced_out.len(), 24);
+}
+
+#[cfg(feature = "bytes")]
+#[test]
+fn test_iobuf_from_bytes_mut_zero_copy() {
+    let mut bytes = BytesMut::with_capacity(32);
+    bytes.extend_from_slice(b"hello");
+    let payload_ptr = bytes.as_ref().as_ptr();
+    let buf = IoBuf::from(bytes);
+    assert_eq!(buf.as_ptr(), payload_ptr);
+    assert_eq!(buf, b"hello");
+}
+
+#[cfg(feature = "bytes")]
+#[test]
+fn test_iobuf_static_into_bytes_uses_from_static() {
+    let buf = IoBuf::from(b"static-payload");
+    let payload_ptr = buf.as_ptr();
+    let bytes: Bytes = buf.into();
+    assert_eq!(bytes.as_ptr(), payload_ptr);
+    assert_eq!(bytes.as_ref(), b"static-payload");
+}
+
+#[cfg(feature = "bytes")]
+#[test]
+#[should_panic(expected = "cannot advance")]
+fn test_iobufmut_put_does_not_trust_lying_buf() {
+    // `Buf` is a safe trait, so a misbehaving source may hand out chunks
+    // larger than its reported remaining(). `put` must bound each copy by
+    // its own capacity and panic instead of overflowing the buffer.
+    struct LyingBuf;
+    impl bytes::Buf for LyingBuf {
+        fn remaining(&self) -> usize {
+            1
+        }
+        fn chunk(&self) -> &[u8] {
+            &[0xAB; 64]
+        }
+        fn advance(&mut self, _cnt: usize) {}
+    }
+
+    let mut buf = IoBufMut::with_capacity(8);
+    buf.put(LyingBuf);
+}
+
+#[cfg(feature = "bytes")]
+#[test]
+fn test_bytes_from_unshared_view_keeps_allocation() {
+    let unshared = |len: u8, capacity| {
+        let mut buf = IoBufMut::with_capacity(capacity);
+        (0..len).for_each(|byte| buf.put_u8(byte));
+        buf.freeze()
+    };
+
+    // A conversion moves the advanced descriptor into the Bytes owner
+    // without promoting it. The last Bytes clone frees the allocation
+    // with its original layout, on another thread.
+    let mut buf = unshared(10, 16);
+    buf.advance(2);
+    let bytes = Bytes::from(buf);
+    let slice = bytes.slice(1..4);
+    drop(bytes);
+    std::thread::spawn(move || assert_eq!(slice, [3u8, 4, 5].as_slice()))
+        .join()
+        .unwrap();
+
+    // Direct boxing and a round trip through Bytes keep the view alive.
+    let direct = Bytes::from_owner(unshared(3, 5));
+    let round_trip = IoBuf::from(direct.clone());
+    assert_eq!(round_trip, [0u8, 1, 2]);
+    drop(direct);
+    assert_eq!(round_trip, [0u8, 1, 2]);
+
+    // A partial drain shares the allocation with the drained Bytes.
+    let mut buf = unshared(10, 16);
+    let drained = buf.copy_to_bytes(4);
+    drop(drained);
+    assert_eq!(buf.try_into_mut().unwrap().capacity(), 12);
+}
+
+#[cfg(feature = "bytes")]
+#[test]
+fn test_iobufmut_from_bytesmut_preserves_capacity() {
+    // A uniquely owned BytesMut hands over its capacity.
+    let mut bytes = BytesMut::with_capacity(100);
+    bytes.put_slice(b"abc");
+    let cap = bytes.capacity();
+    let buf = IoBufMut::from(bytes);
+    assert_eq!(buf.as_ref(), b"abc");
+    assert_eq!(buf.capacity(), cap);
+
+    // An empty reserved BytesMut keeps its reservation writable.
+    let bytes = BytesMut::with_capacity(64);
+    let cap = bytes.capacity();
+    let mut buf = IoBufMut::from(bytes);
+    assert!(buf.is_empty());
+    assert_eq!(buf.capacity(), cap);
+    buf.put_bytes(7, cap);
+    assert_eq!(buf.len(), cap);
+
+    // A BytesMut whose allocation is shared with another handle copies,
+    // keeping its reserved capacity.
+    let mut shared = BytesMut::with_capacity(100);
+    shared.put_slice(b"shared");
+    let other = shared.split_to(3);
+    let cap = shared.capacity();
+    let base = shared.as_ptr() as usize;
+    let buf = IoBufMut::from(shared);
+    assert_eq!(buf.as_ref(), b"red");
+    assert_ne!(buf.as_ref().as_ptr() as usize, base);
+    assert_eq!(buf.capacity(), cap);
+    assert_eq!(other.as_ref(), b"sha");
 }

@@ -1,8 +1,8 @@
 //! Texts, parts, builders and frames, worked by hand; readers, writers and threads.
-use iobufs::{AllocError, Builder, Error, FrameReader, FrameWriter, Frames, IoBuf, IoBufMut, IoBufs, IoBufsMut, Prefix, length_size};
+use iobufs::{AllocError, Builder, Error, Frames, IoBuf, IoBufMut, IoBufs, IoBufsMut, Prefix, length_size};
 use std::hash::{DefaultHasher, Hash, Hasher};
 use std::io::{self, BufRead, IoSlice, Read, Write};
-use std::ops::Range;
+use std::ops::{Bound, Range};
 use std::process::Command;
 use std::thread;
 
@@ -47,6 +47,9 @@ fn texts() {
     assert_eq!(&list[1][..], b"de");
     let (slices, n) = same.slices::<8>();
     assert_eq!((n, &slices[2][..], slices[3].len()), (3, &b"fghi"[..], 0));
+    let empty = IoBufs::default();
+    let (slices, n) = empty.slices::<2>();
+    assert_eq!((n, slices.map(|it| it.len())), (0, [0, 0]));
 }
 
 // A size that no buffer can have, and one that no machine has memory for.
@@ -62,6 +65,45 @@ fn allocations_that_fail() {
     assert_eq!((empty.len(), empty.capacity(), zeros.as_ref()), (0, 9, &[0; 3][..]));
     let copies = (IoBufMut::try_copy_from_slice(b"ab").unwrap(), IoBuf::try_copy_from_slice(b"cd").unwrap());
     assert_eq!((copies.0.as_ref(), copies.1.as_ref()), (&b"ab"[..], &b"cd"[..]));
+}
+
+// Capacities that conversions keep.
+#[test]
+fn capacities() {
+    let vec = || {
+        let mut vec = Vec::with_capacity(64);
+        vec.extend_from_slice(b"abc");
+        vec
+    };
+    assert_eq!((IoBufMut::from(vec()).capacity(), IoBufsMut::from(vec()).capacity()), (64, 64));
+    assert_eq!(IoBufMut::from(IoBuf::from(vec())).capacity(), 64);
+    assert_eq!((IoBufMut::from(b"abc").capacity(), IoBufMut::from(IoBuf::from(b"abc")).capacity()), (3, 3));
+}
+
+// Ranges of lengths, of which some have none.
+#[test]
+fn ranges_of_lengths() {
+    use Bound::{Excluded, Included, Unbounded};
+    type Case = ((Bound<usize>, Bound<usize>), &'static [usize]);
+    let cases: [Case; 8] = [
+        ((Unbounded, Unbounded), &[0, 1, 2, usize::MAX]),
+        ((Included(1), Included(2)), &[1, 2]),
+        ((Excluded(1), Excluded(usize::MAX)), &[2]),
+        ((Unbounded, Excluded(0)), &[]),
+        ((Included(2), Excluded(2)), &[]),
+        ((Excluded(usize::MAX), Unbounded), &[]),
+        ((Excluded(usize::MAX), Included(usize::MAX)), &[]),
+        ((Included(usize::MAX), Unbounded), &[usize::MAX]),
+    ];
+    for (range, admitted) in cases {
+        for n in [0, 1, 2, usize::MAX] {
+            let mut part = IoBufMut::with_capacity(10);
+            part.put_length(n);
+            let wanted = if admitted.contains(&n) { Ok(n) } else { Err(Error::InvalidLength(n)) };
+            let view = part.freeze();
+            assert_eq!([view.clone().read_length(range), IoBufs::from(view).read_length(range)], [wanted; 2], "{n} in {range:?}");
+        }
+    }
 }
 
 // The chunks of a text are taken 32 at a time.
@@ -134,6 +176,30 @@ fn slice_backwards() {
     text().slice(lo..hi);
 }
 
+/// A hasher of the calls that it gets, so one that doesn't join writes.
+#[derive(Default)]
+struct Recorder(Vec<Vec<u8>>);
+
+impl Hasher for Recorder {
+    fn write(&mut self, bytes: &[u8]) {
+        self.0.push(bytes.to_vec());
+    }
+
+    fn finish(&self) -> u64 {
+        0
+    }
+}
+
+trait Recorded: Hash {
+    fn recorded(&self) -> Vec<Vec<u8>> {
+        let mut recorder = Recorder::default();
+        self.hash(&mut recorder);
+        recorder.0
+    }
+}
+
+impl<T: Hash + ?Sized> Recorded for T {}
+
 #[test]
 fn equality_order_and_hash_are_those_of_the_bytes() {
     let lists: [&[&'static [u8]]; 5] = [&[], &[b"a", b"b"], &[b"ab"], &[b"a", b"bc"], &[b"b"]];
@@ -148,7 +214,9 @@ fn equality_order_and_hash_are_those_of_the_bytes() {
             let [x, y] = [ours, theirs].map(|chunks| chunks.iter().map(|it| IoBuf::from(*it)).collect::<IoBufs>());
             assert_eq!((x == y, x == b[..], x.cmp(&y)), (a == b, a == b, a.cmp(&b)), "{a:?} {b:?}");
             assert_eq!(a == b, hash_of(&|it| x.hash(it)) == hash_of(&|it| y.hash(it)), "{a:?} {b:?}");
+            assert_eq!(a == b, x.recorded() == y.recorded(), "{a:?} {b:?}");
             let (v, w) = (x.coalesce(), y.coalesce());
+            assert_eq!((v.recorded(), a == b), (a[..].recorded(), v.recorded() == w.recorded()));
             assert_eq!((v == w, v.cmp(&w), v[..].to_vec()), (a == b, a.cmp(&b), a.clone()), "{a:?} {b:?}");
             assert_eq!(hash_of(&|it| v.hash(it)), hash_of(&|it| a[..].hash(it)));
         }
@@ -378,120 +446,6 @@ fn threads() {
     assert_eq!(view.try_into_mut().unwrap().capacity(), 100);
 }
 
-/// Takes and gives at most `most` bytes at a time, after an interruption each.
-struct Narrow {
-    bytes: Vec<u8>,
-    most: usize,
-    was_interrupted: bool,
-}
-
-impl Narrow {
-    fn new(bytes: &[u8], most: usize) -> Self {
-        Narrow { bytes: bytes.to_vec(), most, was_interrupted: false }
-    }
-
-    fn interrupt(&mut self) -> io::Result<()> {
-        self.was_interrupted = !self.was_interrupted;
-        if self.was_interrupted { Err(io::ErrorKind::Interrupted.into()) } else { Ok(()) }
-    }
-}
-
-impl Read for Narrow {
-    fn read(&mut self, dst: &mut [u8]) -> io::Result<usize> {
-        self.interrupt()?;
-        let n = dst.len().min(self.most).min(self.bytes.len());
-        dst[..n].copy_from_slice(&self.bytes[..n]);
-        self.bytes.drain(..n);
-        Ok(n)
-    }
-}
-
-impl Write for Narrow {
-    fn write(&mut self, src: &[u8]) -> io::Result<usize> {
-        self.interrupt()?;
-        let n = src.len().min(self.most);
-        self.bytes.extend_from_slice(&src[..n]);
-        Ok(n)
-    }
-
-    fn flush(&mut self) -> io::Result<()> {
-        Ok(())
-    }
-}
-
-// Reads all frames: the bodies with `|` after each, and how the reader ends.
-fn read_frames(bytes: &[u8], most: usize) -> (Vec<u8>, String) {
-    let (mut from, mut bodies) = (FrameReader::new(Narrow::new(bytes, most), 0..=8), Vec::new());
-    loop {
-        match from.next() {
-            Ok(Some(body)) => bodies.extend([&body[..], b"|"].concat()),
-            Ok(None) => return (bodies, "end".into()),
-            Err(error) => return (bodies, error.to_string()),
-        }
-    }
-}
-
-#[test]
-fn frames_over_streams() {
-    let cases: [(&[u8], &[u8], &str); 5] = [
-        (b"\x03abc\0\x05hello", b"abc||hello|", "end"),
-        (b"\x05hell", b"", "the input ends inside a frame"),
-        (b"\x88", b"", "the input ends inside a frame"),
-        (b"\0\x09aaaaaaaaa", b"|", "bad frame: InvalidLength(9)"),
-        (b"\x80\0", b"", "bad frame: InvalidVarint"),
-    ];
-    for (bytes, bodies, end) in cases {
-        for most in [1, 2, 3, 7, 100] {
-            assert_eq!(read_frames(bytes, most), (bodies.to_vec(), end.to_string()), "{bytes:?} by {most}");
-        }
-    }
-    for most in [1, 2, 3, 7, 100] {
-        let mut to = FrameWriter::new(Narrow::new(b"", most));
-        to.put(text());
-        to.put(IoBuf::default());
-        assert!(!to.is_sent());
-        to.send().unwrap();
-        assert!(to.is_sent());
-        assert_eq!(to.into_inner().bytes, b"\x09abcdefghi\0", "by {most}");
-    }
-    let mut full = FrameWriter::new(Narrow::new(b"", 0));
-    full.put(text());
-    assert_eq!(full.send().unwrap_err().kind(), io::ErrorKind::WriteZero);
-    assert!(!full.is_sent());
-}
-
-#[test]
-fn frames_of_each_prefix() {
-    let cases: [(Prefix, &[u8]); 7] = [
-        (Prefix::Varint, b"\x03abc\0"),
-        (Prefix::U16Be, b"\0\x03abc\0\0"),
-        (Prefix::U32Be, b"\0\0\0\x03abc\0\0\0\0"),
-        (Prefix::U64Be, b"\0\0\0\0\0\0\0\x03abc\0\0\0\0\0\0\0\0"),
-        (Prefix::U16Le, b"\x03\0abc\0\0"),
-        (Prefix::U32Le, b"\x03\0\0\0abc\0\0\0\0"),
-        (Prefix::U64Le, b"\x03\0\0\0\0\0\0\0abc\0\0\0\0\0\0\0\0"),
-    ];
-    for (prefix, bytes) in cases {
-        let mut to = FrameWriter::with_prefix(Narrow::new(b"", 3), prefix);
-        to.put(IoBuf::from(b"abc"));
-        to.put(IoBuf::default());
-        to.send().unwrap();
-        assert_eq!(to.into_inner().bytes, bytes, "{prefix:?}");
-        let mut from = FrameReader::with_prefix(Narrow::new(bytes, 3), prefix, 0..=8);
-        let bodies = [from.next(), from.next(), from.next()].map(|it| it.unwrap().map(Vec::from));
-        assert_eq!(bodies, [Some(b"abc".to_vec()), Some(vec![]), None], "{prefix:?}");
-        let mut frames = Frames::new(prefix);
-        frames.feed(IoBuf::copy_from_slice(bytes));
-        assert_eq!(frames.next(..=2), Err(Error::InvalidLength(3)), "{prefix:?}");
-        let mut to = FrameWriter::with_prefix(Vec::new(), prefix);
-        to.put(IoBufs::from([vec![7; 2000].into(), vec![7; 3000].into()]));
-        to.send().unwrap();
-        let long = to.into_inner();
-        let mut from = FrameReader::with_prefix(&long[..], prefix, 0..=5000);
-        assert!(from.next().unwrap().unwrap() == [7; 5000] && from.next().unwrap().is_none(), "{prefix:?}");
-    }
-}
-
 #[test]
 fn lengths_of_each_prefix() {
     let cases: [(Prefix, usize, Option<&[u8]>); 10] = [
@@ -509,10 +463,4 @@ fn lengths_of_each_prefix() {
     for (prefix, n, wanted) in cases {
         assert_eq!(prefix.written(n).as_ref().map(|it| it.as_ref()), wanted, "{n} as {prefix:?}");
     }
-}
-
-#[test]
-#[should_panic(expected = "the body is too long for its prefix")]
-fn a_body_above_its_prefix() {
-    FrameWriter::with_prefix(Vec::new(), Prefix::U16Be).put(vec![0; 1 << 16]);
 }

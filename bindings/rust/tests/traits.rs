@@ -3,6 +3,7 @@
 use bytes::{Buf, BufMut, Bytes, BytesMut};
 use iobufs::{Builder, IoBuf, IoBufMut, IoBufs, IoBufsMut};
 use std::io::IoSlice;
+use std::ops::Range;
 
 /// Reads by the trait alone: a number, two bytes, and the rest.
 fn read_by_trait(mut buf: impl Buf) {
@@ -87,6 +88,33 @@ fn more_than_is_lent_at_a_time() {
     assert_eq!(part, [7; 10_000]);
 }
 
+// What was lent and then put over doesn't come back, when bytes at the end are dropped: a `BytesMut` has `xycd` then.
+#[test]
+fn what_was_lent_does_not_come_back() {
+    fn lend<B: BufMut>(mut buf: B) -> B {
+        buf.chunk_mut()[..4].copy_from_slice(b"abcd");
+        buf.put_slice(b"xy");
+        buf
+    }
+    let cuts: [fn(&mut IoBufMut); 3] = [|part| part.clear(), |part| part.truncate(0), |part| part.set_len(0)];
+    for cut in cuts {
+        let mut part = lend(IoBufMut::with_capacity(16));
+        cut(&mut part);
+        // SAFETY: these bytes were written.
+        unsafe { part.advance_mut(4) };
+        assert_eq!(part, b"xycd");
+    }
+    let mut parts = lend(parts());
+    parts.set_len(0);
+    // SAFETY: these bytes were written. Here they are forgotten, and it panics.
+    let advanced = std::panic::catch_unwind(std::panic::AssertUnwindSafe(|| unsafe { parts.advance_mut(4) }));
+    assert!(advanced.is_err() && parts.is_empty());
+    parts.put_slice(b"zw");
+    // SAFETY: the two bytes after these were written.
+    unsafe { parts.advance_mut(2) };
+    assert_eq!(parts.freeze().coalesce(), b"zwcd");
+}
+
 #[test]
 #[should_panic(expected = "cannot advance past end of buffer")]
 fn advance_by_what_was_not_lent() {
@@ -154,80 +182,100 @@ impl Random {
 /// How many bytes fit into the buffers that are compared.
 const ROOM: usize = 64;
 
-/// Bytes that are written by way of `chunk_mut`, and not advanced over yet.
-#[derive(Default)]
-struct Written(usize);
-
-/// One random call of `BufMut` on both buffers.
-fn write_both(random: &mut Random, written: &mut Written, ours: &mut impl BufMut, theirs: &mut BytesMut) {
-    let left = ours.remaining_mut();
-    let (n, byte) = (random.below(left.min(8) + 1), random.below(256) as u8);
-    match random.below(6) {
-        0 => {
-            let bytes: Vec<u8> = (0..n as u8).map(|i| byte.wrapping_add(i)).collect();
-            let most = n.min(ours.chunk_mut().len());
-            ours.chunk_mut()[..most].copy_from_slice(&bytes[..most]);
-            theirs.chunk_mut()[..most].copy_from_slice(&bytes[..most]);
-            written.0 = written.0.max(most);
-            return;
-        }
-        1 => {
-            let n = random.below(written.0 + 1);
-            // SAFETY: so many bytes were written behind those that are there.
-            unsafe { (ours.advance_mut(n), theirs.advance_mut(n)) };
-            written.0 -= n;
-            return;
-        }
-        2 => (ours.put_slice(&vec![byte; n]), theirs.put_slice(&vec![byte; n])),
-        3 => (ours.put_bytes(byte, n), theirs.put_bytes(byte, n)),
-        4 if left >= 2 => (ours.put_u16_le(byte.into()), theirs.put_u16_le(byte.into())),
-        5 => (ours.put((&b"ab"[..n.min(1)]).chain(&b"cd"[..n / 4])), theirs.put((&b"ab"[..n.min(1)]).chain(&b"cd"[..n / 4]))),
-        _ => return,
-    };
-    written.0 = written.0.saturating_sub(left - ours.remaining_mut());
+/// A buffer beside a `BytesMut`: both hold the same after each call.
+struct Both<B> {
+    random: Random,
+    ours: B,
+    theirs: BytesMut,
+    /// How many bytes were dropped from the front: a byte's place is counted from the first.
+    gone: usize,
+    /// The places that were written by way of `chunk_mut`, and not advanced over.
+    lent: Range<usize>,
 }
 
-/// One random call of `Buf` on both buffers.
-fn read_both(random: &mut Random, ours: &mut impl Buf, theirs: &mut BytesMut) {
-    let n = random.below(ours.remaining().min(8) + 1);
-    match random.below(4) {
-        0 => (ours.advance(n), theirs.advance(n)),
-        1 if n > 0 => {
-            assert_eq!(ours.get_u8(), theirs.get_u8());
-            ((), ())
-        }
-        2 => {
-            let (mut a, mut b) = (vec![0; n], vec![0; n]);
-            ours.copy_to_slice(&mut a);
-            theirs.copy_to_slice(&mut b);
-            assert_eq!(a, b);
-            ((), ())
-        }
-        _ => {
-            assert_eq!(ours.copy_to_bytes(n), theirs.copy_to_bytes(n));
-            ((), ())
-        }
-    };
-}
+impl<B: Buf + BufMut> Both<B> {
+    /// The place of the next byte that is put.
+    fn next(&self) -> usize {
+        self.gone + self.theirs.len()
+    }
 
-/// Random calls on a buffer and on a `BytesMut`: after each both hold the same.
-fn compare<B: Buf + BufMut>(make: fn() -> B, clone: fn(&B) -> Vec<u8>) {
-    for seed in 0..500 {
-        let (mut random, mut written) = (Random(seed), Written::default());
-        let (mut ours, mut theirs) = (make(), BytesMut::with_capacity(2 * ROOM));
-        for _ in 0..40 {
-            if random.below(3) == 0 {
-                read_both(&mut random, &mut ours, &mut theirs);
-            } else {
-                write_both(&mut random, &mut written, &mut ours, &mut theirs);
+    fn write(&mut self) {
+        let (left, next) = (self.ours.remaining_mut(), self.next());
+        let (n, byte) = (self.random.below(left.min(8) + 1), self.random.below(256) as u8);
+        let (ours, theirs) = (&mut self.ours, &mut self.theirs);
+        match self.random.below(6) {
+            0 => {
+                let bytes: Vec<u8> = (0..n as u8).map(|i| byte.wrapping_add(i)).collect();
+                ours.chunk_mut()[..n].copy_from_slice(&bytes);
+                theirs.chunk_mut()[..n].copy_from_slice(&bytes);
+                let end = if self.lent.contains(&next) { self.lent.end } else { next };
+                self.lent = next..end.max(next + n);
             }
-            assert_eq!(ours.remaining(), theirs.remaining(), "seed {seed}");
-            assert_eq!(clone(&ours), &theirs[..], "seed {seed}");
+            1 if self.lent.contains(&next) => {
+                let n = self.random.below(self.lent.end - next + 1);
+                // SAFETY: so many bytes were written after those that are there.
+                unsafe { (ours.advance_mut(n), theirs.advance_mut(n)) };
+            }
+            2 => (ours.put_slice(&vec![byte; n]), theirs.put_slice(&vec![byte; n])).1,
+            3 => (ours.put_bytes(byte, n), theirs.put_bytes(byte, n)).1,
+            4 if left >= 2 => (ours.put_u16_le(byte.into()), theirs.put_u16_le(byte.into())).1,
+            5 => {
+                let source = || (&b"ab"[..n.min(1)]).chain(&b"cd"[..n / 4]);
+                (ours.put(source()), theirs.put(source())).1
+            }
+            _ => {}
+        }
+    }
+
+    fn read(&mut self) {
+        let n = self.random.below(self.ours.remaining().min(8) + 1);
+        let (ours, theirs) = (&mut self.ours, &mut self.theirs);
+        self.gone += n;
+        match self.random.below(4) {
+            0 => (ours.advance(n), theirs.advance(n)).1,
+            1 => (0..n).for_each(|_| assert_eq!(ours.get_u8(), theirs.get_u8())),
+            2 => {
+                let (mut a, mut b) = (vec![0; n], vec![0; n]);
+                ours.copy_to_slice(&mut a);
+                theirs.copy_to_slice(&mut b);
+                assert_eq!(a, b);
+            }
+            _ => assert_eq!(ours.copy_to_bytes(n), theirs.copy_to_bytes(n)),
+        }
+    }
+}
+
+/// Random calls, of which `cut` keeps so many of the readable bytes, and perhaps what was lent.
+fn compare<B: Buf + BufMut>(make: fn() -> B, (cut, keeps): (fn(&mut B, usize), bool), bytes: fn(&B) -> Vec<u8>) {
+    for seed in 0..500 {
+        let theirs = BytesMut::with_capacity(2 * ROOM);
+        let mut both = Both { random: Random(seed), ours: make(), theirs, gone: 0, lent: 0..0 };
+        for _ in 0..60 {
+            match both.random.below(7) {
+                0 | 1 => both.read(),
+                2 => {
+                    let n = both.random.below(both.theirs.len() + 1);
+                    cut(&mut both.ours, n);
+                    both.theirs.truncate(n);
+                    both.lent = if keeps { both.lent } else { 0..0 };
+                }
+                _ => both.write(),
+            }
+            assert_eq!(both.ours.remaining(), both.theirs.len(), "seed {seed}");
+            assert_eq!(bytes(&both.ours), &both.theirs[..], "seed {seed}");
         }
     }
 }
 
 #[test]
 fn random_calls_as_on_bytes_mut() {
-    compare(|| IoBufMut::with_capacity(ROOM), |part| part.as_ref().to_vec());
+    let cut = |part: &mut IoBufMut, n| if n == 0 { part.clear() } else { part.truncate(n) };
+    compare(|| IoBufMut::with_capacity(ROOM), (cut, true), |part| part.to_vec());
+    compare(|| IoBufMut::with_capacity(ROOM), (IoBufMut::set_len, true), |part| part.to_vec());
+    let bytes = |parts: &IoBufsMut| {
+        let mut list = [IoSlice::new(b""); 5];
+        let n = parts.chunks_vectored(&mut list);
+        list[..n].iter().flat_map(|chunk| chunk.to_vec()).collect()
+    };
+    compare(|| [10, 0, 1, 20, 33].map(IoBufMut::with_capacity).into(), (IoBufsMut::set_len, false), bytes);
 }

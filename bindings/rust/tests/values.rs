@@ -40,16 +40,21 @@ fn test_iobuf_codec_roundtrip() {
 }
 
 #[test]
-fn bytes_behind_a_value() {
+fn bytes_after_a_value() {
     let text = IoBufs::from([IoBuf::from(b"\x01\x02"), IoBuf::from(b"\x03\x04\x05")]);
     assert_eq!(u32::decode_cfg(text.clone(), &()), Err(Error::ExtraData(1)));
+    for n in 0..9 {
+        let bytes = IoBuf::copy_from_slice(&[7; 9][..n]);
+        let wanted = [Err(Error::EndOfBuffer), Ok(0x0707), Err(Error::ExtraData(n.saturating_sub(2)))][n.min(3).saturating_sub(1)];
+        assert_eq!([u16::decode_cfg(bytes.clone(), &()), u16::decode_cfg(in_bytes(&bytes), &())], [wanted; 2], "{n}");
+    }
     let mut parts = IoBufsMut::from([IoBufMut::with_capacity(1), IoBufMut::with_capacity(3)]);
     parts.put_u32(0x0102_0304);
     assert_eq!(u32::decode_cfg(parts, &()), Ok(0x0102_0304));
     assert_eq!(u64::decode_cfg(text, &()), Err(Error::EndOfBuffer));
 }
 
-/// Cut behind each byte, so that every value lies across pieces.
+/// Cut after each byte, so that every value is across chunks.
 fn in_bytes(bytes: &[u8]) -> IoBufs {
     bytes.iter().map(|byte| IoBuf::copy_from_slice(&[*byte])).collect()
 }
@@ -310,6 +315,34 @@ fn a_view_is_pushed_and_shared() {
     let read = Shard::read_cfg(&mut text, &(..=200).into()).unwrap();
     assert_eq!((read.index, &read.body, read.last), (0x0102, &shard.body, 9));
     assert_eq!(read.body.as_ptr(), shard.body.as_ptr());
+}
+
+/// Reads a shard whole or not at all, by one call and by the other: whether there is one, and what is left.
+fn read_shard<B: Source + Clone + PartialEq + Debug>(buf: B, wanted: &Result<u16, Error>) -> [usize; 2] {
+    let (mut by_parts, mut whole) = (buf.clone(), buf.clone());
+    let range = (..=200).into();
+    let read = [Shard::read_cfg(&mut by_parts, &range), Shard::read_whole(&mut whole, &range)];
+    assert_eq!(read.map(|it| it.map(|shard| shard.index)), [*wanted; 2]);
+    assert!(wanted.is_ok() || whole == buf);
+    [by_parts.remaining(), whole.remaining()]
+}
+
+// A value of several parts that fails at a later part has taken the earlier ones, except by `read_whole`.
+#[test]
+fn values_are_read_whole() {
+    let all = b"\x01\x02\x05hello\x09-".as_slice();
+    for n in 0..=all.len() {
+        let (wanted, by_parts, whole) = match n {
+            9.. => (Ok(0x0102), n - 9, n - 9),
+            8 => (Err(END), 0, 8),
+            2.. => (Err(END), n - 2, n),
+            _ => (Err(END), n, n),
+        };
+        assert_eq!(read_shard(IoBuf::copy_from_slice(&all[..n]), &wanted), [by_parts, whole], "{n}");
+        assert_eq!(read_shard(in_bytes(&all[..n]), &wanted), [by_parts, whole], "{n}");
+    }
+    let long = [b"\x01\x02\xc9\x01", &[0; 202][..]].concat();
+    assert_eq!(read_shard(in_bytes(&long), &Err(Error::InvalidLength(201))), [204, 206]);
 }
 
 #[test]

@@ -6,7 +6,7 @@ use Rattle.iobufs_core.specs.MarkedText.{default_text}
 use Rattle.iobufs_frames.specs.declared.Frames.{Frames}
 use Rattle.iobufs_frames.specs.declared.lengths.Prefix.{Prefix}
 use Rattle.iobufs_frames.specs.declared.lengths.Prefix.TheVariants.{Spelled, Fixed}
-use Rattle.iobufs_frames.specs.declared.lengths.Width.TheVariants.{U16, U32, U64}
+use Rattle.iobufs_frames.specs.declared.lengths.Width.TheVariants.{U8, U16, U24, U32, U64}
 use Rattle.iobufs_frames.specs.declared.lengths.ByteOrder.TheVariants.{Big, Little}
 
 -- nothing was fed, and lengths are varints
@@ -23,4 +23,7 @@ prefix_from_c kind =
     else if kind == 4 then Some (Fixed U16 Little)
     else if kind == 5 then Some (Fixed U32 Little)
     else if kind == 6 then Some (Fixed U64 Little)
+    else if kind == 7 then Some (Fixed U8 Big)
+    else if kind == 8 then Some (Fixed U24 Big)
+    else if kind == 9 then Some (Fixed U24 Little)
     else None

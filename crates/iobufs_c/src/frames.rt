@@ -95,7 +95,7 @@ pub extern "C" fn iobufs_frames_len(frames: &mut FramesAt) -> usize
     ensures same { (frames.new.at ≡ frames.old.at) × (frames.new.value ≡ frames.old.value) }
     ensures value { result ≡ text_len frames.old.value.rest }
 {
-    frames.get().rest.len()
+    frames.get().rest().len()
 }
 
 /// Writes the bytes that were fed and not taken, as a text that shares their storage.
@@ -106,7 +106,7 @@ pub extern "C" fn iobufs_frames_rest(frames: &mut FramesAt, out: &mut TextAt) ->
     ensures value { out.new.value ≡ (if result == 0 then frames.old.value.rest else out.old.value) }
     ensures memory { IsDoneUnless result Status.Memory }
 {
-    match frames.get().rest.clone() {
+    match frames.get().rest().clone() {
         Ok(text) => {
             *out.get() = text;
             Status::Done.code()
@@ -147,6 +147,9 @@ fn prefix_of(kind: u8) -> Option<Prefix>
         4 => Some(Prefix::Fixed(Width::U16, ByteOrder::Little)),
         5 => Some(Prefix::Fixed(Width::U32, ByteOrder::Little)),
         6 => Some(Prefix::Fixed(Width::U64, ByteOrder::Little)),
+        7 => Some(Prefix::Fixed(Width::U8, ByteOrder::Big)),
+        8 => Some(Prefix::Fixed(Width::U24, ByteOrder::Big)),
+        9 => Some(Prefix::Fixed(Width::U24, ByteOrder::Little)),
         _ => None,
     }
 }

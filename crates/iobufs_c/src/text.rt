@@ -313,6 +313,36 @@ pub extern "C" fn iobufs_split_to(
     }
 }
 
+/// Another text of the bytes of a range, in their storage. It clones the range's chunks alone.
+#[unsafe(no_mangle)]
+pub extern "C" fn iobufs_slice(
+    alloc: Global,
+    text: &mut TextAt,
+    lo: usize,
+    hi: usize,
+    out: &mut TextAt,
+) -> u8
+    ensures same { (text.new.at ≡ text.old.at) × (text.new.value ≡ text.old.value) }
+    ensures at { out.new.at ≡ out.old.at }
+    ensures value { out.new.value ≡ (if result == 0 then text_split_front (text_rest text.old.value lo) (hi - lo) else out.old.value) }
+    ensures backwards { hi < lo → result ≡ code_of Status.OutOfRange }
+    ensures outside { text_len text.old.value < hi → result ≡ code_of Status.OutOfRange }
+    ensures inside { lo ≤ hi → hi ≤ text_len text.old.value → IsDoneUnless result Status.Memory }
+    ensures nothing { lo ≡ hi → hi ≤ text_len text.old.value → result ≡ 0 }
+{
+    let text = text.get();
+    if lo > hi || hi > text.len() {
+        return Status::OutOfRange.code();
+    }
+    match text.slice(alloc, lo..hi) {
+        Ok(slice) => {
+            *out.get() = slice;
+            Status::Done.code()
+        }
+        Err(_) => Status::Memory.code(),
+    }
+}
+
 /// Drops the first bytes. `Status::OutOfRange` where there are fewer, and then nothing changes.
 #[unsafe(no_mangle)]
 pub extern "C" fn iobufs_advance(text: &mut TextAt, n: usize) -> u8
