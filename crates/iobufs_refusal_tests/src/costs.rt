@@ -14,6 +14,7 @@ use std::process::Abort;
 use std::test::Fail;
 
 mod calls;
+mod held;
 mod shape;
 mod sizes;
 mod stores;
@@ -132,7 +133,7 @@ const OF_PARTS: [Row; 12] = [
     (Costed::CopyToBytes, ALL, NONE),
 ];
 
-const OF_TEXTS: [Row; 33] = [
+const OF_TEXTS: [Row; 34] = [
     (Costed::Clone, ALL, ALL),
     (Costed::Slice, MIDDLE, ALL),
     (Costed::SplitTo, FRONT, BACK),
@@ -158,6 +159,7 @@ const OF_TEXTS: [Row; 33] = [
     (Costed::Build, ALL, ALL),
     (Costed::Framed, ALL, ALL),
     (Costed::Fed, ALL, ALL),
+    (Costed::Received, ALL, ALL),
     (Costed::Append, AFTER, (0, Shape::AFTER)),
     (Costed::Prepend, BEFORE, (Shape::BEFORE, 64)),
     (Costed::SplitTo, (0, 43), REST),

@@ -59,9 +59,9 @@ fn feeds(rt: HostRuntime) {
             rt,
             feed(rt.alloc(), &mut frames, chunk),
             BufError::Memory,
-            shows(&frames.rest, before)
+            shows(frames.rest(), before)
         );
-        end_case(&rt, case, word, shows(&frames.rest, after));
+        end_case(&rt, case, word, shows(frames.rest(), after));
     }
 }
 
@@ -86,13 +86,13 @@ fn next(rt: HostRuntime) {
             rt,
             frames.next(rt.alloc(), &RANGE),
             Error::Memory,
-            shows(&frames.rest, before)
+            shows(frames.rest(), before)
         );
         let is_wanted = match &body {
             Some(body) => wanted == Some(body.as_ref()),
             None => wanted.is_none(),
         };
-        end_case(&rt, case, word, is_wanted && shows(&frames.rest, left));
+        end_case(&rt, case, word, is_wanted && shows(frames.rest(), left));
     }
 }
 
@@ -102,7 +102,7 @@ fn run_of(alloc: Global) -> Result<Run, BufError> {
     for piece in PIECES {
         views.push(IoBuf::from(piece))?;
     }
-    Frames::run(alloc, Prefix::Spelled, views, &RANGE)
+    Frames::run(alloc, views, &RANGE)
 }
 
 #[test]

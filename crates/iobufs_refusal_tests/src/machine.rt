@@ -1,4 +1,4 @@
-// The owner machine: each of its seven tables is reserved once. `tests/sessions/machines.owner` has the steps that want
+// The owner machine: each of its eight tables is reserved once. `tests/sessions/machines.owner` has the steps that want
 // capacity.
 use crate::word::{Ended, end, mark};
 use iobufs_core::codec::BufError;
@@ -8,7 +8,7 @@ use std::alloc::Global;
 use std::process::Abort;
 
 fn new_machine(alloc: Global) -> Result<Machine, BufError> {
-    Ok(Machine::new(alloc, 3, 9, FORMAT_64)?)
+    Machine::new(alloc, 3, 9, FORMAT_64)
 }
 
 #[test]
@@ -18,7 +18,7 @@ fn new(rt: HostRuntime) {
 }
 
 const IDLE: [Step; 1] = [Step {
-    party: 0,
+    thread: 0,
     act: Act::Go(true),
 }];
 
@@ -27,7 +27,7 @@ fn run(rt: HostRuntime) {
     let mut machine = new_machine(rt.alloc()).expect(&rt, "a fixture");
     let (replies, word) = lent!(
         rt,
-        machine.run(&IDLE).map_err(BufError::from),
+        machine.run(&IDLE),
         BufError::Memory,
         machine.blocks().is_empty()
     );
@@ -44,7 +44,7 @@ fn a_reservation(rt: HostRuntime) {
     let mut machine = new_machine(rt.alloc()).expect(&rt, "a fixture");
     let ((), word) = lent!(
         rt,
-        machine.reserve(8, 8, 8).map_err(BufError::from),
+        machine.reserve(8, 8, 8),
         BufError::Memory,
         machine.handles().is_empty()
     );

@@ -1,3 +1,4 @@
 // The owner machine: worked words, reserved entries, and lists of steps.
+mod schedules;
 mod steps;
 mod words;

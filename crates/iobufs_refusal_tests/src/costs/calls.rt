@@ -9,10 +9,10 @@ use iobufs_core::buf::{IoBuf, IoBufMut};
 use iobufs_core::codec::{
     Buf, BufError, BufMut, BufsMut, Encode, Error, OwnedBytes, Peek, RangeCfg, Read, Refused,
 };
-use iobufs_frames::{Frames, Prefix, framed_with};
+use iobufs_frames::{ByteOrder, Frames, Prefix, Received, Width, framed_with};
 use std::alloc::Global;
-use std::mem;
 use std::ops::Bound::{Excluded, Included};
+use std::{io, mem};
 
 // Bodies of any length.
 pub const ANY: RangeCfg = RangeCfg {
@@ -94,6 +94,7 @@ pub enum Costed {
     Build,
     Framed,
     Fed,
+    Received,
     // Of texts.
     Append,
     Prepend,
@@ -381,9 +382,34 @@ fn built(alloc: Global, views: Vec<IoBuf>, size: usize) -> Result<IoBufs, BufErr
     builder.finish()
 }
 
+// How lengths are written, in turn.
+const PREFIXES: [Prefix; 10] = [
+    Prefix::Spelled,
+    Prefix::Fixed(Width::U8, ByteOrder::Big),
+    Prefix::Fixed(Width::U24, ByteOrder::Big),
+    Prefix::Fixed(Width::U24, ByteOrder::Little),
+    Prefix::Fixed(Width::U16, ByteOrder::Big),
+    Prefix::Fixed(Width::U32, ByteOrder::Big),
+    Prefix::Fixed(Width::U64, ByteOrder::Big),
+    Prefix::Fixed(Width::U16, ByteOrder::Little),
+    Prefix::Fixed(Width::U32, ByteOrder::Little),
+    Prefix::Fixed(Width::U64, ByteOrder::Little),
+];
+
+// The prefix of a body's length whose turn it is, if it can write that.
+fn prefix_of(len: usize) -> Prefix {
+    let prefix = PREFIXES[len / 64 % 10];
+    if prefix.fits(len) {
+        prefix
+    } else {
+        Prefix::Spelled
+    }
+}
+
 // A body, framed, without the length before it.
 fn framed(alloc: Global, text: IoBufs) -> Result<Given, BufError> {
-    match framed_with(alloc, Prefix::Spelled, text) {
+    let prefix = prefix_of(text.len());
+    match framed_with(alloc, prefix, text) {
         Ok(text) => Ok(Given::Text(body(text))),
         Err(refused) => Err(refused.cause),
     }
@@ -391,12 +417,34 @@ fn framed(alloc: Global, text: IoBufs) -> Result<Given, BufError> {
 
 // The body of a frame that comes in chunks.
 fn fed(alloc: Global, bytes: &'static [u8], len: usize) -> Result<IoBuf, BufError> {
-    let mut frames = Frames::default();
-    frames.feed(alloc, Prefix::Spelled.written(alloc, bytes.len())?)?;
+    let prefix = prefix_of(bytes.len());
+    let mut frames = Frames::new(prefix);
+    frames.feed(
+        alloc,
+        IoBuf::copy_from_slice(alloc, prefix.head(bytes.len()).as_slice())?,
+    )?;
     for view in cut(alloc, bytes, len)? {
         frames.feed(alloc, view)?;
     }
     memory(frames.next(alloc, &ANY))?.ok_or(BufError::TooLong)
+}
+
+// The body of a frame that is read.
+fn received(alloc: Global, bytes: &'static [u8]) -> Result<IoBuf, BufError> {
+    let prefix = prefix_of(bytes.len());
+    let head = prefix.head(bytes.len());
+    let mut from = io::Read::chain(head.as_slice(), bytes);
+    let mut received = Received::new(alloc, prefix);
+    for _ in 0..64 {
+        received.make_space()?;
+        if received.read_from(&mut from).is_err() {
+            return Err(BufError::TooLong);
+        }
+        if let Some(body) = memory(received.next(&ANY))? {
+            return Ok(body);
+        }
+    }
+    Err(BufError::TooLong)
 }
 
 // Nothing, if a buffer is right.
@@ -418,6 +466,7 @@ fn maker(alloc: Global, call: Costed, args: &mut Args) -> Result<Given, BufError
         Costed::OfSharedBytesMut | Costed::PartOfSharedBytesMut => {
             of_half(call, args.halves.take(), args.bytes)
         }
+        Costed::Received => Ok(Given::View(received(alloc, args.bytes)?)),
         Costed::Join | Costed::Framed | Costed::Fed | Costed::Build => joined(alloc, call, args),
         _ => of_list(alloc, call, filled(args.take_room(alloc), args.bytes)?),
     }

@@ -77,7 +77,7 @@ fn frames(rt: HostRuntime) -> Result<(), Fail> {
     let alloc = rt.alloc();
     for (prefix, length, n) in FRAMES {
         let body = pattern(alloc, n)?;
-        let run = Frames::run(alloc, prefix, pieces(alloc, length, body)?, &ANY)?;
+        let run = Frames::run_with(alloc, prefix, pieces(alloc, length, body)?, &ANY)?;
         let frame = run.frames.first().ok_or("no frame")?;
         assert!(rt;
             frame.as_ref() == body && run.frames.len() == 1,
@@ -103,12 +103,12 @@ fn frames(rt: HostRuntime) -> Result<(), Fail> {
 #[test]
 fn many_frames(rt: HostRuntime) -> Result<(), Fail> {
     let mut pieces = Vec::new(rt.alloc());
-    for _ in 0..4097 {
+    for _ in 0..65537 {
         pieces.push(IoBuf::from(b"\x01a".as_slice()))?;
     }
-    let run = Frames::run(rt.alloc(), Prefix::Spelled, pieces, &ANY)?;
+    let run = Frames::run(rt.alloc(), pieces, &ANY)?;
     assert!(rt;
-        run.frames.len() == 4097 && run.rest.is_empty(),
+        run.frames.len() == 65537 && run.rest.is_empty(),
         "other frames"
     );
     Ok(())
@@ -177,18 +177,18 @@ fn commands(rt: HostRuntime) -> Result<(), Fail> {
     Ok(())
 }
 
-// The steps of one of so many threads. Each step looks at the calls of all.
+// The steps of one of so many threads. A step costs the same among any number of them, so as many end in time.
 fn assert_steps(rt: &(impl Abort + AllocGlobal), threads: u32, count: usize) -> Result<(), Fail> {
     let mut machine = Machine::new(rt.alloc(), threads as usize, 9223372036854775807, FORMAT_64)?;
-    let party = threads.saturating_sub(1) as usize;
+    let thread = threads.saturating_sub(1) as usize;
     machine.reserve(1, 1, 0)?;
     let first = Step {
-        party,
+        thread,
         act: Act::Begin(Call::New(64, 16, 1), true),
     };
     assert!(rt; machine.step(first) == owner::Reply::Made(0), "no block");
     let step = Step {
-        party,
+        thread,
         act: Act::Begin(Call::IsUnique(0), true),
     };
     let steps = vec![in rt.alloc(); step; count]?;
@@ -203,5 +203,5 @@ fn assert_steps(rt: &(impl Abort + AllocGlobal), threads: u32, count: usize) -> 
 #[test]
 fn steps(rt: HostRuntime) -> Result<(), Fail> {
     assert_steps(&rt, 1, RUN)?;
-    assert_steps(&rt, 200000, 100)
+    assert_steps(&rt, 200000, RUN)
 }

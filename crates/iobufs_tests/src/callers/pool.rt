@@ -51,7 +51,7 @@ const CASES: [Case; 4] = [
 
 fn assert_case(rt: &impl Abort, machine: &mut Machine, pool: &mut Pool, case: &Case) {
     let act = Act::Begin(case.call, true);
-    let reply = machine.step(Step { party: 0, act });
+    let reply = machine.step(Step { thread: 0, act });
     assert_same!(rt; reply, case.reply, "{act:?}");
     for wanted in case.taken {
         assert_same!(rt; pool.take(machine), *wanted, "after {act:?}");

@@ -23,6 +23,12 @@ const BIG_16: Prefix = Prefix::Fixed(Width::U16, ByteOrder::Big);
 
 const LITTLE_16: Prefix = Prefix::Fixed(Width::U16, ByteOrder::Little);
 
+const BYTE: Prefix = Prefix::Fixed(Width::U8, ByteOrder::Big);
+
+const BIG_24: Prefix = Prefix::Fixed(Width::U24, ByteOrder::Big);
+
+const LITTLE_24: Prefix = Prefix::Fixed(Width::U24, ByteOrder::Little);
+
 const BIG_32: Prefix = Prefix::Fixed(Width::U32, ByteOrder::Big);
 
 const LITTLE_32: Prefix = Prefix::Fixed(Width::U32, ByteOrder::Little);
@@ -33,6 +39,10 @@ const FRAMES: &[u8] = b"\x03abc\0\x05hello";
 const FRAMES_BIG_16: &[u8] = b"\0\x03abc\0\0\0\x05hello";
 
 const FRAMES_LITTLE_16: &[u8] = b"\x03\0abc\0\0\x05\0hello";
+
+const FRAMES_BIG_24: &[u8] = b"\0\0\x03abc\0\0\0\0\0\x05hello";
+
+const FRAMES_LITTLE_24: &[u8] = b"\x03\0\0abc\0\0\0\x05\0\0hello";
 
 const FRAMES_BIG_32: &[u8] = b"\0\0\0\x03abc\0\0\0\0\0\0\0\x05hello";
 
@@ -159,7 +169,7 @@ type Reading = (
     Ending,
 );
 
-const READINGS: [Reading; 13] = rows! {
+const READINGS: [Reading; 18] = rows! {
     "whole frames", VARINT, FRAMES, false, &[1, 2, 3, 4, 7, 100], b"abc||hello|", Ending::End;
     "frames that are held before the reader fails", VARINT, FRAMES, true, &[100], b"abc||hello|", Ending::Io(ErrorKind::ConnectionReset);
     "the end inside a body", VARINT, b"\x05hell", false, &[3], b"", Ending::Cut;
@@ -169,6 +179,11 @@ const READINGS: [Reading; 13] = rows! {
     "a length that is not in the shortest form", VARINT, b"\x80\0", false, &[1], b"", Ending::Bad(Error::InvalidVarint);
     "u16, big", BIG_16, FRAMES_BIG_16, false, &[1, 2, 3, 5, 100], b"abc||hello|", Ending::End;
     "u16, little", LITTLE_16, FRAMES_LITTLE_16, false, &[1, 2, 3, 5, 100], b"abc||hello|", Ending::End;
+    "u8", BYTE, FRAMES, false, &[1, 2, 3, 5, 100], b"abc||hello|", Ending::End;
+    "u24, big", BIG_24, FRAMES_BIG_24, false, &[1, 2, 3, 5, 100], b"abc||hello|", Ending::End;
+    "u24, little", LITTLE_24, FRAMES_LITTLE_24, false, &[1, 2, 3, 5, 100], b"abc||hello|", Ending::End;
+    "the end inside a u24", BIG_24, b"\0\0", false, &[1], b"", Ending::Cut;
+    "a u24 outside the range", LITTLE_24, b"\x01\x02\x03a", false, &[1], b"", Ending::Bad(Error::InvalidLength(197121));
     "u32, big", BIG_32, FRAMES_BIG_32, false, &[1, 2, 3, 5, 100], b"abc||hello|", Ending::End;
     "u32, little", LITTLE_32, FRAMES_LITTLE_32, false, &[1, 2, 3, 5, 100], b"abc||hello|", Ending::End;
     "a u16 outside the range", BIG_16, b"\x01\x02a", false, &[1], b"", Ending::Bad(Error::InvalidLength(258));
@@ -237,10 +252,13 @@ type Writing = (
     &'static [u8],
 );
 
-const WRITINGS: [Writing; 5] = rows! {
+const WRITINGS: [Writing; 8] = rows! {
     VARINT, &[1, 2, 3, 7, 100], &[&[b"abc", b"def"], &[]], b"\x06abcdef\0";
     BIG_16, &[3], &[&[b"abc"], &[], &[b"hello"]], FRAMES_BIG_16;
     LITTLE_16, &[3], &[&[b"abc"], &[], &[b"hello"]], FRAMES_LITTLE_16;
+    BYTE, &[3], &[&[b"abc"], &[], &[b"hello"]], FRAMES;
+    BIG_24, &[3], &[&[b"abc"], &[], &[b"hello"]], FRAMES_BIG_24;
+    LITTLE_24, &[3], &[&[b"abc"], &[], &[b"hello"]], FRAMES_LITTLE_24;
     BIG_32, &[3], &[&[b"abc"], &[], &[b"hello"]], FRAMES_BIG_32;
     LITTLE_32, &[3], &[&[b"abc"], &[], &[b"hello"]], FRAMES_LITTLE_32;
 };
@@ -341,24 +359,25 @@ const RESET: Ending = Ending::Io(ErrorKind::ConnectionReset);
 
 const ALL: &[u8] = b"\x03abc|\0|\x05hello|";
 
-const ECHOES: [Echo; 19] = rows! {
-    "no failure", VARINT, FRAMES, false, b"", VARINT, usize::MAX, Ending::End, ALL, 0, Ending::End, b"\x03abc|\0|\x05hello||";
-    "the end inside a body", VARINT, b"\x01a\x02b", false, b"", VARINT, usize::MAX, Ending::Cut, b"\x01a|", 0, Ending::Cut, b"\x01a||";
+const ECHOES: [Echo; 20] = rows! {
+    "no failure", VARINT, FRAMES, false, b"", VARINT, usize::MAX, Ending::End, ALL, 0, Ending::End, b"\x03abc|\0|\x05hello|";
+    "the end inside a body", VARINT, b"\x01a\x02b", false, b"", VARINT, usize::MAX, Ending::Cut, b"\x01a|", 0, Ending::Cut, b"\x01a|";
     "u16, big", BIG_16, FRAMES_BIG_16, false, b"",
-        BIG_16, usize::MAX, Ending::End, b"\0\x03abc|\0\0|\0\x05hello|", 0, Ending::End, b"\0\x03abc|\0\0|\0\x05hello||";
-    "u16, big, to varints", BIG_16, FRAMES_BIG_16, false, b"", VARINT, usize::MAX, Ending::End, ALL, 0, Ending::End, b"\x03abc|\0|\x05hello||";
+        BIG_16, usize::MAX, Ending::End, b"\0\x03abc|\0\0|\0\x05hello|", 0, Ending::End, b"\0\x03abc|\0\0|\0\x05hello|";
+    "u16, big, to varints", BIG_16, FRAMES_BIG_16, false, b"", VARINT, usize::MAX, Ending::End, ALL, 0, Ending::End, b"\x03abc|\0|\x05hello|";
     "u16, little", LITTLE_16, FRAMES_LITTLE_16, false, b"",
-        LITTLE_16, usize::MAX, Ending::End, b"\x03\0abc|\0\0|\x05\0hello|", 0, Ending::End, b"\x03\0abc|\0\0|\x05\0hello||";
-    "u16, little, to varints", LITTLE_16, FRAMES_LITTLE_16, false, b"", VARINT, usize::MAX, Ending::End, ALL, 0, Ending::End, b"\x03abc|\0|\x05hello||";
+        LITTLE_16, usize::MAX, Ending::End, b"\x03\0abc|\0\0|\x05\0hello|", 0, Ending::End, b"\x03\0abc|\0\0|\x05\0hello|";
+    "u16, little, to varints", LITTLE_16, FRAMES_LITTLE_16, false, b"", VARINT, usize::MAX, Ending::End, ALL, 0, Ending::End, b"\x03abc|\0|\x05hello|";
     "u32, big", BIG_32, FRAMES_BIG_32, false, b"",
-        BIG_32, usize::MAX, Ending::End, b"\0\0\0\x03abc|\0\0\0\0|\0\0\0\x05hello|", 0, Ending::End, b"\0\0\0\x03abc|\0\0\0\0|\0\0\0\x05hello||";
-    "u32, big, to varints", BIG_32, FRAMES_BIG_32, false, b"", VARINT, usize::MAX, Ending::End, ALL, 0, Ending::End, b"\x03abc|\0|\x05hello||";
+        BIG_32, usize::MAX, Ending::End, b"\0\0\0\x03abc|\0\0\0\0|\0\0\0\x05hello|", 0, Ending::End, b"\0\0\0\x03abc|\0\0\0\0|\0\0\0\x05hello|";
+    "u32, big, to varints", BIG_32, FRAMES_BIG_32, false, b"", VARINT, usize::MAX, Ending::End, ALL, 0, Ending::End, b"\x03abc|\0|\x05hello|";
     "u32, little", LITTLE_32, FRAMES_LITTLE_32, false, b"",
-        LITTLE_32, usize::MAX, Ending::End, b"\x03\0\0\0abc|\0\0\0\0|\x05\0\0\0hello|", 0, Ending::End, b"\x03\0\0\0abc|\0\0\0\0|\x05\0\0\0hello||";
-    "u32, little, to varints", LITTLE_32, FRAMES_LITTLE_32, false, b"", VARINT, usize::MAX, Ending::End, ALL, 0, Ending::End, b"\x03abc|\0|\x05hello||";
-    "a read between two frames", VARINT, b"\x03abc", true, b"\0\x05hello", VARINT, usize::MAX, RESET, b"\x03abc|", 0, Ending::End, b"\x03abc||\0|\x05hello|";
-    "a read inside a body", VARINT, b"\x03abc\0\x05he", true, b"llo", VARINT, usize::MAX, RESET, b"\x03abc|\0|", 0, Ending::End, b"\x03abc|\0||\x05hello|";
-    "a read inside a length", BIG_16, b"\0\0\0", true, b"\x03abc", BIG_16, usize::MAX, RESET, b"\0\0|", 0, Ending::End, b"\0\0||\0\x03abc|";
+        LITTLE_32, usize::MAX, Ending::End, b"\x03\0\0\0abc|\0\0\0\0|\x05\0\0\0hello|", 0, Ending::End, b"\x03\0\0\0abc|\0\0\0\0|\x05\0\0\0hello|";
+    "u32, little, to varints", LITTLE_32, FRAMES_LITTLE_32, false, b"", VARINT, usize::MAX, Ending::End, ALL, 0, Ending::End, b"\x03abc|\0|\x05hello|";
+    "two frames a read", VARINT, b"\0\0\0\0", false, b"", VARINT, usize::MAX, Ending::End, b"\0\0|\0\0|", 0, Ending::End, b"\0\0|\0\0|";
+    "a read between two frames", VARINT, b"\x03abc", true, b"\0\x05hello", VARINT, usize::MAX, RESET, b"\x03abc|", 0, Ending::End, b"\x03abc|\0|\x05hello|";
+    "a read inside a body", VARINT, b"\x03abc\0\x05he", true, b"llo", VARINT, usize::MAX, RESET, b"\x03abc|\0|", 0, Ending::End, b"\x03abc|\0|\x05hello|";
+    "a read inside a length", BIG_16, b"\0\0\0", true, b"\x03abc", BIG_16, usize::MAX, RESET, b"\0\0|", 0, Ending::End, b"\0\0|\0\x03abc|";
     "the write of a length", VARINT, FRAMES, false, b"", VARINT, 0, PIPE, b"", 4, Ending::End, ALL;
     "the write of a body", VARINT, FRAMES, false, b"", VARINT, 1, PIPE, b"\x03", 3, Ending::End, ALL;
     "the first flush", VARINT, FRAMES, false, b"", VARINT, 2, PIPE, b"\x03abc", 0, Ending::End, ALL;
@@ -391,7 +410,7 @@ fn assert_echoed(rt: &(impl Abort + AllocGlobal), case: &Echo) -> Result<(), Fai
     }
     to.to.fails_at = usize::MAX;
     to.send(rt.alloc())?;
-    to.to.flush()?;
+    to.flush()?;
     let ending = echoed(rt, &mut from, &mut to);
     assert_same!(rt; (ending, to.to.calls.as_slice()), (last, all), "{name}");
     Ok(())
@@ -425,6 +444,45 @@ fn a_body_above_its_length_is_refused(rt: HostRuntime) -> Result<(), Fail> {
     let rest = &writer.rest;
     let found = (rest.len(), rest.byte_at(0), rest.byte_at(1));
     assert_same!(rt; found, (65537, Some(255), Some(255)));
+    Ok(())
+}
+
+#[test]
+fn a_body_above_the_limit_is_refused(rt: HostRuntime) -> Result<(), Fail> {
+    let alloc = rt.alloc();
+    let mut writer = FrameWriter::new(Recorder::new(alloc, 100, usize::MAX));
+    writer.most = 2;
+    let refused = writer.put(alloc, text(alloc, &[b"ab", b"c"])?).err();
+    let refused = refused.map(|refused| (refused.cause, refused.value.len()));
+    assert_same!(rt; refused, Some((BufError::TooLong, 3)));
+    writer.put(alloc, text(alloc, &[b"ab"])?)?;
+    writer.send(alloc)?;
+    assert_same!(rt; writer.to.calls.as_slice(), b"\x02ab".as_slice());
+    Ok(())
+}
+
+// Two frames come in one read, and the length of a third.
+#[test]
+fn held_frames_are_taken(rt: HostRuntime) -> Result<(), Fail> {
+    let from = Steps::new(b"\x01a\x01b\x01", 100, true);
+    let mut reader = frame_reader(rt.alloc(), VARINT, from)?;
+    let before = (
+        reader.has_frame(),
+        reader.next_held().ok().flatten().is_some(),
+    );
+    let first = reader.next(rt.alloc()).ok().flatten();
+    let after = reader.has_frame();
+    let second = reader.next_held().ok().flatten();
+    let last = (
+        reader.has_frame(),
+        reader.next_held().ok().flatten().is_some(),
+    );
+    assert_same!(rt; (before, after, last), ((false, false), true, (false, false)));
+    let bodies = (
+        first.as_ref().map(|body| body.len()),
+        second.as_ref().map(|body| body.as_ref()),
+    );
+    assert_same!(rt; bodies, (Some(1), Some(b"b".as_slice())));
     Ok(())
 }
 

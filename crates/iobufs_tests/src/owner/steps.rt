@@ -1,10 +1,9 @@
 // The machine where no stored session of the program goes: it reserves entries before each step, and gives no list of steps.
 use crate::same::assert_same;
 use iobufs_owner::format::FORMAT_64;
-use iobufs_owner::owner::Act::{self, Begin, Go};
-use iobufs_owner::owner::Reply::{self, Done, Made, More, Refused, Unique};
-use iobufs_owner::owner::{Call, Freed, Machine, Refusal, Step};
-use std::alloc::{AllocError, Global};
+use iobufs_owner::owner::Act::Begin;
+use iobufs_owner::owner::Reply::{self, Made, Refused, Unique};
+use iobufs_owner::owner::{Call, Machine, Refusal, Step};
 use std::test::Fail;
 
 // Calls once one block, three handles and one record are reserved, and the reply to each.
@@ -15,9 +14,9 @@ const RESERVED: [(Call, Reply); 4] = [
     (Call::Static(5), Refused(Refusal::Room)),
 ];
 
-fn begun(call: Call) -> Step {
+pub fn begun(call: Call) -> Step {
     Step {
-        party: 0,
+        thread: 0,
         act: Begin(call, true),
     }
 }
@@ -32,57 +31,6 @@ fn reserved_entries(rt: HostRuntime) -> Result<(), Fail> {
     for (call, wanted) in &RESERVED {
         assert_same!(rt; machine.step(begun(*call)), *wanted, "{call:?}");
     }
-    Ok(())
-}
-
-// Two promotions race, and three drops: the loser's record is freed, and the block once.
-const RACE: [(usize, Act, Reply); 17] = [
-    (0, Begin(Call::New(64, 12, 1), true), Made(0)),
-    (0, Begin(Call::Put(0, 8), true), Done),
-    (0, Begin(Call::Freeze(0), true), Done),
-    (1, Begin(Call::Clone(0), true), More),
-    (2, Begin(Call::Clone(0), true), More),
-    (1, Go(true), More),
-    (2, Go(true), More),
-    (1, Go(true), Made(1)),
-    (2, Go(true), More),
-    (2, Go(true), Made(2)),
-    (0, Begin(Call::Drop(0), true), More),
-    (1, Begin(Call::Drop(1), true), More),
-    (2, Begin(Call::Drop(2), true), More),
-    (0, Go(true), Done),
-    (1, Go(true), Done),
-    (2, Go(true), More),
-    (2, Go(true), Done),
-];
-
-// The block of the race, in the log.
-const FREED: Freed = Freed {
-    base: 64,
-    size: 12,
-    align: 1,
-};
-
-fn steps_of_race(alloc: Global) -> Result<(Vec<Step>, Vec<Reply>), AllocError> {
-    let (mut steps, mut replies) = (Vec::new(alloc), Vec::new(alloc));
-    for (party, act, reply) in &RACE {
-        steps.push(Step {
-            party: *party,
-            act: *act,
-        })?;
-        replies.push(*reply)?;
-    }
-    Ok((steps, replies))
-}
-
-#[test]
-fn steps_as_one_list(rt: HostRuntime) -> Result<(), Fail> {
-    let (steps, wanted) = steps_of_race(rt.alloc())?;
-    let mut machine = Machine::new(rt.alloc(), 3, 9, FORMAT_64)?;
-    let replies = machine.run(steps.as_slice())?;
-    assert_same!(rt; replies, wanted);
-    assert_same!(rt; machine.freed_blocks(), [FREED].as_slice());
-    assert_same!(rt; machine.freed_records(), [1, 0].as_slice());
     Ok(())
 }
 

@@ -1,0 +1,125 @@
+// How much memory is held for bytes that are received. A test prints the most bytes that it held since it last did;
+// `tests/costs` compares the memory that was allocated and not freed meanwhile.
+use crate::costs::calls::ANY;
+use crate::word::mark;
+use iobufs_core::buf::IoBuf;
+use iobufs_core::codec::BufError;
+use iobufs_frames::{Prefix, Received};
+use std::alloc::Global;
+use std::io::{self, Read};
+use std::process::Abort;
+use std::test::Fail;
+
+// A name, how many frames there are, how many bytes a body has, how many bytes come at a time at most, and whether bodies
+// are kept.
+type Case = (&'static str, usize, usize, usize, bool);
+
+const CASES: [Case; 7] = rows! {
+    "a_byte_at_a_time", 30000, 64, 1, false;
+    "short_bodies_that_are_kept", 30000, 3, 1, true;
+    "short_bodies_that_come_together", 60000, 3, 65536, true;
+    "a_mebibyte_byte_by_byte", 1, 1048576, 1, true;
+    "mebibytes_that_are_dropped", 5, 1048576, 4096, false;
+    "bodies_above_half_a_block", 60, 33000, 65536, true;
+    "bodies_above_a_block", 30, 70000, 1000, true;
+};
+
+// Frames, each of these bytes, from an offset in the first.
+#[derive(Drop)]
+struct Source {
+    frame: Vec<u8>,
+    at: usize,
+    count: usize,
+    most: usize,
+}
+
+impl Read for Source {
+    fn read(&mut self, buf: &mut [u8]) -> io::Result<usize> {
+        let mut done = 0;
+        let most = buf.len().min(self.most);
+        for _ in 0..most {
+            if self.count == 0 || self.at >= self.frame.len() {
+                return Ok(done);
+            }
+            buf[done] = self.frame[self.at];
+            done += 1;
+            self.at += 1;
+            if self.at == self.frame.len() {
+                self.at = 0;
+                self.count -= 1;
+            }
+        }
+        Ok(done)
+    }
+}
+
+fn source_of(alloc: Global, case: &Case) -> Result<Source, BufError> {
+    let (_, count, len, most, _) = *case;
+    let mut frame = Vec::from_slice(alloc, Prefix::Spelled.head(len).as_slice())?;
+    frame.resize(frame.len().saturating_add(len), 7)?;
+    Ok(Source {
+        frame,
+        at: 0,
+        count,
+        most,
+    })
+}
+
+// Takes the frames that are whole, and returns how many bytes the bodies have that are kept.
+fn take_frames(
+    received: &mut Received,
+    kept: &mut Vec<IoBuf>,
+    is_kept: bool,
+) -> Result<usize, BufError> {
+    let mut held = 0usize;
+    for _ in 0..u64::MAX {
+        match received.next(&ANY) {
+            Ok(Some(body)) if is_kept => {
+                held = held.saturating_add(body.len());
+                kept.push(body)?;
+            }
+            Ok(Some(_)) => {}
+            _ => return Ok(held),
+        }
+    }
+    Ok(held)
+}
+
+// Receives the frames, and prints the most bytes that were held, for each 1,000 bytes or each read.
+fn receive(rt: &(impl Print + Abort + AllocGlobal), case: &Case) -> Result<(), Fail> {
+    let mut from = source_of(rt.alloc(), case)?;
+    let mut kept = Vec::with_capacity(rt.alloc(), case.1)?;
+    let mut received = Received::new(rt.alloc(), Prefix::Spelled);
+    let (mut held, mut most, mut unprinted) = (0usize, 0usize, 0usize);
+    mark(rt, "call");
+    for _ in 0..u64::MAX {
+        received.make_space()?;
+        let n = received.read_from(&mut from)?;
+        if n == 0 {
+            break;
+        }
+        most = most.max(held.saturating_add(received.len()));
+        held = held.saturating_add(take_frames(&mut received, &mut kept, case.4)?);
+        unprinted = unprinted.saturating_add(n);
+        if unprinted >= 1000 {
+            println!(rt; "held {most}")?;
+            most = held.saturating_add(received.len());
+            unprinted = 0;
+        }
+    }
+    println!(rt; "{} {most}", case.0)?;
+    assert!(rt;
+        from.count == 0 && received.len() == 0,
+        "{}: bytes are left",
+        case.0
+    );
+    Ok(())
+}
+
+#[test]
+fn held(rt: HostRuntime) -> Result<(), Fail> {
+    for case in &CASES {
+        receive(&rt, case)?;
+    }
+    Ok(())
+}
