@@ -41,7 +41,7 @@ SHORT = [
 # When a call cannot fail: the condition of a clause that ends in `IsOk result`.
 SURE = [
     (r"text_len self\.old ≡ 0|length self\.old\.bytes ≡ 0", "empty target"),
-    (r"(?:length .*|text_len .*|n|at|len|max|capacity|parties) ≡ 0|range\.start ≡ range\.end|start_place lo .*|building_items self ≡ \[\]", "nothing to do"),
+    (r"(?:length .*|text_len .*|n|at|len|max|capacity|threads) ≡ 0|range\.start ≡ range\.end|start_place lo .*|building_items self ≡ \[\]", "nothing to do"),
     (r"(?:at|n) ≡ (?:length self\.old\.bytes|text_len self\.old)", "at the end"),
     (r"(?:at|len) ≡ length \(first_chunk .*", "at the first chunk's end"),
     (r"\(front : .*", "at the last chunk's start"),
@@ -226,7 +226,7 @@ def code(name):
 def trusted():
     """How many definitions the main contracts rest on."""
     yield "|contract|definitions|lines|\n|---|--:|--:|"
-    yield from (f"|`{name}`|{number}|{lines}|" for name, number, lines in contracts())
+    yield from (f"|{name}|{number}|{lines}|" for name, number, lines in contracts())
 
 
 PARTS = {"trusted": trusted, "api": api, "own calls": own, "matrix": matrix, "crates": crates, "promises": promises}
