@@ -16,6 +16,7 @@ use Rattle.iobufs_streams.specs.Streams.{IsEnd, IsFilledBy, IsFirstOf, IsFront, 
 use Rattle.iobufs_streams.specs.declared.error.FrameError.{FrameError}
 use Rattle.iobufs_streams.specs.declared.error.FrameError.TheVariants.{Bad, Cut, Io, Memory, TooLong}
 
+-- bytes that are kept, and then read or written
 pub consumes_after : (a b c : Option (List ℕ)) (u : List ℕ) → Keeps a b → Consumes b c u → Consumes a c u
 consumes_after None b c u p q = tt
 consumes_after (Some xs) None c u p q = absurd p
