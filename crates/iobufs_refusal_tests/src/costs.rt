@@ -14,16 +14,17 @@ use std::process::Abort;
 use std::test::Fail;
 
 mod calls;
+mod drawn;
 mod held;
 mod shape;
 mod sizes;
 mod stores;
 
 // The lengths of the views and writable buffers.
-const LENGTHS: [usize; 4] = [64, 4097, 65537, 1048577];
+const LENGTHS: [usize; 5] = [64, 1000, 4097, 65537, 1048577];
 
-// How many chunks of how many bytes each, in pairs of one number of chunks.
-const CHUNKS: [(usize, usize); 21] = [
+// How many chunks of how many bytes each, at least two lengths for one number of chunks.
+const CHUNKS: [(usize, usize); 22] = [
     (1, 64),
     (1, 4160),
     (1, 1048577),
@@ -35,6 +36,7 @@ const CHUNKS: [(usize, usize); 21] = [
     (3, 1048577),
     (4, 64),
     (4, 4160),
+    (4, 65537),
     (5, 64),
     (5, 4160),
     (64, 64),
@@ -54,32 +56,38 @@ const ALL: Span = (0, 64);
 
 const NONE: Span = (64, 64);
 
-const FRONT: Span = (0, 21);
+const FRONT: Span = (0, Shape::LOWER);
 
-const BACK: Span = (21, 64);
+const BACK: Span = (Shape::LOWER, 64);
 
-const MIDDLE: Span = (21, 43);
+const MIDDLE: Span = (Shape::LOWER, Shape::UPPER);
 
-const REST: Span = (43, 64);
+const MOST: Span = (0, Shape::UPPER);
+
+const REST: Span = (Shape::UPPER, 64);
 
 // A call, the bytes that it is given or gives, and those that it leaves.
 type Row = (Costed, Span, Span);
 
-const OF_VIEWS: [Row; 28] = [
+const OF_VIEWS: [Row; 32] = [
     (Costed::Clone, ALL, ALL),
     (Costed::Slice, MIDDLE, ALL),
+    (Costed::Slice, REST, ALL),
     (Costed::SplitTo, FRONT, BACK),
+    (Costed::SplitTo, MOST, REST),
     (Costed::Advance, FRONT, BACK),
     (Costed::CopyToSlice, FRONT, BACK),
     (Costed::TryCopy, FRONT, BACK),
     (Costed::CopyToBytes, FRONT, BACK),
     (Costed::Chunks, ALL, ALL),
     (Costed::TwoChunks, ALL, ALL),
+    (Costed::ManyChunks, ALL, ALL),
     (Costed::TakeView, MIDDLE, REST),
     (Costed::TakeBytes, MIDDLE, REST),
     (Costed::TryTake, FRONT, BACK),
     (Costed::TryTakeBytes, FRONT, BACK),
     (Costed::PeekView, MIDDLE, ALL),
+    (Costed::PeekView, REST, ALL),
     (Costed::PeekBytes, MIDDLE, ALL),
     (Costed::PeekSlice, MIDDLE, ALL),
     (Costed::TakeAllView, ALL, NONE),
@@ -118,13 +126,14 @@ const MAKERS: [Row; 18] = [
     (Costed::EncodeBytes, ALL, ALL),
 ];
 
-const OF_PARTS: [Row; 12] = [
+const OF_PARTS: [Row; 13] = [
     (Costed::Advance, FRONT, BACK),
     (Costed::CopyToSlice, FRONT, BACK),
     (Costed::TryCopy, FRONT, BACK),
     (Costed::CopyToBytes, FRONT, BACK),
     (Costed::Chunks, ALL, ALL),
     (Costed::TwoChunks, ALL, ALL),
+    (Costed::ManyChunks, ALL, ALL),
     (Costed::Truncate, FRONT, FRONT),
     (Costed::SetLen, FRONT, FRONT),
     (Costed::Put, ALL, ALL),
@@ -133,9 +142,11 @@ const OF_PARTS: [Row; 12] = [
     (Costed::CopyToBytes, ALL, NONE),
 ];
 
-const OF_TEXTS: [Row; 34] = [
+const OF_TEXTS: [Row; 38] = [
     (Costed::Clone, ALL, ALL),
     (Costed::Slice, MIDDLE, ALL),
+    (Costed::Slice, ALL, ALL),
+    (Costed::Slice, REST, ALL),
     (Costed::SplitTo, FRONT, BACK),
     (Costed::SplitTo, (0, 32), (32, 64)),
     (Costed::Truncate, FRONT, FRONT),
@@ -145,11 +156,13 @@ const OF_TEXTS: [Row; 34] = [
     (Costed::CopyToBytes, FRONT, BACK),
     (Costed::Chunks, ALL, ALL),
     (Costed::TwoChunks, ALL, ALL),
+    (Costed::ManyChunks, ALL, ALL),
     (Costed::TakeView, MIDDLE, REST),
     (Costed::TakeBytes, MIDDLE, REST),
     (Costed::TryTake, FRONT, BACK),
     (Costed::TryTakeBytes, FRONT, BACK),
     (Costed::PeekView, MIDDLE, ALL),
+    (Costed::PeekView, REST, ALL),
     (Costed::PeekBytes, MIDDLE, ALL),
     (Costed::PeekSlice, MIDDLE, ALL),
     (Costed::ToVec, ALL, ALL),
@@ -162,7 +175,7 @@ const OF_TEXTS: [Row; 34] = [
     (Costed::Received, ALL, ALL),
     (Costed::Append, AFTER, (0, Shape::AFTER)),
     (Costed::Prepend, BEFORE, (Shape::BEFORE, 64)),
-    (Costed::SplitTo, (0, 43), REST),
+    (Costed::SplitTo, MOST, REST),
     (Costed::SplitTo, FIRST, (Shape::FIRST, 64)),
     (Costed::TakeView, FIRST, (Shape::FIRST, 64)),
     (Costed::TakeView, (0, 10), (10, 64)),
@@ -176,13 +189,14 @@ const BEFORE: Span = (Shape::BEFORE, 0);
 
 const FIRST: Span = (0, Shape::FIRST);
 
-const OF_ROWS: [Row; 14] = [
+const OF_ROWS: [Row; 15] = [
     (Costed::Advance, FRONT, BACK),
     (Costed::CopyToSlice, FRONT, BACK),
     (Costed::TryCopy, FRONT, BACK),
     (Costed::CopyToBytes, FRONT, BACK),
     (Costed::Chunks, ALL, ALL),
     (Costed::TwoChunks, ALL, ALL),
+    (Costed::ManyChunks, ALL, ALL),
     (Costed::SetLen, FRONT, FRONT),
     (Costed::Put, ALL, ALL),
     (Costed::Overwrite, ALL, ALL),
@@ -278,6 +292,8 @@ fn count<B: Counted>(
         Err(_) => Ended::Failed,
     };
     println!(rt; "{call:?} {what:?} {} {} {ended:?}", shape.count, shape.len).expect(rt, "printed");
+    let is_right = !matches!(ended, Ended::Wrong | Ended::Failed | Ended::Changed);
+    assert!(rt; is_right, "{call:?} of {what:?}: {ended:?}");
     Ok(())
 }
 
@@ -289,9 +305,8 @@ fn count_views(
 ) -> Result<(), BufError> {
     let count_left = if matches!(kind, Store::Emptied) { 0 } else { 1 };
     let left = Shape {
-        all: shape.all,
         count: count_left,
-        len: shape.len,
+        ..*shape
     };
     for row in &OF_VIEWS {
         let (view, other) = stored(rt.alloc(), kind, shape.bytes(ALL))?;
@@ -323,6 +338,15 @@ fn count_texts(
     for row in &OF_TEXTS {
         let text = text(rt.alloc(), kind, shape.bytes(ALL), shape.len)?;
         count(rt, &kind, shape, text, row)?;
+    }
+    Ok(())
+}
+
+fn count_rows(rt: &(impl Print + Abort + AllocGlobal), shape: &Shape) -> Result<(), BufError> {
+    for row in &OF_ROWS {
+        let parts = parts_of(rt.alloc(), shape.bytes(ALL), shape.len)?;
+        let parts = IoBufsMut::from_parts(rt.alloc(), parts.into_iter())?;
+        count(rt, &Origin::Full, shape, parts, row)?;
     }
     Ok(())
 }
@@ -375,11 +399,7 @@ fn texts(rt: HostRuntime) -> Result<(), Fail> {
 fn rows(rt: HostRuntime) -> Result<(), Fail> {
     for (chunks, len) in CHUNKS {
         let shape = Shape::new(rt.alloc(), chunks, len)?;
-        for row in &OF_ROWS {
-            let parts = parts_of(rt.alloc(), shape.bytes(ALL), len)?;
-            let parts = IoBufsMut::from_parts(rt.alloc(), parts.into_iter())?;
-            count(&rt, &Origin::Full, &shape, parts, row)?;
-        }
+        count_rows(&rt, &shape)?;
     }
     Ok(())
 }

@@ -45,6 +45,8 @@ pub enum Costed {
     CopyToBytes,
     Chunks,
     TwoChunks,
+    // All but one.
+    ManyChunks,
     // Of readers whose bytes can be taken or peeked at.
     TakeView,
     TakeBytes,
@@ -209,17 +211,20 @@ fn read<B: Buf>(
             Ok(Given::Nothing)
         }
         Costed::CopyToBytes => Ok(Given::Bytes(buf.copy_to_bytes(alloc, args.hi)?)),
-        Costed::Chunks | Costed::TwoChunks => listed(alloc, buf, call, args.len),
+        Costed::Chunks | Costed::TwoChunks | Costed::ManyChunks => listed(
+            alloc, buf, call, args.len,
+        ),
         Costed::CopyToSlice | Costed::TryCopy => fill(buf, call, args.take_room(alloc)),
         _ => maker(alloc, call, args),
     }
 }
 
-// The chunks of a reader are listed, all or two of them.
+// The chunks of a reader are listed: all, all but one, or two of them.
 fn listed<B: Buf>(alloc: Global, buf: &B, call: Costed, len: usize) -> Result<Given, BufError> {
     let all = buf.remaining().div_ceil(len.max(1));
     let (most, count) = match call {
         Costed::TwoChunks => (2, all.min(2)),
+        Costed::ManyChunks => (all.saturating_sub(1), all.saturating_sub(1)),
         _ => (usize::MAX, all),
     };
     nothing(buf.chunks_vectored(alloc, most)?.len() == count)
@@ -369,17 +374,24 @@ fn read_back(alloc: Global, view: &IoBuf) -> Result<IoBuf, Error> {
     IoBuf::read_cfg(alloc, &mut view.encode_iobufs(alloc)?, &ANY)
 }
 
-// The views, every second of which is put, and the others pushed.
+// The views, every second of which is put, and the others pushed as they are or as `Bytes`.
 fn built(alloc: Global, views: Vec<IoBuf>, size: usize) -> Result<IoBufs, BufError> {
     let mut builder = Builder::new(alloc, size)?;
     for (i, view) in views.into_iter().enumerate() {
-        if i % 2 == 0 {
-            put(&mut builder, view.as_ref())?;
-        } else {
-            builder.push(view)?;
+        match i % 4 {
+            1 => builder.push(view)?,
+            3 => push_bytes(alloc, &mut builder, view)?,
+            _ => {
+                put(&mut builder, view.as_ref())?;
+            }
         }
     }
     builder.finish()
+}
+
+fn push_bytes(alloc: Global, builder: &mut Builder, view: IoBuf) -> Result<(), BufError> {
+    let bytes = view.into_bytes(alloc).map_err(|_| BufError::Memory)?;
+    builder.push_bytes(bytes).map_err(|refused| refused.cause)
 }
 
 // How lengths are written, in turn.
@@ -477,9 +489,14 @@ fn encoded(alloc: Global, bytes: &'static [u8]) -> Result<Given, BufError> {
     Ok(Given::Text(body(text)))
 }
 
+// An alignment at most as large as a page, or one above.
+fn alignment(n: usize) -> usize {
+    if n % 2 == 0 { 4096 } else { 65536 }
+}
+
 fn empty(alloc: Global, call: Costed, n: usize) -> Result<Given, BufError> {
     let part = match call {
-        Costed::Aligned => IoBufMut::with_alignment(alloc, n, 4096)?,
+        Costed::Aligned => IoBufMut::with_alignment(alloc, n, alignment(n))?,
         _ => IoBufMut::with_capacity(alloc, n)?,
     };
     nothing(part.capacity() == n)
@@ -487,7 +504,11 @@ fn empty(alloc: Global, call: Costed, n: usize) -> Result<Given, BufError> {
 
 fn zeroed(alloc: Global, call: Costed, room: Vec<u8>) -> Result<Given, BufError> {
     let part = match call {
-        Costed::ZeroedAligned => IoBufMut::zeroed_with_alignment(alloc, room.len(), 4096)?,
+        Costed::ZeroedAligned => IoBufMut::zeroed_with_alignment(
+            alloc,
+            room.len(),
+            alignment(room.len()),
+        )?,
         _ => IoBufMut::zeroed(alloc, room.len())?,
     };
     nothing(part.as_ref() == room.as_slice())

@@ -2,7 +2,7 @@
 use iobufs_core::codec::{Buf, BufError};
 use std::alloc::Global;
 
-// An offset in 64ths of a length.
+// An offset in 64ths of the number of bytes, or one that `Shape` names.
 pub type Place = usize;
 
 // A buffer of `count` chunks of `len` bytes each. It holds what follows the first `len` bytes of `all`, which has `len`
@@ -12,6 +12,9 @@ pub struct Shape {
     pub all: &'static [u8],
     pub count: usize,
     pub len: usize,
+    // Two offsets in 65,536ths of the number of bytes.
+    pub lower: usize,
+    pub upper: usize,
 }
 
 // How many bytes are made before they repeat: a prime number.
@@ -33,6 +36,10 @@ pub fn pattern(alloc: Global, len: usize) -> Result<&'static [u8], BufError> {
 }
 
 impl Shape {
+    pub const LOWER: Place = 21;
+
+    pub const UPPER: Place = 43;
+
     // One chunk after, and one before.
     pub const AFTER: Place = 65;
 
@@ -43,7 +50,13 @@ impl Shape {
 
     pub fn new(alloc: Global, count: usize, len: usize) -> Result<Shape, BufError> {
         let all = pattern(alloc, count.saturating_add(2).saturating_mul(len))?;
-        Ok(Shape { all, count, len })
+        Ok(Shape {
+            all,
+            count,
+            len,
+            lower: 21 << 10,
+            upper: 43 << 10,
+        })
     }
 
     // The number of bytes.
@@ -53,6 +66,7 @@ impl Shape {
 
     // An offset into all bytes.
     fn offset(&self, place: Place) -> usize {
+        let part = |n: usize| (self.size().saturating_mul(n) >> 16).saturating_add(self.len);
         match place {
             Shape::BEFORE => 0,
             Shape::FIRST => self.len.saturating_add(self.len),
@@ -60,7 +74,9 @@ impl Shape {
                 .size()
                 .saturating_add(self.len)
                 .saturating_add(self.len),
-            _ => (self.size().saturating_mul(place) / 64).saturating_add(self.len),
+            Shape::LOWER => part(self.lower),
+            Shape::UPPER => part(self.upper),
+            _ => part(place.saturating_mul(1024)),
         }
     }
 

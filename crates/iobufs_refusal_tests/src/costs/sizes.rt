@@ -46,6 +46,21 @@ fn lists(rt: HostRuntime) -> Result<(), Fail> {
     Ok(())
 }
 
+// A list of values that are long together.
+#[test]
+fn a_list_of_views(rt: HostRuntime) -> Result<(), Fail> {
+    let bytes = pattern(rt.alloc(), 100)?;
+    let mut values = Vec::new(rt.alloc());
+    for _ in 0..5000 {
+        values.push(IoBuf::from(bytes))?;
+    }
+    let list = List { values };
+    let mut text = list.encode_iobufs(rt.alloc())?;
+    let back = List::read_whole(rt.alloc(), &mut text, &(ANY, ANY));
+    assert!(rt; back.ok() == Some(list), "another list");
+    Ok(())
+}
+
 // How a length is written, its bytes, and the length.
 const FRAMES: [(Prefix, &'static [u8], usize); 7] = rows! {
     Prefix::Fixed(Width::U16, ByteOrder::Big), b"\x13\x89", 5001;
@@ -123,20 +138,20 @@ fn a_long_push_of_bytes(rt: HostRuntime) -> Result<(), Fail> {
     Ok(())
 }
 
-// The bytes in a list with as much spare capacity.
-fn roomy(alloc: Global, bytes: &[u8]) -> Result<Vec<u8>, BufError> {
-    let mut list = Vec::with_capacity(alloc, bytes.len().saturating_add(bytes.len()))?;
+// The bytes in a list of so many times their capacity.
+fn roomy(alloc: Global, bytes: &[u8], times: usize) -> Result<Vec<u8>, BufError> {
+    let mut list = Vec::with_capacity(alloc, bytes.len().saturating_mul(times))?;
     list.extend_from_slice(bytes)?;
     Ok(list)
 }
 
 // Whether buffers that take a list over have its capacity.
-fn keeps_capacity(alloc: Global, bytes: &[u8]) -> Result<bool, BufError> {
-    let capacity = roomy(alloc, bytes)?.capacity();
-    let view = IoBuf::from_vec(roomy(alloc, bytes)?)?;
+fn keeps_capacity(alloc: Global, bytes: &[u8], times: usize) -> Result<bool, BufError> {
+    let capacity = roomy(alloc, bytes, times)?.capacity();
+    let view = IoBuf::from_vec(roomy(alloc, bytes, times)?)?;
     let of_view = IoBufMut::from_view(alloc, view).map_err(|_| BufError::Memory)?;
-    let of_block = IoBufMut::from_bytes_mut(BytesMut::from(roomy(alloc, bytes)?))?;
-    let of_list = IoBufMut::from(roomy(alloc, bytes)?);
+    let of_block = IoBufMut::from_bytes_mut(BytesMut::from(roomy(alloc, bytes, times)?))?;
+    let of_list = IoBufMut::from(roomy(alloc, bytes, times)?);
     Ok(
         of_view.capacity() == capacity
             && of_block.capacity() == capacity
@@ -144,11 +159,21 @@ fn keeps_capacity(alloc: Global, bytes: &[u8]) -> Result<bool, BufError> {
     )
 }
 
+// How many bytes a list has, and how many times as many it has room for.
+const CAPACITIES: [(usize, usize); 6] = [
+    (1, 2),
+    (64, 2),
+    (4097, 2),
+    (1048577, 2),
+    (64, 8),
+    (65537, 8),
+];
+
 #[test]
 fn capacities(rt: HostRuntime) -> Result<(), Fail> {
-    for n in [1, 64, 4097, 1048577] {
+    for (n, times) in CAPACITIES {
         assert!(rt;
-            keeps_capacity(rt.alloc(), pattern(rt.alloc(), n)?)?,
+            keeps_capacity(rt.alloc(), pattern(rt.alloc(), n)?, times)?,
             "{n}: another capacity"
         );
     }

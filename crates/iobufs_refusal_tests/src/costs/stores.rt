@@ -17,6 +17,8 @@ pub enum Store {
     SharedFull,
     // Native storage with spare capacity.
     Roomy,
+    // Native storage with spare capacity, whose front is dropped.
+    Advanced,
     Aligned,
     // The first half of native storage, whose rest is another view.
     Half,
@@ -26,7 +28,7 @@ pub enum Store {
     Emptied,
 }
 
-pub const STORES: [Store; 11] = [
+pub const STORES: [Store; 12] = [
     Store::Static,
     Store::StaticBytes,
     Store::Bytes,
@@ -34,6 +36,7 @@ pub const STORES: [Store; 11] = [
     Store::Full,
     Store::SharedFull,
     Store::Roomy,
+    Store::Advanced,
     Store::Aligned,
     Store::Half,
     Store::LoneHalf,
@@ -48,14 +51,28 @@ fn aligned(alloc: Global, bytes: &[u8]) -> Result<IoBufMut, BufError> {
     Ok(part)
 }
 
-// Both halves of native storage that holds the bytes twice.
-fn halves(alloc: Global, bytes: &[u8]) -> Result<(IoBuf, IoBuf), BufError> {
+// Native storage that holds the bytes twice, with room for so many more.
+fn twice(alloc: Global, bytes: &[u8], more: usize) -> Result<IoBufMut, BufError> {
     let n = bytes.len();
-    let mut twice = part(alloc, n.saturating_add(n), bytes)?;
+    let mut twice = part(alloc, n.saturating_add(n).saturating_add(more), bytes)?;
     if twice.remaining_mut() >= n {
         twice.put_slice(bytes);
     }
-    let mut back = twice.freeze()?;
+    Ok(twice)
+}
+
+fn advanced(alloc: Global, bytes: &[u8]) -> Result<IoBufMut, BufError> {
+    let mut part = twice(alloc, bytes, bytes.len())?;
+    if part.remaining() >= bytes.len() {
+        part.advance(bytes.len());
+    }
+    Ok(part)
+}
+
+// Both halves of native storage that holds the bytes twice.
+fn halves(alloc: Global, bytes: &[u8]) -> Result<(IoBuf, IoBuf), BufError> {
+    let n = bytes.len();
+    let mut back = twice(alloc, bytes, 0)?.freeze()?;
     if back.len() < n {
         return Err(BufError::TooLong);
     }
@@ -80,6 +97,7 @@ pub fn stored(
         Store::Emptied => drained(IoBuf::copy_from_slice(alloc, bytes)?),
         Store::Full | Store::SharedFull => IoBuf::copy_from_slice(alloc, bytes)?,
         Store::Roomy => native(alloc, bytes.len().saturating_add(bytes.len()), bytes)?,
+        Store::Advanced => advanced(alloc, bytes)?.freeze()?,
         Store::Aligned => aligned(alloc, bytes)?.freeze()?,
         Store::Half => return halves(alloc, bytes),
         Store::LoneHalf => halves(alloc, bytes)?.1,
@@ -94,6 +112,7 @@ pub fn stored(
 #[derive(Clone, Copy, Debug)]
 pub enum Origin {
     Roomy,
+    Advanced,
     Aligned,
     Full,
     List,
@@ -102,8 +121,9 @@ pub enum Origin {
     BytesMut,
 }
 
-pub const ORIGINS: [Origin; 6] = [
+pub const ORIGINS: [Origin; 7] = [
     Origin::Roomy,
+    Origin::Advanced,
     Origin::Aligned,
     Origin::Full,
     Origin::List,
@@ -125,6 +145,7 @@ pub fn block(alloc: Global, bytes: &[u8]) -> Result<(BytesMut, BytesMut), BufErr
 pub fn stored_part(alloc: Global, origin: Origin, bytes: &[u8]) -> Result<IoBufMut, BufError> {
     match origin {
         Origin::Roomy => part(alloc, bytes.len().saturating_add(bytes.len()), bytes),
+        Origin::Advanced => advanced(alloc, bytes),
         Origin::Aligned => aligned(alloc, bytes),
         Origin::Full => IoBufMut::copy_from_slice(alloc, bytes),
         Origin::List => Ok(IoBufMut::from(Vec::from_slice(alloc, bytes)?)),
