@@ -37,6 +37,9 @@
 #ifndef IOBUFS_H
 #define IOBUFS_H
 
+/* The version of this header, of the archive and of the Rust crate. It models commonware-runtime 2026.10.0. */
+#define IOBUFS_VERSION "0.1.0"
+
 #include <stdbool.h>
 #include <stddef.h>
 #include <stdint.h>

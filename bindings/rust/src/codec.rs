@@ -1,11 +1,13 @@
 //! Values that are written and read, by traits with the names of the original's codec: `EncodeSize`, `Write`, `Read`, and
 //! what they write to and read from, `Sink`, `BufsMut` and `Source`.
 //!
-//! A number of a fixed size is written with its highest byte first, a `usize` as a length, and an `IoBuf` after its length.
+//! A number of a fixed size is written with its highest byte first, a `usize` as a length, and an `IoBuf` after its length. A `bool`
+//! is one byte, an `Option` a `bool` and then its value, an array its bytes, a `Vec` its length and its items, a `String` its length
+//! and its bytes, a tuple its fields.
 //! A view that is read shares the buffer's storage, if it is in one chunk. If one of these isn't read, the buffer is unchanged (the
 //! original has dropped the length before a view then). A value of several parts is read whole or not at all by `Read::read_whole`.
 #![forbid(unsafe_code)]
-use crate::{Builder, Error, IoBuf, IoBufMut, IoBufs, IoBufsMut, TryGetError, length_size};
+use crate::{Builder, Error, IoBuf, IoBufMut, IoBufs, IoBufsMut, length_size};
 use std::ops::{Bound, RangeBounds};
 
 /// Which lengths are admitted.
@@ -53,35 +55,54 @@ impl<T: Copy> From<std::ops::RangeFull> for RangeCfg<T> {
 }
 
 /// A source of values: `IoBuf` and `IoBufs`. An error changes nothing.
-pub trait Source {
-    /// How many bytes are left.
-    fn remaining(&self) -> usize;
+pub trait Source: Buf {
     /// Reads one byte.
-    fn try_get_u8(&mut self) -> Result<u8, TryGetError>;
+    fn read_u8(&mut self) -> Result<u8, Error>;
     /// Reads a number of two bytes.
-    fn try_get_u16(&mut self) -> Result<u16, TryGetError>;
+    fn read_u16(&mut self) -> Result<u16, Error>;
     /// Reads a number of four bytes.
-    fn try_get_u32(&mut self) -> Result<u32, TryGetError>;
+    fn read_u32(&mut self) -> Result<u32, Error>;
     /// Reads a number of eight bytes.
-    fn try_get_u64(&mut self) -> Result<u64, TryGetError>;
+    fn read_u64(&mut self) -> Result<u64, Error>;
     /// Reads the length at the front, if it is in the range.
     fn read_length(&mut self, range: &RangeCfg<usize>) -> Result<usize, Error>;
     /// Reads the bytes after a length, if this is in the range.
     fn read_view(&mut self, range: &RangeCfg<usize>) -> Result<IoBuf, Error>;
 }
 
+/// What every source has without the feature `bytes`. With it, this is that crate's trait of the same name.
+#[cfg(not(feature = "bytes"))]
+pub trait Buf {
+    /// How many bytes are left.
+    fn remaining(&self) -> usize;
+    /// Fills a destination with the first bytes, which are dropped. Panics if there are fewer.
+    fn copy_to_slice(&mut self, dst: &mut [u8]);
+}
+
+#[cfg(feature = "bytes")]
+pub use bytes::{Buf, BufMut};
+
 macro_rules! reads {
     ($($buffer:ident)*) => {$(
-        reads! { $buffer, try_get_u8 u8, try_get_u16 u16, try_get_u32 u32, try_get_u64 u64 }
+        reads! { $buffer, read_u8 try_get_u8 u8, read_u16 try_get_u16 u16, read_u32 try_get_u32 u32, read_u64 try_get_u64 u64 }
     )*};
-    ($buffer:ident, $($get:ident $number:ty),*) => {
-        impl Source for $buffer {
+    ($buffer:ident, $($read:ident $get:ident $number:ty),*) => {
+        #[cfg(not(feature = "bytes"))]
+        impl Buf for $buffer {
             fn remaining(&self) -> usize {
                 self.len()
             }
+
+            #[track_caller]
+            fn copy_to_slice(&mut self, dst: &mut [u8]) {
+                $buffer::copy_to_slice(self, dst)
+            }
+        }
+
+        impl Source for $buffer {
             $(
-                fn $get(&mut self) -> Result<$number, TryGetError> {
-                    $buffer::$get(self)
+                fn $read(&mut self) -> Result<$number, Error> {
+                    $buffer::$get(self).map_err(|_| Error::EndOfBuffer)
                 }
             )*
             fn read_length(&mut self, range: &RangeCfg<usize>) -> Result<usize, Error> {
@@ -98,7 +119,14 @@ macro_rules! reads {
 reads! { IoBuf IoBufs }
 
 /// A destination of values: `IoBufMut`, `IoBufsMut` and `Builder`. A put panics if it doesn't fit.
-pub trait Sink {
+pub trait Sink: BufMut {
+    /// Puts a length as a varint.
+    fn put_length(&mut self, n: usize);
+}
+
+/// What every destination has without the feature `bytes`. With it, this is that crate's trait of the same name.
+#[cfg(not(feature = "bytes"))]
+pub trait BufMut {
     /// How many bytes may still be put.
     fn remaining_mut(&self) -> usize;
     /// Puts bytes.
@@ -113,17 +141,16 @@ pub trait Sink {
     fn put_u32(&mut self, n: u32);
     /// Puts eight bytes, the highest of the number first.
     fn put_u64(&mut self, n: u64);
-    /// Puts a length as a varint.
-    fn put_length(&mut self, n: usize);
 }
 
 macro_rules! writes {
     ($($buffer:ident)*) => {$(
         writes! { $buffer, put_slice(src: &[u8]), put_bytes(value: u8, n: usize), put_u8(n: u8), put_u16(n: u16), put_u32(n: u32),
-            put_u64(n: u64), put_length(n: usize) }
+            put_u64(n: u64) }
     )*};
     ($buffer:ident, $($put:ident($($arg:ident: $type:ty),*)),*) => {
-        impl Sink for $buffer {
+        #[cfg(not(feature = "bytes"))]
+        impl BufMut for $buffer {
             fn remaining_mut(&self) -> usize {
                 $buffer::remaining_mut(self)
             }
@@ -133,6 +160,13 @@ macro_rules! writes {
                     $buffer::$put(self, $($arg),*)
                 }
             )*
+        }
+
+        impl Sink for $buffer {
+            #[track_caller]
+            fn put_length(&mut self, n: usize) {
+                $buffer::put_length(self, n)
+            }
         }
     };
 }
@@ -261,7 +295,7 @@ pub trait EncodeExt: EncodeSize + Write {
 impl<T: EncodeSize + Write> EncodeExt for T {}
 
 macro_rules! numbers {
-    ($($number:ty, $put:ident, $get:ident;)*) => {$(
+    ($($number:ty, $written:ty, $put:ident, $read:ident;)*) => {$(
         impl EncodeSize for $number {
             fn encode_size(&self) -> usize {
                 size_of::<$number>()
@@ -270,7 +304,7 @@ macro_rules! numbers {
 
         impl Write for $number {
             fn write(&self, buf: &mut impl Sink) {
-                buf.$put(*self)
+                buf.$put(*self as $written)
             }
         }
 
@@ -278,18 +312,203 @@ macro_rules! numbers {
             type Cfg = ();
 
             fn read_cfg(buf: &mut impl Source, _: &()) -> Result<Self, Error> {
-                buf.$get().map_err(|_| Error::EndOfBuffer)
+                Ok(buf.$read()? as $number)
             }
         }
     )*};
 }
 
 numbers! {
-    u8, put_u8, try_get_u8;
-    u16, put_u16, try_get_u16;
-    u32, put_u32, try_get_u32;
-    u64, put_u64, try_get_u64;
+    u8, u8, put_u8, read_u8;
+    u16, u16, put_u16, read_u16;
+    u32, u32, put_u32, read_u32;
+    u64, u64, put_u64, read_u64;
+    i8, u8, put_u8, read_u8;
+    i16, u16, put_u16, read_u16;
+    i32, u32, put_u32, read_u32;
+    i64, u64, put_u64, read_u64;
 }
+
+/// Types of so many bytes, which are written as this array.
+macro_rules! arrays {
+    ($([$($param:tt)*] $type:ty, $n:expr, $to:expr, $of:expr;)*) => {$(
+        impl<$($param)*> EncodeSize for $type {
+            fn encode_size(&self) -> usize {
+                $n
+            }
+        }
+
+        impl<$($param)*> Write for $type {
+            fn write(&self, buf: &mut impl Sink) {
+                buf.put_slice(&$to(*self))
+            }
+        }
+
+        impl<$($param)*> Read for $type {
+            type Cfg = ();
+
+            fn read_cfg(buf: &mut impl Source, _: &()) -> Result<Self, Error> {
+                let mut bytes = [0; $n];
+                if buf.remaining() < $n {
+                    return Err(Error::EndOfBuffer);
+                }
+                buf.copy_to_slice(&mut bytes);
+                Ok($of(bytes))
+            }
+        }
+    )*};
+}
+
+arrays! {
+    [] u128, 16, u128::to_be_bytes, u128::from_be_bytes;
+    [] i128, 16, i128::to_be_bytes, i128::from_be_bytes;
+    [const N: usize] [u8; N], N, |bytes: [u8; N]| bytes, |bytes| bytes;
+}
+
+impl EncodeSize for bool {
+    fn encode_size(&self) -> usize {
+        1
+    }
+}
+
+impl Write for bool {
+    fn write(&self, buf: &mut impl Sink) {
+        buf.put_u8(u8::from(*self))
+    }
+}
+
+/// Drops the byte also if it is no `bool`.
+impl Read for bool {
+    type Cfg = ();
+
+    fn read_cfg(buf: &mut impl Source, _: &()) -> Result<Self, Error> {
+        match buf.read_u8()? {
+            0 => Ok(false),
+            1 => Ok(true),
+            _ => Err(Error::InvalidBool),
+        }
+    }
+}
+
+impl<T: EncodeSize> EncodeSize for Option<T> {
+    fn encode_size(&self) -> usize {
+        1 + self.as_ref().map_or(0, T::encode_size)
+    }
+
+    fn encode_inline_size(&self) -> usize {
+        1 + self.as_ref().map_or(0, T::encode_inline_size)
+    }
+}
+
+impl<T: Write> Write for Option<T> {
+    fn write(&self, buf: &mut impl Sink) {
+        self.is_some().write(buf);
+        self.iter().for_each(|value| value.write(buf));
+    }
+
+    fn write_bufs(&self, buf: &mut impl BufsMut) {
+        self.is_some().write(buf);
+        self.iter().for_each(|value| value.write_bufs(buf));
+    }
+}
+
+impl<T: Read> Read for Option<T> {
+    type Cfg = T::Cfg;
+
+    fn read_cfg(buf: &mut impl Source, cfg: &T::Cfg) -> Result<Self, Error> {
+        bool::read_cfg(buf, &())?.then(|| T::read_cfg(buf, cfg)).transpose()
+    }
+}
+
+impl<T: EncodeSize> EncodeSize for Vec<T> {
+    fn encode_size(&self) -> usize {
+        length_size(self.len()) + self.iter().map(T::encode_size).sum::<usize>()
+    }
+
+    fn encode_inline_size(&self) -> usize {
+        length_size(self.len()) + self.iter().map(T::encode_inline_size).sum::<usize>()
+    }
+}
+
+impl<T: Write> Write for Vec<T> {
+    fn write(&self, buf: &mut impl Sink) {
+        buf.put_length(self.len());
+        self.iter().for_each(|item| item.write(buf));
+    }
+
+    fn write_bufs(&self, buf: &mut impl BufsMut) {
+        buf.put_length(self.len());
+        self.iter().for_each(|item| item.write_bufs(buf));
+    }
+}
+
+/// Allocates as items are read, and not by the length.
+impl<T: Read> Read for Vec<T> {
+    type Cfg = (RangeCfg<usize>, T::Cfg);
+
+    fn read_cfg(buf: &mut impl Source, (range, cfg): &Self::Cfg) -> Result<Self, Error> {
+        (0..buf.read_length(range)?).map(|_| T::read_cfg(buf, cfg)).collect()
+    }
+}
+
+impl EncodeSize for String {
+    fn encode_size(&self) -> usize {
+        length_size(self.len()) + self.len()
+    }
+}
+
+impl Write for String {
+    fn write(&self, buf: &mut impl Sink) {
+        buf.put_length(self.len());
+        buf.put_slice(self.as_bytes());
+    }
+}
+
+/// Drops the bytes also if they aren't UTF-8.
+impl Read for String {
+    type Cfg = RangeCfg<usize>;
+
+    fn read_cfg(buf: &mut impl Source, range: &Self::Cfg) -> Result<Self, Error> {
+        let view = buf.read_view(range)?;
+        let text = std::str::from_utf8(&view).map_err(|_| Error::Invalid("String", "not UTF-8"))?;
+        Ok(text.to_string())
+    }
+}
+
+/// Tuples, field by field.
+macro_rules! tuples {
+    ($([$($field:tt $type:ident)*])*) => {$(
+        impl<$($type: EncodeSize),*> EncodeSize for ($($type,)*) {
+            fn encode_size(&self) -> usize {
+                0 $(+ self.$field.encode_size())*
+            }
+
+            fn encode_inline_size(&self) -> usize {
+                0 $(+ self.$field.encode_inline_size())*
+            }
+        }
+
+        impl<$($type: Write),*> Write for ($($type,)*) {
+            fn write(&self, buf: &mut impl Sink) {
+                $(self.$field.write(buf);)*
+            }
+
+            fn write_bufs(&self, buf: &mut impl BufsMut) {
+                $(self.$field.write_bufs(buf);)*
+            }
+        }
+
+        impl<$($type: Read),*> Read for ($($type,)*) {
+            type Cfg = ($($type::Cfg,)*);
+
+            fn read_cfg(buf: &mut impl Source, cfg: &Self::Cfg) -> Result<Self, Error> {
+                Ok(($($type::read_cfg(buf, &cfg.$field)?,)*))
+            }
+        }
+    )*};
+}
+
+tuples! { [0 A] [0 A 1 B] [0 A 1 B 2 C] [0 A 1 B 2 C 3 D] [0 A 1 B 2 C 3 D 4 E] [0 A 1 B 2 C 3 D 4 E 5 F] }
 
 impl EncodeSize for usize {
     fn encode_size(&self) -> usize {
@@ -339,5 +558,38 @@ impl Read for IoBuf {
 
     fn read_cfg(buf: &mut impl Source, range: &Self::Cfg) -> Result<Self, Error> {
         buf.read_view(range)
+    }
+}
+
+#[cfg(feature = "bytes")]
+impl EncodeSize for bytes::Bytes {
+    fn encode_size(&self) -> usize {
+        length_size(self.len()) + self.len()
+    }
+
+    fn encode_inline_size(&self) -> usize {
+        length_size(self.len())
+    }
+}
+
+#[cfg(feature = "bytes")]
+impl Write for bytes::Bytes {
+    fn write(&self, buf: &mut impl Sink) {
+        buf.put_length(self.len());
+        buf.put_slice(self);
+    }
+
+    fn write_bufs(&self, buf: &mut impl BufsMut) {
+        buf.put_length(self.len());
+        buf.push(self.clone());
+    }
+}
+
+#[cfg(feature = "bytes")]
+impl Read for bytes::Bytes {
+    type Cfg = RangeCfg<usize>;
+
+    fn read_cfg(buf: &mut impl Source, range: &Self::Cfg) -> Result<Self, Error> {
+        buf.read_view(range).map(Self::from)
     }
 }

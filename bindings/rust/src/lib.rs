@@ -1,7 +1,23 @@
-//! The byte buffers of commonware-runtime (`src/iobuf`): `IoBuf`, `IoBufMut`, `IoBufs`, `IoBufsMut`, `Builder`, `Frames`,
-//! over the static library `libiobufs.a`, which is proved in Rattle.
+//! Byte buffers for network and storage code, over the static library `libiobufs.a`, which is proved in Rattle: each call returns
+//! exactly the bytes that its contract says, for every way in which they are cut into chunks.
 //!
-//! Names, arguments and panics are the original's. Without the feature `bytes` the methods of that crate's traits are methods
+//! ```
+//! use iobufs::{Frames, IoBuf, IoBufs};
+//!
+//! let mut bufs = IoBufs::from("one ");
+//! bufs.append(IoBuf::from(vec![b't', b'w', b'o'])); // keeps the `Vec`
+//! assert_eq!(bufs, "one two");
+//! assert_eq!(bufs.split_to(4), "one ");
+//!
+//! let mut frames = Frames::default();
+//! frames.feed(b"\x05wor".into());
+//! frames.feed(b"ld".into());
+//! assert_eq!(frames.next(..=1024)?.unwrap(), "world");
+//! # Ok::<(), iobufs::Error>(())
+//! ```
+//!
+//! The buffers are those of commonware-runtime (`src/iobuf`), *the original*: names, arguments and panics are the same. A name in
+//! brackets is that of its trait; *(own)* marks a call that it lacks. Without the feature `bytes` the methods of that crate's traits are methods
 //! here. If an allocation fails, the process ends, as it does if one of std's collections can't allocate. `try_with_capacity`,
 //! `try_zeroed` and `try_copy_from_slice` return an error instead. Clones, splits and appends allocate too: headers, and lists of
 //! chunks.
@@ -19,6 +35,9 @@
 //! missing, since space that isn't readable has no address here: in place of writing there before `set_len(n)`, put the bytes, or
 //! call `set_len(n)` first and write over the zeros by `as_mut()`. Values (`codec`) are numbers, lengths, views, and types of a
 //! caller's own.
+//!
+//! A view has interior mutability, which clippy tells of at a `HashMap<IoBuf, _>`: its hash and order are those of the bytes, which
+//! never change. `ignore-interior-mutability = ["iobufs::IoBuf"]` in `clippy.toml` says so.
 #![deny(unsafe_code)]
 #![warn(clippy::undocumented_unsafe_blocks)]
 
@@ -69,9 +88,15 @@ pub enum Error {
     EndOfBuffer,
     /// The bytes are no varint.
     InvalidVarint,
-    /// The length, which is told, is outside the range.
+    /// This length is outside the range.
     InvalidLength(usize),
-    /// So many bytes are left after a value that was to be all.
+    /// A byte that is no `bool`.
+    InvalidBool,
+    /// A byte that is no variant of an enum.
+    InvalidEnum(u8),
+    /// This type doesn't admit the bytes, for this reason.
+    Invalid(&'static str, &'static str),
+    /// So many bytes are left after a value that has to be all of them.
     ExtraData(usize),
 }
 
@@ -86,11 +111,7 @@ pub struct TryGetError {
 
 impl fmt::Display for TryGetError {
     fn fmt(&self, f: &mut fmt::Formatter<'_>) -> fmt::Result {
-        write!(
-            f,
-            "{} bytes were asked for, and {} are left",
-            self.requested, self.available
-        )
+        write!(f, "{} bytes were asked for, and {} are left", self.requested, self.available)
     }
 }
 
@@ -113,7 +134,15 @@ impl std::error::Error for AllocError {}
 
 impl fmt::Display for Error {
     fn fmt(&self, f: &mut fmt::Formatter<'_>) -> fmt::Result {
-        fmt::Debug::fmt(self, f)
+        match self {
+            Error::EndOfBuffer => f.write_str("fewer bytes are left than the value has"),
+            Error::InvalidVarint => f.write_str("the bytes are no varint"),
+            Error::InvalidLength(n) => write!(f, "the length {n} is outside the range"),
+            Error::InvalidBool => f.write_str("the byte is no bool"),
+            Error::InvalidEnum(tag) => write!(f, "the byte {tag} is no variant"),
+            Error::Invalid(name, reason) => write!(f, "invalid {name}: {reason}"),
+            Error::ExtraData(n) => write!(f, "{n} bytes are left after the value"),
+        }
     }
 }
 
@@ -223,20 +252,68 @@ fn read(status: u8, length: impl FnOnce() -> usize) -> Result<(), Error> {
     }
 }
 
-/// Equality with bytes, as the original has it, by the method `has`.
+/// Equality with bytes, as the original has it, and with text, in both directions, by the method `has`.
 macro_rules! equals_bytes {
     ($buffer:ident) => {
-        crate::equals_bytes! { $buffer, [] [u8], [] &[u8], [const N: usize] [u8; N], [const N: usize] &[u8; N] }
+        crate::equals_bytes! { $buffer, [] [u8], [] &[u8], [const N: usize] [u8; N], [const N: usize] &[u8; N], [] Vec<u8>, [] str,
+            [] &str, [] String }
+        #[cfg(feature = "bytes")]
+        crate::equals_bytes! { $buffer, [] bytes::Bytes, [] bytes::BytesMut }
+        impl std::fmt::Debug for $buffer {
+            fn fmt(&self, f: &mut std::fmt::Formatter<'_>) -> std::fmt::Result {
+                crate::show(f, self.len(), self.each_chunk())
+            }
+        }
     };
     ($buffer:ident, $([$($param:tt)*] $bytes:ty),*) => {$(
         impl<$($param)*> PartialEq<$bytes> for $buffer {
             fn eq(&self, other: &$bytes) -> bool {
-                self.has(&other[..])
+                self.has(other.as_ref())
+            }
+        }
+
+        impl<$($param)*> PartialEq<$buffer> for $bytes {
+            fn eq(&self, other: &$buffer) -> bool {
+                other == self
             }
         }
     )*};
 }
 pub(crate) use equals_bytes;
+
+/// Equality of two types of buffers, in both directions.
+macro_rules! equal {
+    ($($one:ident $other:ident)*) => {$(
+        impl PartialEq<$other> for $one {
+            fn eq(&self, other: &$other) -> bool {
+                self.len() == other.len() && crate::text::compare(self.each_chunk(), other.each_chunk()).is_eq()
+            }
+        }
+
+        impl PartialEq<$one> for $other {
+            fn eq(&self, other: &$one) -> bool {
+                other == self
+            }
+        }
+    )*};
+}
+equal! { IoBuf IoBufMut IoBuf IoBufs IoBufMut IoBufs }
+
+/// How many bytes `Debug` shows.
+const SHOWN: usize = 64;
+
+/// Shows bytes as a literal, `b"ab\n"`, and after the first of many how many there are.
+fn show<'a>(f: &mut fmt::Formatter<'_>, len: usize, chunks: impl Iterator<Item = &'a [u8]>) -> fmt::Result {
+    f.write_str("b\"")?;
+    for byte in chunks.flatten().take(SHOWN) {
+        write!(f, "{}", byte.escape_ascii())?;
+    }
+    f.write_str("\"")?;
+    match len {
+        0..=SHOWN => Ok(()),
+        _ => write!(f, ".. ({len} bytes)"),
+    }
+}
 
 /// The methods of slices.
 macro_rules! derefs {
@@ -252,6 +329,11 @@ macro_rules! derefs {
         impl $buffer {
             fn has(&self, bytes: &[u8]) -> bool {
                 self.as_ref() == bytes
+            }
+
+            /// The bytes, if there are some, as one chunk.
+            pub(crate) fn each_chunk(&self) -> impl Iterator<Item = &[u8]> {
+                Some(self.as_ref()).filter(|bytes| !bytes.is_empty()).into_iter()
             }
         }
     };

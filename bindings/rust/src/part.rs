@@ -4,8 +4,8 @@ use crate::owner::View;
 use crate::sys::{self, At, Memory};
 use crate::view::IoBuf;
 use crate::{AllocError, PAST, Scratch, allocated, derefs, done, equals_bytes, puts, tried, try_copy};
+use std::mem;
 use std::num::NonZeroUsize;
-use std::{fmt, mem};
 
 const LAYOUT: &str = "alignment must be a power of two and the size must fit a layout";
 
@@ -51,7 +51,11 @@ impl IoBufMut {
     #[track_caller]
     pub fn with_alignment(capacity: usize, alignment: NonZeroUsize) -> Self {
         let mut out = Self::none();
-        allocated(sys::iobufmut_with_alignment(capacity, alignment.get(), &mut out.at()), capacity, LAYOUT);
+        allocated(
+            sys::iobufmut_with_alignment(capacity, alignment.get(), &mut out.at()),
+            capacity,
+            LAYOUT,
+        );
         out
     }
 
@@ -65,7 +69,11 @@ impl IoBufMut {
     #[track_caller]
     pub fn zeroed_with_alignment(len: usize, alignment: NonZeroUsize) -> Self {
         let mut out = Self::none();
-        allocated(sys::iobufmut_zeroed_with_alignment(len, alignment.get(), &mut out.at()), len, LAYOUT);
+        allocated(
+            sys::iobufmut_zeroed_with_alignment(len, alignment.get(), &mut out.at()),
+            len,
+            LAYOUT,
+        );
         out
     }
 
@@ -108,14 +116,16 @@ impl IoBufMut {
     /// Makes `n` bytes readable. Those that were not are zero, so it is safe here. Panics above the capacity.
     #[track_caller]
     pub fn set_len(&mut self, n: usize) {
-        self.1.pass(|| (sys::iobufmut_remaining_mut(&mut self.0.look()), self.0.look().chunk()));
+        self.1
+            .pass(|| (sys::iobufmut_remaining_mut(&mut self.0.look()), self.0.look().chunk()));
         done(sys::iobufmut_set_len(&mut self.at(), n), "set_len past the capacity");
     }
 
     /// Keeps at most the first `len` bytes.
     #[inline]
     pub fn truncate(&mut self, len: usize) {
-        self.1.pass(|| (sys::iobufmut_remaining_mut(&mut self.0.look()), self.0.look().chunk()));
+        self.1
+            .pass(|| (sys::iobufmut_remaining_mut(&mut self.0.look()), self.0.look().chunk()));
         sys::iobufmut_truncate(&mut self.at(), len)
     }
 
@@ -161,10 +171,13 @@ impl IoBufMut {
         done(self.at().copy_to(dst), "Not enough bytes remaining in buffer");
     }
 
-    /// A copy of the first `n` bytes, which are dropped. Panics if there are fewer (`Buf`).
+    /// Takes the first `n` bytes: the whole buffer without a copy, fewer as a copy. Panics if there are fewer (`Buf`).
     #[track_caller]
     pub fn copy_to_bytes(&mut self, n: usize) -> IoBuf {
         assert!(n <= self.len(), "copy_to_bytes out of bounds");
+        if n > 0 && n == self.len() {
+            return mem::take(self).freeze();
+        }
         let out = IoBuf::copy_from_slice(&self.as_ref()[..n]);
         self.advance(n);
         out
@@ -206,15 +219,6 @@ impl AsMut<[u8]> for IoBufMut {
     #[inline]
     fn as_mut(&mut self) -> &mut [u8] {
         self.at().chunk_mut()
-    }
-}
-
-impl fmt::Debug for IoBufMut {
-    fn fmt(&self, f: &mut fmt::Formatter<'_>) -> fmt::Result {
-        f.debug_struct("IoBufMut")
-            .field("len", &self.len())
-            .field("cap", &self.capacity())
-            .finish()
     }
 }
 

@@ -5,11 +5,18 @@ use crate::part::IoBufMut;
 use crate::sys::{self, At, Memory};
 use crate::text::IoBufs;
 use crate::view::IoBuf;
-use crate::{PAST, Scratch, allocated, done, made, puts, try_copy};
+use crate::{PAST, SHOWN, Scratch, allocated, done, made, puts, show, try_copy};
 use std::io::IoSlice;
 use std::{fmt, mem};
 
 /// Writable buffers as one, read from the front and filled in order.
+///
+/// ```
+/// use iobufs::{IoBufMut, IoBufsMut};
+/// let mut bufs = IoBufsMut::from([IoBufMut::with_capacity(2), IoBufMut::with_capacity(2)]);
+/// bufs.put_slice(b"abc");
+/// assert_eq!(bufs.freeze(), "abc");
+/// ```
 pub struct IoBufsMut(Memory<sys::IobufsMut>, pub(crate) Scratch);
 
 impl IoBufsMut {
@@ -68,7 +75,11 @@ impl IoBufsMut {
     #[track_caller]
     pub fn coalesce(mut self) -> IoBufMut {
         let (len, mut out) = (self.len(), IoBufMut::none());
-        allocated(sys::iobufsmut_coalesce(&mut self.0.at(), &mut out.at()), len, "the parts are too long for one buffer");
+        allocated(
+            sys::iobufsmut_coalesce(&mut self.0.at(), &mut out.at()),
+            len,
+            "the parts are too long for one buffer",
+        );
         out
     }
 
@@ -149,10 +160,9 @@ impl Drop for IoBufsMut {
 
 impl fmt::Debug for IoBufsMut {
     fn fmt(&self, f: &mut fmt::Formatter<'_>) -> fmt::Result {
-        f.debug_struct("IoBufsMut")
-            .field("len", &self.len())
-            .field("cap", &self.capacity())
-            .finish()
+        let mut chunks = [IoSlice::new(&[]); SHOWN];
+        let n = self.chunks_vectored(&mut chunks);
+        show(f, self.len(), chunks[..n].iter().map(|chunk| &**chunk))
     }
 }
 
@@ -208,6 +218,13 @@ impl From<IoBufsMut> for IoBufs {
 }
 
 /// Encoded bytes and existing buffers, put together as one `IoBufs`.
+///
+/// ```
+/// let mut builder = iobufs::Builder::new(1);
+/// builder.put_length(5);
+/// builder.push("world"); // not copied
+/// assert_eq!(builder.finish(), "\x05world");
+/// ```
 pub struct Builder(Chunked<sys::Builder>, pub(crate) Scratch);
 
 impl Builder {

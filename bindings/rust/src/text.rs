@@ -8,14 +8,33 @@ use crate::{Error, allocated, bounds, done, equals_bytes, gets, length_size, lim
 use std::cmp::Ordering;
 use std::hash::{Hash, Hasher};
 use std::io::IoSlice;
+use std::mem;
 use std::ops::RangeBounds;
-use std::{fmt, mem};
 
-/// Read-only bytes in chunks, of which none is copied. A chunk of an owner's memory (`IoBuf::from_owner`) keeps the owner until its
+/// Read-only bytes in chunks, of which none is copied.
+///
+/// ```
+/// let mut bufs: iobufs::IoBufs = ["ab", "cde", "f"].into_iter().collect();
+/// bufs.advance(1);
+/// assert_eq!(bufs.split_to(3), "bcd");
+/// assert_eq!(bufs.chunk_count(), 2);
+/// ```
+///
+/// A chunk of an owner's memory (`IoBuf::from_owner`) keeps the owner until its
 /// last byte is taken.
 pub struct IoBufs(pub(crate) Chunked<sys::Iobufs>);
 
 impl IoBufs {
+    /// Makes one without bytes.
+    pub fn new() -> Self {
+        Self::default()
+    }
+
+    /// A view of these bytes, which aren't copied.
+    pub fn from_static(bytes: &'static [u8]) -> Self {
+        Self::from(bytes)
+    }
+
     /// The number of bytes.
     #[inline]
     pub fn len(&self) -> usize {
@@ -92,6 +111,25 @@ impl IoBufs {
         }
     }
 
+    /// Keeps no byte. (own)
+    pub fn clear(&mut self) {
+        *self = Self::default();
+    }
+
+    /// Returns a copy of all bytes. (own)
+    pub fn to_vec(&self) -> Vec<u8> {
+        let mut bytes = Vec::with_capacity(self.len());
+        self.for_each_chunk(|chunk| bytes.extend_from_slice(chunk));
+        bytes
+    }
+
+    /// Takes the bytes from `at` on. Panics if there are fewer. (own)
+    #[track_caller]
+    pub fn split_off(&mut self, at: usize) -> Self {
+        let front = self.split_to(at);
+        mem::replace(self, front)
+    }
+
     /// Shows each chunk that holds bytes, in order.
     pub fn for_each_chunk(&self, mut visit: impl FnMut(&[u8])) {
         let mut batch = Batch::new();
@@ -110,6 +148,12 @@ impl IoBufs {
     pub fn append(&mut self, mut chunk: IoBuf) {
         done(self.0.append(&mut chunk.0), "length overflow");
         mem::forget(chunk);
+    }
+
+    /// Adds the chunks of another one at the end. (own)
+    #[track_caller]
+    pub fn append_all(&mut self, other: IoBufs) {
+        self.extend(other);
     }
 
     /// Adds a buffer at the front.
@@ -199,17 +243,8 @@ impl Clone for IoBufs {
     }
 }
 
-impl fmt::Debug for IoBufs {
-    fn fmt(&self, f: &mut fmt::Formatter<'_>) -> fmt::Result {
-        f.debug_struct("IoBufs")
-            .field("len", &self.len())
-            .field("chunks", &self.chunk_count())
-            .finish()
-    }
-}
-
 /// Compares the bytes of two lists of chunks, for every chunking, in place.
-fn compare<'a>(mut ours: impl Iterator<Item = &'a [u8]>, mut theirs: impl Iterator<Item = &'a [u8]>) -> Ordering {
+pub(crate) fn compare<'a>(mut ours: impl Iterator<Item = &'a [u8]>, mut theirs: impl Iterator<Item = &'a [u8]>) -> Ordering {
     let (mut a, mut b): (&[u8], &[u8]) = (&[], &[]);
     loop {
         if a.is_empty() {
@@ -242,6 +277,10 @@ impl Eq for IoBufs {}
 equals_bytes!(IoBufs);
 
 impl IoBufs {
+    pub(crate) fn each_chunk(&self) -> impl Iterator<Item = &[u8]> {
+        self.chunks()
+    }
+
     fn has(&self, bytes: &[u8]) -> bool {
         self.len() == bytes.len() && compare(self.chunks(), std::iter::once(bytes)).is_eq()
     }
@@ -282,18 +321,18 @@ impl From<IoBufMut> for IoBufs {
     }
 }
 
-/// Keeps the `Vec`, as `IoBuf::from_owner` does.
-impl From<Vec<u8>> for IoBufs {
-    fn from(bytes: Vec<u8>) -> Self {
-        IoBuf::from(bytes).into()
-    }
+/// What an `IoBuf` is made of, as its one chunk.
+macro_rules! of_one_chunk {
+    ($($from:ty),*) => {$(
+        impl From<$from> for IoBufs {
+            fn from(bytes: $from) -> Self {
+                IoBuf::from(bytes).into()
+            }
+        }
+    )*};
 }
 
-impl From<&'static [u8]> for IoBufs {
-    fn from(bytes: &'static [u8]) -> Self {
-        IoBuf::from(bytes).into()
-    }
-}
+of_one_chunk! { Vec<u8>, Box<[u8]>, String, &'static [u8], &'static str }
 
 impl<const N: usize> From<&'static [u8; N]> for IoBufs {
     fn from(bytes: &'static [u8; N]) -> Self {
@@ -301,13 +340,40 @@ impl<const N: usize> From<&'static [u8; N]> for IoBufs {
     }
 }
 
-impl FromIterator<IoBuf> for IoBufs {
-    fn from_iter<I: IntoIterator<Item = IoBuf>>(views: I) -> Self {
+impl<T: Into<IoBuf>> FromIterator<T> for IoBufs {
+    fn from_iter<I: IntoIterator<Item = T>>(chunks: I) -> Self {
         let mut text = IoBufs::default();
-        for view in views {
-            text.append(view);
-        }
+        text.extend(chunks);
         text
+    }
+}
+
+impl<T: Into<IoBuf>> Extend<T> for IoBufs {
+    fn extend<I: IntoIterator<Item = T>>(&mut self, chunks: I) {
+        for chunk in chunks {
+            self.append(chunk.into());
+        }
+    }
+}
+
+/// The chunks that hold bytes, as views.
+pub struct IntoIter(IoBufs);
+
+impl Iterator for IntoIter {
+    type Item = IoBuf;
+
+    fn next(&mut self) -> Option<IoBuf> {
+        let n = self.0.chunk().len();
+        (n > 0).then(|| self.0.take_owned(n))
+    }
+}
+
+impl IntoIterator for IoBufs {
+    type Item = IoBuf;
+    type IntoIter = IntoIter;
+
+    fn into_iter(self) -> IntoIter {
+        IntoIter(self)
     }
 }
 
@@ -361,6 +427,15 @@ impl Prefix {
 }
 
 /// Frames of bytes that come in chunks: each is a length followed by a body.
+///
+/// ```
+/// let mut frames = iobufs::Frames::new(iobufs::Prefix::U16Be);
+/// frames.feed(b"\0\x02o".into());
+/// assert!(frames.next(..)?.is_none());
+/// frames.feed(b"k\0".into());
+/// assert_eq!(frames.next(..)?.unwrap(), "ok");
+/// # Ok::<(), iobufs::Error>(())
+/// ```
 pub struct Frames(Chunked<sys::Frames>);
 
 impl Frames {

@@ -6,8 +6,8 @@ use crate::{AllocError, Error, allocated, bounds, derefs, done, equals_bytes, ge
 use std::borrow::Borrow;
 use std::cmp::Ordering;
 use std::hash::{Hash, Hasher};
+use std::mem;
 use std::ops::{Bound, RangeBounds};
-use std::{fmt, mem};
 
 /// The kind of a bound (`enum iobufs_bound`), and its number.
 fn bound(bound: Bound<&usize>) -> (u8, usize) {
@@ -20,11 +20,27 @@ fn bound(bound: Bound<&usize>) -> (u8, usize) {
 
 /// Read-only bytes in one chunk. Clones, slices and both sides of a split share their storage.
 ///
+/// ```
+/// let mut view = iobufs::IoBuf::from(vec![1, 2, 3]);
+/// assert_eq!(view.split_to(1), [1]);
+/// assert_eq!(view.slice(1..), [3]);
+/// ```
+///
 /// It may show memory that isn't the library's, as of a `Vec` (`from_owner`). Then each buffer that is made of it keeps the owner
 /// of that memory, so that a view of one byte keeps the whole block. The last of these buffers that is dropped drops the owner.
 pub struct IoBuf(pub(crate) View);
 
 impl IoBuf {
+    /// An empty view.
+    pub fn new() -> Self {
+        Self::default()
+    }
+
+    /// A view of these bytes, which aren't copied.
+    pub fn from_static(bytes: &'static [u8]) -> Self {
+        Self::from(bytes)
+    }
+
     /// A view of the bytes of `owner`, which aren't copied. They live until the last buffer made of it is dropped, on whatever
     /// thread that is. A view of one byte keeps the whole owner. (own)
     ///
@@ -77,6 +93,25 @@ impl IoBuf {
         IoBuf(self.0.split_to(at, |status| done(status, "split_to out of bounds")))
     }
 
+    /// Takes the bytes from `at` on, in the same storage. Panics if there are fewer. (own)
+    #[track_caller]
+    pub fn split_off(&mut self, at: usize) -> Self {
+        let front = self.split_to(at);
+        mem::replace(self, front)
+    }
+
+    /// Keeps at most the first `len` bytes. (own)
+    pub fn truncate(&mut self, len: usize) {
+        if len < self.len() {
+            *self = self.split_to(len);
+        }
+    }
+
+    /// Keeps no byte. (own)
+    pub fn clear(&mut self) {
+        *self = Self::default();
+    }
+
     /// Recovers the bytes as a buffer to write, with the spare capacity after them, if no other view shares their storage. A `Vec` that no
     /// other buffer keeps is copied, with its room. Other owners' bytes are not recovered.
     #[inline]
@@ -97,7 +132,9 @@ impl IoBuf {
     fn copy_of_vec(&self) -> Option<IoBufMut> {
         let vec = self.0.owner::<Vec<u8>>().filter(|_| self.0.is_sole())?;
         // An empty view has no address: it gets the capacity after the `Vec`'s bytes.
-        let gone = self.first().map_or(vec.len(), |byte| byte as *const u8 as usize - vec.as_ptr() as usize);
+        let gone = self
+            .first()
+            .map_or(vec.len(), |byte| byte as *const u8 as usize - vec.as_ptr() as usize);
         let mut out = IoBufMut::with_capacity(vec.capacity() - gone);
         out.put_slice(self);
         Some(out)
@@ -159,12 +196,6 @@ impl AsRef<[u8]> for IoBuf {
     }
 }
 
-impl fmt::Debug for IoBuf {
-    fn fmt(&self, f: &mut fmt::Formatter<'_>) -> fmt::Result {
-        f.debug_struct("IoBuf").field("len", &self.len()).finish()
-    }
-}
-
 impl PartialEq for IoBuf {
     fn eq(&self, other: &Self) -> bool {
         self.as_ref() == other.as_ref()
@@ -212,10 +243,45 @@ impl<const N: usize> From<&'static [u8; N]> for IoBuf {
     }
 }
 
+impl From<&'static str> for IoBuf {
+    fn from(text: &'static str) -> Self {
+        Self::from(text.as_bytes())
+    }
+}
+
 /// Keeps the `Vec`, as `from_owner` does.
 impl From<Vec<u8>> for IoBuf {
     fn from(bytes: Vec<u8>) -> Self {
         Self::from_owner(bytes)
+    }
+}
+
+/// Keeps the bytes of the `String`, as `from_owner` does.
+impl From<String> for IoBuf {
+    fn from(text: String) -> Self {
+        Self::from(text.into_bytes())
+    }
+}
+
+/// Keeps the box, as `from_owner` does.
+impl From<Box<[u8]>> for IoBuf {
+    fn from(bytes: Box<[u8]>) -> Self {
+        Self::from(bytes.into_vec())
+    }
+}
+
+impl FromIterator<u8> for IoBuf {
+    fn from_iter<I: IntoIterator<Item = u8>>(bytes: I) -> Self {
+        Self::from(Vec::from_iter(bytes))
+    }
+}
+
+impl<'a> IntoIterator for &'a IoBuf {
+    type Item = &'a u8;
+    type IntoIter = std::slice::Iter<'a, u8>;
+
+    fn into_iter(self) -> Self::IntoIter {
+        self.iter()
     }
 }
 

@@ -29,7 +29,7 @@ fn texts() {
         (9, 3, false, &b"abc"[..])
     );
     assert_eq!((t.chunk_at(1), t.chunk_at(3)), (Some(&b"de"[..]), None));
-    assert_eq!(format!("{t:?}"), "IoBufs { len: 9, chunks: 3 }");
+    assert_eq!(format!("{t:?}"), r#"b"abcdefghi""#);
     let same = t.clone();
     assert_eq!(same, IoBufs::from(b"abcdefghi"));
     let front = t.split_to(4);

@@ -109,14 +109,18 @@ fn ranges_without_bytes() {
         assert!(std::panic::catch_unwind(move || far.slice((Excluded(at), Excluded(at)))).is_err());
     }
     for far in [5001, FAR, usize::MAX] {
-        for range in [(Included(0), Excluded(far)), (Included(far), Unbounded), (Excluded(far), Included(far))] {
+        for range in [
+            (Included(0), Excluded(far)),
+            (Included(far), Unbounded),
+            (Excluded(far), Included(far)),
+        ] {
             let view = view.clone();
             assert!(std::panic::catch_unwind(move || view.slice(range)).is_err());
         }
     }
     let mut text = IoBufs::from(view.clone());
-    assert!(text.split_to(0).is_empty() && text.take_owned(0).is_empty() && text == IoBufs::from(view.clone()));
-    assert!(text.split_to(5000) == IoBufs::from(view) && text.is_empty());
+    assert!(text.split_to(0).is_empty() && text.take_owned(0).is_empty() && text == view);
+    assert!(text.split_to(5000) == view && text.is_empty());
 }
 
 #[test]

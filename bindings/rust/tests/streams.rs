@@ -117,8 +117,8 @@ const READ: [(&[u8], &[u8], &str); 5] = [
     (b"\x03abc\0\x05hello", b"abc||hello|", "end"),
     (b"\x05hell", b"", "the input ends inside a frame"),
     (b"\x88", b"", "the input ends inside a frame"),
-    (b"\0\x09aaaaaaaaa", b"|", "bad frame: InvalidLength(9)"),
-    (b"\x80\0", b"", "bad frame: InvalidVarint"),
+    (b"\0\x09aaaaaaaaa", b"|", "bad frame: the length 9 is outside the range"),
+    (b"\x80\0", b"", "bad frame: the bytes are no varint"),
 ];
 
 #[test]
