@@ -18,8 +18,8 @@ pub struct Scratch {
     room: usize,
 }
 
-/// How many bytes are lent at a time.
-const LENT: usize = 4096;
+/// How many bytes are lent at a time, at most.
+const LENT: usize = 1 << 16;
 
 impl Scratch {
     /// The `n` bytes that are the buffer's next, now that `room` bytes fit.
@@ -114,6 +114,49 @@ macro_rules! reads {
     )*};
 }
 
+/// Numbers at the front, each by one call of the library.
+macro_rules! gets {
+    ($($get:ident $little:ident $signed:ident $little_signed:ident $number:ty, $integer:ty;)*) => {
+        #[track_caller]
+        fn get_u8(&mut self) -> u8 {
+            Self::get_u8(self)
+        }
+
+        #[track_caller]
+        fn get_i8(&mut self) -> i8 {
+            Self::get_u8(self) as i8
+        }
+        $(
+            #[track_caller]
+            fn $get(&mut self) -> $number {
+                Self::$get(self)
+            }
+
+            #[track_caller]
+            fn $little(&mut self) -> $number {
+                Self::$get(self).swap_bytes()
+            }
+
+            #[track_caller]
+            fn $signed(&mut self) -> $integer {
+                Self::$get(self) as $integer
+            }
+
+            #[track_caller]
+            fn $little_signed(&mut self) -> $integer {
+                Self::$get(self).swap_bytes() as $integer
+            }
+        )*
+    };
+    () => {
+        gets! {
+            get_u16 get_u16_le get_i16 get_i16_le u16, i16;
+            get_u32 get_u32_le get_i32 get_i32_le u32, i32;
+            get_u64 get_u64_le get_i64 get_i64_le u64, i64;
+        }
+    };
+}
+
 /// The first bytes of a writable buffer, copied.
 fn copied(from: &mut impl Buf, n: usize) -> Bytes {
     let mut bytes = vec![0; n];
@@ -122,9 +165,11 @@ fn copied(from: &mut impl Buf, n: usize) -> Bytes {
 }
 
 reads! {
-    IoBuf, |view: &mut IoBuf, n| view.take_owned(n).into(), {}
-    IoBufMut, copied, {}
+    IoBuf, |view: &mut IoBuf, n| view.take_owned(n).into(), { gets! {} }
+    IoBufMut, |part: &mut IoBufMut, n| part.copy_to_bytes(n).into(), {}
     IoBufs, |bufs: &mut IoBufs, n| bufs.take_owned(n).into(), {
+        gets! {}
+
         fn chunks_vectored<'a>(&'a self, dst: &mut [IoSlice<'a>]) -> usize {
             IoBufs::chunks_vectored(self, dst)
         }

@@ -242,6 +242,10 @@ impl<B: Buf + BufMut> Both<B> {
             }
             _ => assert_eq!(ours.copy_to_bytes(n), theirs.copy_to_bytes(n)),
         }
+        // All bytes of one buffer are taken with its space.
+        if ours.remaining_mut() == 0 {
+            self.lent = 0..0;
+        }
     }
 }
 
