@@ -190,7 +190,8 @@ IOBUFS_CHECKED iobufs_status iobufmut_with_capacity(size_t n, struct iobufmut_at
 IOBUFS_CHECKED iobufs_status iobufmut_with_alignment(size_t n, size_t align, struct iobufmut_at *out);
 /* A buffer of n bytes, all zero: memory except for 0; IOBUFS_BAD_LAYOUT above SSIZE_MAX. (IoBufMut::zeroed) */
 IOBUFS_CHECKED iobufs_status iobufmut_zeroed(size_t n, struct iobufmut_at *out);
-/* A buffer of n zeros, after testing the alignment, as above. Memory except for 0. (zeroed_with_alignment) */
+/* A buffer of n zeros, after testing the alignment, as iobufmut_with_alignment does. Memory except for 0.
+ * (zeroed_with_alignment) */
 IOBUFS_CHECKED iobufs_status iobufmut_zeroed_with_alignment(size_t n, size_t align, struct iobufmut_at *out);
 /* A copy of n bytes, without spare capacity; memory except for 0 bytes. (From<&[u8]>) */
 IOBUFS_CHECKED iobufs_status iobufmut_copy_from_slice(const uint8_t *src, size_t n, struct iobufmut_at *out);
@@ -296,8 +297,8 @@ IOBUFS_CHECKED iobufs_status iobufs_copy_to_slice(struct iobufs_at *text, uint8_
 IOBUFS_CHECKED iobufs_status iobufs_take(struct iobufs_at *text, size_t n, struct iobuf_at *out);
 /* Takes the n bytes after the first `skip`, which are dropped too, as one view, as iobufs_take does. (own) */
 IOBUFS_CHECKED iobufs_status iobufs_take_after(struct iobufs_at *text, size_t skip, size_t n, struct iobuf_at *out);
-/* All bytes as one view, with a copy (memory) of several chunks; it is left empty, also after an error: clone it first to
- * keep it. (coalesce) */
+/* All bytes as one view, with a copy (memory) of several chunks; IOBUFS_BAD_LAYOUT if they have more than SSIZE_MAX bytes.
+ * It is left empty, also after an error: clone it first to keep it. (coalesce) */
 IOBUFS_CHECKED iobufs_status iobufs_coalesce(struct iobufs_at *text, struct iobuf_at *out);
 /* The only chunk as a view; it is left empty. IOBUFS_DECLINED if there are more, and it stays. No memory.
  * (try_into_single) */
@@ -368,7 +369,8 @@ IOBUFS_CHECKED iobufs_status iobufsmut_copy_from_slice(struct iobufsmut_at *part
 /* The parts that hold bytes as the chunks of one iobufs, not copied; none are left. Memory for the deque; on
  * IOBUFS_MEMORY the parts are dropped. (freeze) */
 IOBUFS_CHECKED iobufs_status iobufsmut_freeze(struct iobufsmut_at *parts, struct iobufs_at *out);
-/* The parts as one buffer, with a copy (memory) of several; none are left, also after an error. (coalesce) */
+/* The parts as one buffer, with a copy (memory) of several; IOBUFS_BAD_LAYOUT if they have more than SSIZE_MAX bytes. None
+ * are left, also after an error. (coalesce) */
 IOBUFS_CHECKED iobufs_status iobufsmut_coalesce(struct iobufsmut_at *parts, struct iobufmut_at *out);
 /* The only part as a buffer; none are left. IOBUFS_DECLINED if there are more, and they stay. No memory.
  * (try_into_single) */
@@ -405,7 +407,8 @@ IOBUFS_CHECKED iobufs_status iobufs_builder_put_length(struct iobufs_builder_at 
 /* Pushes a view, not copied, and leaves its place empty; memory for the deque. IOBUFS_DECLINED if there is no builder,
  * IOBUFS_TOO_LONG if the bytes would pass SIZE_MAX. After an error both are unchanged. (Builder::push) */
 IOBUFS_CHECKED iobufs_status iobufs_builder_push(struct iobufs_builder_at *builder, struct iobuf_at *piece);
-/* All that was put and pushed as an iobufs; no builder is left. No memory is asked for. (Builder::finish) */
+/* All that was put and pushed as an iobufs; no builder is left, also after IOBUFS_MEMORY. Memory none today.
+ * (Builder::finish) */
 IOBUFS_CHECKED iobufs_status iobufs_builder_finish(struct iobufs_builder_at *builder, struct iobufs_at *out);
 
 /* ---- varint lengths: seven bits a byte, lowest first, in the shortest form ---- */
@@ -422,7 +425,8 @@ IOBUFS_CHECKED iobufs_status iobuf_read_length(struct iobuf_at *src, size_t lo, 
  * The statuses of iobufs_read_length, and IOBUFS_END_OF_BUFFER if fewer bytes follow; after each both are unchanged.
  * (IoBuf::read_cfg) */
 IOBUFS_CHECKED iobufs_status iobufs_read_view(struct iobufs_at *text, size_t lo, size_t hi, struct iobuf_at *out);
-/* Reads a length and the bytes after it from a view, in its storage. Memory none today. (IoBuf::read_cfg) */
+/* Reads a length and the bytes after it from a view, in its storage, as iobufs_read_view does. Memory none today.
+ * (IoBuf::read_cfg) */
 IOBUFS_CHECKED iobufs_status iobuf_read_view(struct iobuf_at *src, size_t lo, size_t hi, struct iobuf_at *out);
 
 /* ---- big-endian numbers of a fixed size ---- */
