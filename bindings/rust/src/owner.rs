@@ -134,6 +134,17 @@ impl View {
     pub(crate) fn is_sole(&self) -> bool {
         self.owner.as_ref().is_some_and(|owner| Arc::strong_count(&owner.0) == 1)
     }
+
+    /// Takes the owner out, and drops the view first, if it is a `T` that no other buffer keeps.
+    pub(crate) fn into_owner<T: Any + Send + Sync>(mut self) -> Result<T, Self> {
+        if !self.is_sole() || self.owner::<T>().is_none() {
+            return Err(self);
+        }
+        let owner = self.owner.take();
+        drop(self);
+        let owned = owner.and_then(|owner| owner.0.downcast().ok()).and_then(Arc::into_inner);
+        Ok(owned.expect("one `Arc` of a `T`"))
+    }
 }
 
 // Each makes a view of bytes of this one by a call, after whose status `check` may panic.

@@ -292,12 +292,20 @@ impl From<IoBufMut> for IoBuf {
     }
 }
 
-/// Copies.
+/// A `Vec` that the view alone keeps comes back, without the bytes around the view's; other bytes are copied.
 impl From<IoBuf> for Vec<u8> {
     #[inline]
     fn from(view: IoBuf) -> Self {
-        let out = view.to_vec();
-        drop(view);
-        out
+        let (at, len) = (view.as_ptr() as usize, view.len());
+        match view.0.into_owner::<Vec<u8>>() {
+            Ok(mut vec) if len > 0 => {
+                let first = at - vec.as_ptr() as usize;
+                vec.truncate(first + len);
+                vec.drain(..first);
+                vec
+            }
+            Ok(_) => Vec::new(),
+            Err(view) => IoBuf(view).to_vec(),
+        }
     }
 }

@@ -84,6 +84,22 @@ fn a_whole_buffer_is_taken_without_a_copy() {
     assert_eq!((taken.as_ref().as_ptr(), part.capacity()), (at, 0));
 }
 
+#[test]
+fn a_vec_that_one_view_keeps_comes_back() {
+    let vec = vec![1, 2, 3, 4];
+    let at = vec.as_ptr();
+    let mut view = IoBuf::from(vec);
+    let other = view.slice(2..);
+    view.advance(1);
+    assert_eq!(Vec::from(view.clone()), [2, 3, 4]);
+    assert_eq!(Vec::from(other), [3, 4]);
+    view.truncate(2);
+    let back = Vec::from(view);
+    assert_eq!((back.as_ptr(), back), (at, vec![2, 3]));
+    assert_eq!(Vec::from(IoBuf::from(vec![1; 3]).split_to(0)), [0; 0]);
+    assert_eq!(Vec::from(IoBuf::from("ab")), b"ab");
+}
+
 /// A value is written as these bytes, and read back from them, whole or cut into chunks of one byte.
 #[track_caller]
 fn written<T: EncodeExt + Encode + Read + PartialEq + Debug>(value: T, cfg: &T::Cfg, bytes: &[u8]) {
