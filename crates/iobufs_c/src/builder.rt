@@ -1,4 +1,4 @@
-// Builders of texts at their places.
+// Builders, reached by their handles.
 ghost use Rattle.std.specs.Prelude.{◌≡◌, ◌≤◌, ◌<◌, ◌==◌, ◌∷◌, [], if◌then◌else◌, ◌^◌, length, replicate, nat_le, Option, Some, None};
 ghost use Rattle.std.specs.Borrow.{sem, Lends, full_share};
 ghost use Rattle.std.specs.Option.{option_map};
@@ -19,7 +19,7 @@ use std::alloc::Global;
 use std::marker::{Model, Send};
 use std::mem;
 
-/// The place of a builder, or of none, in the caller's memory. None reads as one of capacity 0, and takes nothing.
+/// The handle of a builder, or of none, in the caller's memory. No builder reads as one of capacity 0, and takes nothing.
 #[repr(C)]
 pub struct BuilderAt {
     at: *mut u8,
@@ -34,7 +34,7 @@ impl Model for BuilderAt {
     ghost also_owns = { λ h. lies_at builder_row full_share h.at h.value };
 }
 
-// A builder may go to another thread, and its place with it (proofs/builder/BuilderAt/TheSendSync).
+// A builder may go to another thread with its handle (proofs/builder/BuilderAt/TheSendSync).
 unsafe impl Send for BuilderAt {}
 
 impl BuilderAt {
@@ -55,7 +55,7 @@ fn none() -> Option<Builder>
     None
 }
 
-/// How many bytes a builder takes.
+/// Returns the size of a builder in bytes.
 #[unsafe(no_mangle)]
 pub extern "C" fn iobufs_builder_size() -> usize
     ensures value { result ≡ 120 }
@@ -63,7 +63,7 @@ pub extern "C" fn iobufs_builder_size() -> usize
     mem::size_of::<Option<Builder>>()
 }
 
-/// To what a builder is aligned.
+/// Returns the alignment of a builder.
 #[unsafe(no_mangle)]
 pub extern "C" fn iobufs_builder_align() -> usize
     ensures value { result ≡ 8 }
@@ -71,7 +71,7 @@ pub extern "C" fn iobufs_builder_align() -> usize
     mem::align_of::<Option<Builder>>()
 }
 
-/// Makes a place of memory, with no builder.
+/// Makes a handle of memory, without a builder.
 #[unsafe(no_mangle)]
 pub unsafe extern "C" fn iobufs_builder_init(at: *mut u8)
     requires* { sem 𝓛 (room_at builder_row at) }
@@ -80,7 +80,7 @@ pub unsafe extern "C" fn iobufs_builder_init(at: *mut u8)
     (at as *mut Option<Builder>).write(none());
 }
 
-/// Gives the builder up; none is left.
+/// Drops the builder; none is left.
 #[unsafe(no_mangle)]
 pub extern "C" fn iobufs_builder_drop(builder: &mut BuilderAt)
     ensures at { builder.new.at ≡ builder.old.at }
@@ -89,7 +89,8 @@ pub extern "C" fn iobufs_builder_drop(builder: &mut BuilderAt)
     *builder.get() = None;
 }
 
-/// A builder for so many inline bytes and no more.
+/// Makes a builder for `capacity` inline bytes. Returns `Status::BadLayout` or `Status::Memory` if that fails; then `out` is
+/// unchanged.
 #[unsafe(no_mangle)]
 pub extern "C" fn iobufs_builder_new(alloc: Global, capacity: usize, out: &mut BuilderAt) -> u8
     ensures at { out.new.at ≡ out.old.at }
@@ -107,7 +108,7 @@ pub extern "C" fn iobufs_builder_new(alloc: Global, capacity: usize, out: &mut B
     }
 }
 
-/// How many bytes may still be put.
+/// Returns how many bytes may still be put.
 #[unsafe(no_mangle)]
 pub extern "C" fn iobufs_builder_remaining_mut(builder: &mut BuilderAt) -> usize
     ensures same { (builder.new.at ≡ builder.old.at) × (builder.new.value ≡ builder.old.value) }
@@ -119,7 +120,7 @@ pub extern "C" fn iobufs_builder_remaining_mut(builder: &mut BuilderAt) -> usize
     }
 }
 
-/// Puts bytes. `Status::OutOfRange` where they don't fit, and then nothing changes.
+/// Writes bytes. Returns `Status::OutOfRange` if they don't fit; then nothing changes.
 #[unsafe(no_mangle)]
 pub extern "C" fn iobufs_builder_put_slice(builder: &mut BuilderAt, src: &[u8]) -> u8
     ensures at { builder.new.at ≡ builder.old.at }
@@ -136,7 +137,7 @@ pub extern "C" fn iobufs_builder_put_slice(builder: &mut BuilderAt, src: &[u8]) 
     Status::Done.code()
 }
 
-/// Puts a byte `n` times.
+/// Writes a byte `n` times. Returns `Status::OutOfRange` if they don't fit; then nothing changes.
 #[unsafe(no_mangle)]
 pub extern "C" fn iobufs_builder_put_bytes(builder: &mut BuilderAt, value: u8, n: usize) -> u8
     ensures at { builder.new.at ≡ builder.old.at }
@@ -153,7 +154,7 @@ pub extern "C" fn iobufs_builder_put_bytes(builder: &mut BuilderAt, value: u8, n
     Status::Done.code()
 }
 
-/// Puts one byte.
+/// Writes one byte. Returns `Status::OutOfRange` if it doesn't fit; then nothing changes.
 #[unsafe(no_mangle)]
 pub extern "C" fn iobufs_builder_put_u8(builder: &mut BuilderAt, n: u8) -> u8
     ensures at { builder.new.at ≡ builder.old.at }
@@ -170,8 +171,8 @@ pub extern "C" fn iobufs_builder_put_u8(builder: &mut BuilderAt, n: u8) -> u8
     Status::Done.code()
 }
 
-/// Pushes a view, which is not copied, and leaves its place empty. Where that is refused, both are as before; where no
-/// builder is there, `Status::Declined`.
+/// Pushes a view without copying, and leaves its handle empty. Returns `Status::TooLong` or `Status::Memory`, or
+/// `Status::Declined` if there is no builder; then both are unchanged.
 #[unsafe(no_mangle)]
 pub extern "C" fn iobufs_builder_push(builder: &mut BuilderAt, piece: &mut ViewAt) -> u8
     ensures at { (builder.new.at ≡ builder.old.at) × (piece.new.at ≡ piece.old.at) }
@@ -194,8 +195,8 @@ pub extern "C" fn iobufs_builder_push(builder: &mut BuilderAt, piece: &mut ViewA
     }
 }
 
-/// All that was put and pushed, as a text; no builder is left. Where memory is refused, it is given up, and the text
-/// stays.
+/// Finishes the builder to an `IoBufs`; none is left. Returns `Status::Memory` if an allocation fails; then the builder is
+/// dropped, and `out` unchanged.
 #[unsafe(no_mangle)]
 pub extern "C" fn iobufs_builder_finish(builder: &mut BuilderAt, out: &mut TextAt) -> u8
     ensures at { (builder.new.at ≡ builder.old.at) × (out.new.at ≡ out.old.at) }

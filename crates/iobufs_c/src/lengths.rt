@@ -1,4 +1,4 @@
-// Lengths as they are spelled, and bytes after their length.
+// Varint lengths, and bytes after their length.
 ghost use Rattle.std.specs.Prelude.{◌≡◌, ℕ, ◌==◌, if◌then◌else◌, length, nat_le, false, Ok, Err};
 ghost use Rattle.std.specs.Option.{option_map};
 ghost use Rattle.iobufs.specs.Building.{building_put, building_room};
@@ -21,7 +21,7 @@ use iobufs_core::buf::IoBuf;
 use iobufs_core::codec::{BufMut, EncodeSize, Error, RangeCfg, Read, Write};
 use std::alloc::Global;
 
-/// How many bytes spell a length.
+/// Returns how many bytes a varint length has.
 #[unsafe(no_mangle)]
 pub extern "C" fn iobufs_length_size(n: usize) -> usize
     ensures { result ≡ length (spell n) }
@@ -29,7 +29,7 @@ pub extern "C" fn iobufs_length_size(n: usize) -> usize
     n.encode_inline_size()
 }
 
-/// Puts the spelling of a length. `Status::OutOfRange` where it doesn't fit, and then nothing changes.
+/// Writes a varint length into an `IoBufMut`. Returns `Status::OutOfRange` if it doesn't fit; then nothing changes.
 #[unsafe(no_mangle)]
 pub extern "C" fn iobufmut_put_length(part: &mut PartAt, n: usize) -> u8
     ensures at { part.new.at ≡ part.old.at }
@@ -46,7 +46,7 @@ pub extern "C" fn iobufmut_put_length(part: &mut PartAt, n: usize) -> u8
     Status::Done.code()
 }
 
-/// Puts a varint length into an `IoBufsMut`.
+/// Writes a varint length into an `IoBufsMut`. Returns `Status::OutOfRange` if it doesn't fit; then nothing changes.
 #[unsafe(no_mangle)]
 pub extern "C" fn iobufsmut_put_length(parts: &mut PartsAt, n: usize) -> u8
     ensures at { parts.new.at ≡ parts.old.at }
@@ -63,7 +63,7 @@ pub extern "C" fn iobufsmut_put_length(parts: &mut PartsAt, n: usize) -> u8
     Status::Done.code()
 }
 
-/// Puts a varint length into a builder.
+/// Writes a varint length into a builder. Returns `Status::OutOfRange` if it doesn't fit; then nothing changes.
 #[unsafe(no_mangle)]
 pub extern "C" fn iobufs_builder_put_length(builder: &mut BuilderAt, n: usize) -> u8
     ensures at { builder.new.at ≡ builder.old.at }
@@ -80,8 +80,9 @@ pub extern "C" fn iobufs_builder_put_length(builder: &mut BuilderAt, n: usize) -
     Status::Done.code()
 }
 
-/// Reads the varint length at the front, from `lo` to `hi`, and drops it. A length outside is written to `out`; then,
-/// as after each error, the text is unchanged.
+/// Reads the varint length at the front of an `IoBufs`, from `lo` to `hi`, and drops it. Returns `Status::EndOfBuffer`,
+/// `Status::InvalidVarint`, or `Status::InvalidLength`, which writes the length to `out`; after each the `IoBufs` is
+/// unchanged.
 #[unsafe(no_mangle)]
 pub extern "C" fn iobufs_read_length(
     alloc: Global,
@@ -114,7 +115,7 @@ pub extern "C" fn iobufs_read_length(
     }
 }
 
-/// Reads the varint length at the front of a view.
+/// Reads the varint length at the front of a view, with the statuses of `iobufs_read_length`.
 #[unsafe(no_mangle)]
 pub extern "C" fn iobuf_read_length(
     alloc: Global,
@@ -147,7 +148,8 @@ pub extern "C" fn iobuf_read_length(
     }
 }
 
-/// Reads the bytes after a length from `lo` to `hi` before a text, as a view. Each fault leaves both.
+/// Reads a varint length from `lo` to `hi` at the front of an `IoBufs`, and the bytes after it as a view. Returns a status
+/// of `iobufs_read_length`, or `Status::Memory`; then both are unchanged.
 #[unsafe(no_mangle)]
 pub extern "C" fn iobufs_read_view(
     alloc: Global,
@@ -176,7 +178,7 @@ pub extern "C" fn iobufs_read_view(
     }
 }
 
-/// Reads a length and the bytes after it from a view, in its storage.
+/// Reads a varint length and the bytes after it from a view, in its storage, with the statuses of `iobufs_read_view`.
 #[unsafe(no_mangle)]
 pub extern "C" fn iobuf_read_view(
     alloc: Global,

@@ -1,4 +1,4 @@
-// Numbers of a fixed size, the highest byte first.
+// Big-endian numbers of a fixed size.
 ghost use Rattle.std.specs.Prelude.{◌≡◌, ◌<◌, ◌==◌, ◌∷◌, [], if◌then◌else◌, length, nat_le, false, Ok};
 ghost use Rattle.std.specs.Int.{to_be_bytes, w16, w32, w64};
 ghost use Rattle.std.specs.Option.{option_map};
@@ -20,7 +20,8 @@ use crate::view::ViewAt;
 use iobufs_core::codec::Read;
 use std::alloc::Global;
 
-/// Puts a number of two bytes into a buffer. `Status::OutOfRange` where it doesn't fit, and then nothing changes.
+/// Writes a big-endian number of two bytes into an `IoBufMut`. Returns `Status::OutOfRange` if it doesn't fit; then nothing
+/// changes.
 #[unsafe(no_mangle)]
 pub extern "C" fn iobufmut_put_u16(part: &mut PartAt, n: u16) -> u8
     ensures at { part.new.at ≡ part.old.at }
@@ -30,7 +31,8 @@ pub extern "C" fn iobufmut_put_u16(part: &mut PartAt, n: u16) -> u8
     iobufmut_put_slice(part, &u16::to_be_bytes(n))
 }
 
-/// Puts a big-endian number of four bytes into an `IoBufMut`.
+/// Writes a big-endian number of four bytes into an `IoBufMut`. Returns `Status::OutOfRange` if it doesn't fit; then nothing
+/// changes.
 #[unsafe(no_mangle)]
 pub extern "C" fn iobufmut_put_u32(part: &mut PartAt, n: u32) -> u8
     ensures at { part.new.at ≡ part.old.at }
@@ -40,7 +42,8 @@ pub extern "C" fn iobufmut_put_u32(part: &mut PartAt, n: u32) -> u8
     iobufmut_put_slice(part, &u32::to_be_bytes(n))
 }
 
-/// Puts a big-endian number of eight bytes into an `IoBufMut`.
+/// Writes a big-endian number of eight bytes into an `IoBufMut`. Returns `Status::OutOfRange` if it doesn't fit; then
+/// nothing changes.
 #[unsafe(no_mangle)]
 pub extern "C" fn iobufmut_put_u64(part: &mut PartAt, n: u64) -> u8
     ensures at { part.new.at ≡ part.old.at }
@@ -50,7 +53,8 @@ pub extern "C" fn iobufmut_put_u64(part: &mut PartAt, n: u64) -> u8
     iobufmut_put_slice(part, &u64::to_be_bytes(n))
 }
 
-/// Puts a big-endian number of two bytes into an `IoBufsMut`.
+/// Writes a big-endian number of two bytes into an `IoBufsMut`. Returns `Status::OutOfRange` if it doesn't fit; then nothing
+/// changes.
 #[unsafe(no_mangle)]
 pub extern "C" fn iobufsmut_put_u16(parts: &mut PartsAt, n: u16) -> u8
     ensures at { parts.new.at ≡ parts.old.at }
@@ -60,7 +64,8 @@ pub extern "C" fn iobufsmut_put_u16(parts: &mut PartsAt, n: u16) -> u8
     iobufsmut_put_slice(parts, &u16::to_be_bytes(n))
 }
 
-/// Puts a big-endian number of four bytes into an `IoBufsMut`.
+/// Writes a big-endian number of four bytes into an `IoBufsMut`. Returns `Status::OutOfRange` if it doesn't fit; then
+/// nothing changes.
 #[unsafe(no_mangle)]
 pub extern "C" fn iobufsmut_put_u32(parts: &mut PartsAt, n: u32) -> u8
     ensures at { parts.new.at ≡ parts.old.at }
@@ -70,7 +75,8 @@ pub extern "C" fn iobufsmut_put_u32(parts: &mut PartsAt, n: u32) -> u8
     iobufsmut_put_slice(parts, &u32::to_be_bytes(n))
 }
 
-/// Puts a big-endian number of eight bytes into an `IoBufsMut`.
+/// Writes a big-endian number of eight bytes into an `IoBufsMut`. Returns `Status::OutOfRange` if it doesn't fit; then
+/// nothing changes.
 #[unsafe(no_mangle)]
 pub extern "C" fn iobufsmut_put_u64(parts: &mut PartsAt, n: u64) -> u8
     ensures at { parts.new.at ≡ parts.old.at }
@@ -80,7 +86,8 @@ pub extern "C" fn iobufsmut_put_u64(parts: &mut PartsAt, n: u64) -> u8
     iobufsmut_put_slice(parts, &u64::to_be_bytes(n))
 }
 
-/// Puts a big-endian number of two bytes into a builder.
+/// Writes a big-endian number of two bytes into a builder. Returns `Status::OutOfRange` if it doesn't fit; then nothing
+/// changes.
 #[unsafe(no_mangle)]
 pub extern "C" fn iobufs_builder_put_u16(builder: &mut BuilderAt, n: u16) -> u8
     ensures at { builder.new.at ≡ builder.old.at }
@@ -90,7 +97,8 @@ pub extern "C" fn iobufs_builder_put_u16(builder: &mut BuilderAt, n: u16) -> u8
     iobufs_builder_put_slice(builder, &u16::to_be_bytes(n))
 }
 
-/// Puts a big-endian number of four bytes into a builder.
+/// Writes a big-endian number of four bytes into a builder. Returns `Status::OutOfRange` if it doesn't fit; then nothing
+/// changes.
 #[unsafe(no_mangle)]
 pub extern "C" fn iobufs_builder_put_u32(builder: &mut BuilderAt, n: u32) -> u8
     ensures at { builder.new.at ≡ builder.old.at }
@@ -100,7 +108,8 @@ pub extern "C" fn iobufs_builder_put_u32(builder: &mut BuilderAt, n: u32) -> u8
     iobufs_builder_put_slice(builder, &u32::to_be_bytes(n))
 }
 
-/// Puts a big-endian number of eight bytes into a builder.
+/// Writes a big-endian number of eight bytes into a builder. Returns `Status::OutOfRange` if it doesn't fit; then nothing
+/// changes.
 #[unsafe(no_mangle)]
 pub extern "C" fn iobufs_builder_put_u64(builder: &mut BuilderAt, n: u64) -> u8
     ensures at { builder.new.at ≡ builder.old.at }
@@ -110,8 +119,8 @@ pub extern "C" fn iobufs_builder_put_u64(builder: &mut BuilderAt, n: u64) -> u8
     iobufs_builder_put_slice(builder, &u64::to_be_bytes(n))
 }
 
-/// Reads the number of one byte before a view, and drops it. `Status::EndOfBuffer` where there are fewer bytes, and then nothing
-/// changes.
+/// Reads a big-endian number of one byte from the front of a view, and drops it. Returns `Status::EndOfBuffer` if there are
+/// fewer; then nothing changes.
 #[unsafe(no_mangle)]
 #[tactic(auto, using(iobufs_core::proofs::CallerFacts::reading))]
 pub extern "C" fn iobuf_get_u8(alloc: Global, src: &mut ViewAt, out: &mut u8) -> u8
@@ -129,7 +138,8 @@ pub extern "C" fn iobuf_get_u8(alloc: Global, src: &mut ViewAt, out: &mut u8) ->
     Status::Done.code()
 }
 
-/// Takes a big-endian number of two bytes from the front of a view.
+/// Reads a big-endian number of two bytes from the front of a view, and drops it. Returns `Status::EndOfBuffer` if there are
+/// fewer; then nothing changes.
 #[unsafe(no_mangle)]
 #[tactic(auto, using(iobufs_core::proofs::CallerFacts::reading))]
 pub extern "C" fn iobuf_get_u16(alloc: Global, src: &mut ViewAt, out: &mut u16) -> u8
@@ -147,7 +157,8 @@ pub extern "C" fn iobuf_get_u16(alloc: Global, src: &mut ViewAt, out: &mut u16) 
     Status::Done.code()
 }
 
-/// Takes a big-endian number of four bytes from the front of a view.
+/// Reads a big-endian number of four bytes from the front of a view, and drops it. Returns `Status::EndOfBuffer` if there
+/// are fewer; then nothing changes.
 #[unsafe(no_mangle)]
 #[tactic(auto, using(iobufs_core::proofs::CallerFacts::reading))]
 pub extern "C" fn iobuf_get_u32(alloc: Global, src: &mut ViewAt, out: &mut u32) -> u8
@@ -165,7 +176,8 @@ pub extern "C" fn iobuf_get_u32(alloc: Global, src: &mut ViewAt, out: &mut u32) 
     Status::Done.code()
 }
 
-/// Takes a big-endian number of eight bytes from the front of a view.
+/// Reads a big-endian number of eight bytes from the front of a view, and drops it. Returns `Status::EndOfBuffer` if there
+/// are fewer; then nothing changes.
 #[unsafe(no_mangle)]
 #[tactic(auto, using(iobufs_core::proofs::CallerFacts::reading))]
 pub extern "C" fn iobuf_get_u64(alloc: Global, src: &mut ViewAt, out: &mut u64) -> u8
@@ -183,7 +195,8 @@ pub extern "C" fn iobuf_get_u64(alloc: Global, src: &mut ViewAt, out: &mut u64) 
     Status::Done.code()
 }
 
-/// Takes a big-endian number of one byte from the front of an `IoBufs`.
+/// Reads a big-endian number of one byte from the front of an `IoBufs`, and drops it. Returns `Status::EndOfBuffer` if there
+/// are fewer; then nothing changes.
 #[unsafe(no_mangle)]
 #[tactic(auto, using(iobufs_core::proofs::CallerFacts::reading))]
 pub extern "C" fn iobufs_get_u8(alloc: Global, text: &mut TextAt, out: &mut u8) -> u8
@@ -201,7 +214,8 @@ pub extern "C" fn iobufs_get_u8(alloc: Global, text: &mut TextAt, out: &mut u8) 
     Status::Done.code()
 }
 
-/// Takes a big-endian number of two bytes from the front of an `IoBufs`.
+/// Reads a big-endian number of two bytes from the front of an `IoBufs`, and drops it. Returns `Status::EndOfBuffer` if
+/// there are fewer; then nothing changes.
 #[unsafe(no_mangle)]
 #[tactic(auto, using(iobufs_core::proofs::CallerFacts::reading))]
 pub extern "C" fn iobufs_get_u16(alloc: Global, text: &mut TextAt, out: &mut u16) -> u8
@@ -219,7 +233,8 @@ pub extern "C" fn iobufs_get_u16(alloc: Global, text: &mut TextAt, out: &mut u16
     Status::Done.code()
 }
 
-/// Takes a big-endian number of four bytes from the front of an `IoBufs`.
+/// Reads a big-endian number of four bytes from the front of an `IoBufs`, and drops it. Returns `Status::EndOfBuffer` if
+/// there are fewer; then nothing changes.
 #[unsafe(no_mangle)]
 #[tactic(auto, using(iobufs_core::proofs::CallerFacts::reading))]
 pub extern "C" fn iobufs_get_u32(alloc: Global, text: &mut TextAt, out: &mut u32) -> u8
@@ -237,7 +252,8 @@ pub extern "C" fn iobufs_get_u32(alloc: Global, text: &mut TextAt, out: &mut u32
     Status::Done.code()
 }
 
-/// Takes a big-endian number of eight bytes from the front of an `IoBufs`.
+/// Reads a big-endian number of eight bytes from the front of an `IoBufs`, and drops it. Returns `Status::EndOfBuffer` if
+/// there are fewer; then nothing changes.
 #[unsafe(no_mangle)]
 #[tactic(auto, using(iobufs_core::proofs::CallerFacts::reading))]
 pub extern "C" fn iobufs_get_u64(alloc: Global, text: &mut TextAt, out: &mut u64) -> u8

@@ -1,4 +1,4 @@
-// Buffers to write at their places.
+// Writable buffers, reached by their handles.
 ghost use Rattle.std.specs.Prelude.{◌≡◌, ◌<◌, ◌==◌, if◌then◌else◌, ◌∷◌, [], length, take, replicate, ◌+◌, nat_le, Option, Some, None, IsTrue, true, false, MatchOption, Ok, Err};
 ghost use Rattle.std.specs.Borrow.{sem, Lends, full_share};
 ghost use Rattle.std.specs.Option.{option_map};
@@ -17,7 +17,7 @@ use std::alloc::Global;
 use std::marker::{Model, Send};
 use std::{mem, ptr};
 
-/// The place of a buffer to write, or of none, in the caller's memory. None reads as a buffer of capacity 0.
+/// The handle of a writable buffer, or of none, in the caller's memory. No buffer reads as one of capacity 0.
 #[repr(C)]
 pub struct PartAt {
     at: *mut u8,
@@ -32,7 +32,7 @@ impl Model for PartAt {
     ghost also_owns = { λ h. lies_at part_row full_share h.at h.value };
 }
 
-// A buffer may go to another thread, and its place with it (proofs/part/PartAt/TheSendSync).
+// A buffer may go to another thread with its handle (proofs/part/PartAt/TheSendSync).
 unsafe impl Send for PartAt {}
 
 impl PartAt {
@@ -53,7 +53,7 @@ fn none() -> Option<IoBufMut>
     None
 }
 
-/// How many bytes a buffer takes.
+/// Returns the size of a buffer in bytes.
 #[unsafe(no_mangle)]
 pub extern "C" fn iobufmut_size() -> usize
     ensures value { result ≡ 64 }
@@ -61,7 +61,7 @@ pub extern "C" fn iobufmut_size() -> usize
     mem::size_of::<Option<IoBufMut>>()
 }
 
-/// To what a buffer is aligned.
+/// Returns the alignment of a buffer.
 #[unsafe(no_mangle)]
 pub extern "C" fn iobufmut_align() -> usize
     ensures value { result ≡ 8 }
@@ -69,7 +69,7 @@ pub extern "C" fn iobufmut_align() -> usize
     mem::align_of::<Option<IoBufMut>>()
 }
 
-/// Makes a place of memory, with no buffer.
+/// Makes a handle of memory, without a buffer.
 #[unsafe(no_mangle)]
 pub unsafe extern "C" fn iobufmut_init(at: *mut u8)
     requires* { sem 𝓛 (room_at part_row at) }
@@ -78,7 +78,7 @@ pub unsafe extern "C" fn iobufmut_init(at: *mut u8)
     (at as *mut Option<IoBufMut>).write(none());
 }
 
-/// Gives the buffer up; none is left.
+/// Drops the buffer; none is left.
 #[unsafe(no_mangle)]
 pub extern "C" fn iobufmut_drop(part: &mut PartAt)
     ensures at { part.new.at ≡ part.old.at }
@@ -87,7 +87,8 @@ pub extern "C" fn iobufmut_drop(part: &mut PartAt)
     *part.get() = None;
 }
 
-/// An empty buffer of exactly this capacity.
+/// Allocates an empty buffer of exactly this capacity. Returns `Status::BadLayout` or `Status::Memory` if that fails; then
+/// `out` is unchanged.
 #[unsafe(no_mangle)]
 pub extern "C" fn iobufmut_with_capacity(alloc: Global, n: usize, out: &mut PartAt) -> u8
     ensures at { out.new.at ≡ out.old.at }
@@ -105,7 +106,8 @@ pub extern "C" fn iobufmut_with_capacity(alloc: Global, n: usize, out: &mut Part
     }
 }
 
-/// Allocates an empty buffer, after testing the alignment.
+/// Allocates an empty buffer, after testing the alignment. Returns `Status::BadLayout` or `Status::Memory` if that fails;
+/// then `out` is unchanged.
 #[unsafe(no_mangle)]
 pub extern "C" fn iobufmut_with_alignment(
     alloc: Global,
@@ -128,7 +130,7 @@ pub extern "C" fn iobufmut_with_alignment(
     }
 }
 
-/// A buffer of exactly this capacity, filled with zeros.
+/// Allocates a buffer of `n` zeros. Returns `Status::BadLayout` or `Status::Memory` if that fails; then `out` is unchanged.
 #[unsafe(no_mangle)]
 pub extern "C" fn iobufmut_zeroed(alloc: Global, n: usize, out: &mut PartAt) -> u8
     ensures at { out.new.at ≡ out.old.at }
@@ -146,7 +148,8 @@ pub extern "C" fn iobufmut_zeroed(alloc: Global, n: usize, out: &mut PartAt) -> 
     }
 }
 
-/// Allocates a buffer of zeros, after testing the alignment.
+/// Allocates a buffer of zeros, after testing the alignment. Returns `Status::BadLayout` or `Status::Memory` if that fails;
+/// then `out` is unchanged.
 #[unsafe(no_mangle)]
 pub extern "C" fn iobufmut_zeroed_with_alignment(
     alloc: Global,
@@ -169,7 +172,8 @@ pub extern "C" fn iobufmut_zeroed_with_alignment(
     }
 }
 
-/// A copy of bytes, with no room after them.
+/// Copies bytes into a buffer without spare capacity. Returns `Status::Memory` if an allocation fails; then `out` is
+/// unchanged.
 #[unsafe(no_mangle)]
 pub extern "C" fn iobufmut_copy_from_slice(alloc: Global, src: &[u8], out: &mut PartAt) -> u8
     ensures at { out.new.at ≡ out.old.at }
@@ -186,8 +190,8 @@ pub extern "C" fn iobufmut_copy_from_slice(alloc: Global, src: &[u8], out: &mut 
     }
 }
 
-/// The view as a buffer to write, if no other shares its bytes; the empty view is left. Else `Status::Declined`, and
-/// both are as before.
+/// Makes a writable buffer of a view of native storage that no other handle has, and leaves the empty view. Returns
+/// `Status::Declined` for any other view; then both are unchanged.
 #[unsafe(no_mangle)]
 pub extern "C" fn iobuf_try_into_mut(alloc: Global, src: &mut ViewAt, out: &mut PartAt) -> u8
     ensures at { (src.new.at ≡ src.old.at) × (out.new.at ≡ out.old.at) }
@@ -208,8 +212,8 @@ pub extern "C" fn iobuf_try_into_mut(alloc: Global, src: &mut ViewAt, out: &mut 
     }
 }
 
-/// The bytes of a view: recovered where `iobuf_try_into_mut` does, else copied. The empty view is left; where memory is
-/// refused, both are as before.
+/// Makes a writable buffer of a view, recovered as by `iobuf_try_into_mut`, else copied, and leaves the empty view. Returns
+/// `Status::Memory` if an allocation fails; then both are unchanged.
 #[unsafe(no_mangle)]
 pub extern "C" fn iobufmut_from_view(alloc: Global, src: &mut ViewAt, out: &mut PartAt) -> u8
     ensures at { (src.new.at ≡ src.old.at) × (out.new.at ≡ out.old.at) }
@@ -230,7 +234,7 @@ pub extern "C" fn iobufmut_from_view(alloc: Global, src: &mut ViewAt, out: &mut 
     }
 }
 
-/// The number of readable bytes.
+/// Returns the number of readable bytes.
 #[unsafe(no_mangle)]
 pub extern "C" fn iobufmut_len(part: &mut PartAt) -> usize
     ensures same { (part.new.at ≡ part.old.at) × (part.new.value ≡ part.old.value) }
@@ -242,7 +246,7 @@ pub extern "C" fn iobufmut_len(part: &mut PartAt) -> usize
     }
 }
 
-/// Whether no byte is readable.
+/// Returns whether no byte is readable.
 #[unsafe(no_mangle)]
 pub extern "C" fn iobufmut_is_empty(part: &mut PartAt) -> bool
     ensures same { (part.new.at ≡ part.old.at) × (part.new.value ≡ part.old.value) }
@@ -254,7 +258,7 @@ pub extern "C" fn iobufmut_is_empty(part: &mut PartAt) -> bool
     }
 }
 
-/// How many bytes fit, counted from the first readable one.
+/// Returns how many bytes fit, counted from the first readable one.
 #[unsafe(no_mangle)]
 pub extern "C" fn iobufmut_capacity(part: &mut PartAt) -> usize
     ensures same { (part.new.at ≡ part.old.at) × (part.new.value ≡ part.old.value) }
@@ -266,7 +270,7 @@ pub extern "C" fn iobufmut_capacity(part: &mut PartAt) -> usize
     }
 }
 
-/// How many bytes may still be put.
+/// Returns how many bytes may still be written.
 #[unsafe(no_mangle)]
 pub extern "C" fn iobufmut_remaining_mut(part: &mut PartAt) -> usize
     ensures same { (part.new.at ≡ part.old.at) × (part.new.value ≡ part.old.value) }
@@ -278,8 +282,8 @@ pub extern "C" fn iobufmut_remaining_mut(part: &mut PartAt) -> usize
     }
 }
 
-/// Writes where the readable bytes lie, if there are any, and answers how many there are. The buffer shares them with
-/// nobody, so the caller may write over them there; what is written so, no contract knows.
+/// Writes the address of the readable bytes, if there are any, and returns how many there are. No other buffer shares them,
+/// so the caller may write there; no contract knows what.
 #[unsafe(no_mangle)]
 pub extern "C" fn iobufmut_chunk(part: &mut PartAt, out: &mut *mut u8) -> usize
     ensures same { (part.new.at ≡ part.old.at) × (part.new.value ≡ part.old.value) }
@@ -295,7 +299,7 @@ pub extern "C" fn iobufmut_chunk(part: &mut PartAt, out: &mut *mut u8) -> usize
     chunk.len()
 }
 
-/// Puts bytes after those that are readable. `Status::OutOfRange` where they don't fit, and then nothing changes.
+/// Writes bytes after the readable ones. Returns `Status::OutOfRange` if they don't fit; then nothing changes.
 #[unsafe(no_mangle)]
 pub extern "C" fn iobufmut_put_slice(part: &mut PartAt, src: &[u8]) -> u8
     ensures at { part.new.at ≡ part.old.at }
@@ -312,7 +316,7 @@ pub extern "C" fn iobufmut_put_slice(part: &mut PartAt, src: &[u8]) -> u8
     Status::Done.code()
 }
 
-// Whether so many bytes are within the room or the bytes.
+// Whether `n` bytes are within the spare capacity or the bytes.
 pub(crate) fn fits(n: usize, most: usize) -> u8
     ensures { result ≡ (if nat_le n most then 0 else code_of Status.OutOfRange) }
 {
@@ -323,7 +327,7 @@ pub(crate) fn fits(n: usize, most: usize) -> u8
     }
 }
 
-/// Puts a byte `n` times.
+/// Writes a byte `n` times. Returns `Status::OutOfRange` if they don't fit; then nothing changes.
 #[unsafe(no_mangle)]
 pub extern "C" fn iobufmut_put_bytes(part: &mut PartAt, value: u8, n: usize) -> u8
     ensures at { part.new.at ≡ part.old.at }
@@ -340,7 +344,7 @@ pub extern "C" fn iobufmut_put_bytes(part: &mut PartAt, value: u8, n: usize) -> 
     Status::Done.code()
 }
 
-/// Puts one byte.
+/// Writes one byte. Returns `Status::OutOfRange` if it doesn't fit; then nothing changes.
 #[unsafe(no_mangle)]
 pub extern "C" fn iobufmut_put_u8(part: &mut PartAt, n: u8) -> u8
     ensures at { part.new.at ≡ part.old.at }
@@ -357,7 +361,8 @@ pub extern "C" fn iobufmut_put_u8(part: &mut PartAt, n: u8) -> u8
     Status::Done.code()
 }
 
-/// Makes `n` bytes readable; those that were not are zero.
+/// Makes `n` bytes readable; those that were not are zero. Returns `Status::OutOfRange` above the capacity; then nothing
+/// changes.
 #[unsafe(no_mangle)]
 pub extern "C" fn iobufmut_set_len(part: &mut PartAt, n: usize) -> u8
     ensures at { part.new.at ≡ part.old.at }
@@ -385,7 +390,7 @@ pub extern "C" fn iobufmut_truncate(part: &mut PartAt, n: usize)
     }
 }
 
-/// Keeps no byte, and the room of all.
+/// Drops all bytes, and keeps the capacity.
 #[unsafe(no_mangle)]
 pub extern "C" fn iobufmut_clear(part: &mut PartAt)
     ensures at { part.new.at ≡ part.old.at }
@@ -396,7 +401,7 @@ pub extern "C" fn iobufmut_clear(part: &mut PartAt)
     }
 }
 
-/// Drops the first bytes. `Status::OutOfRange` where there are fewer, and then nothing changes.
+/// Drops the first bytes. Returns `Status::OutOfRange` if there are fewer; then nothing changes.
 #[unsafe(no_mangle)]
 pub extern "C" fn iobufmut_advance(part: &mut PartAt, n: usize) -> u8
     ensures at { part.new.at ≡ part.old.at }
@@ -413,7 +418,7 @@ pub extern "C" fn iobufmut_advance(part: &mut PartAt, n: usize) -> u8
     Status::Done.code()
 }
 
-/// Copies the first bytes out, and drops them. `Status::EndOfBuffer` where there are fewer, and then nothing changes.
+/// Copies the first bytes out, and drops them. Returns `Status::EndOfBuffer` if there are fewer; then nothing changes.
 #[unsafe(no_mangle)]
 pub extern "C" fn iobufmut_copy_to_slice(part: &mut PartAt, dst: &mut [u8]) -> u8
     ensures at { part.new.at ≡ part.old.at }
@@ -435,7 +440,7 @@ pub extern "C" fn iobufmut_copy_to_slice(part: &mut PartAt, dst: &mut [u8]) -> u
     Status::Done.code()
 }
 
-/// Writes over the readable bytes from a place on. `Status::OutOfRange` where these are fewer, and then nothing changes.
+/// Overwrites readable bytes from an offset on. Returns `Status::OutOfRange` if there are fewer; then nothing changes.
 #[unsafe(no_mangle)]
 pub extern "C" fn iobufmut_write_at(part: &mut PartAt, at: usize, src: &[u8]) -> u8
     ensures at { part.new.at ≡ part.old.at }
@@ -457,8 +462,8 @@ pub extern "C" fn iobufmut_write_at(part: &mut PartAt, at: usize, src: &[u8]) ->
     Status::Done.code()
 }
 
-/// The bytes as a view; no buffer is left. Where memory is refused (which only a buffer without a shared count asks
-/// for), it is given up, and the view stays.
+/// Freezes the buffer to a view; no buffer is left. Returns `Status::Memory` if an allocation fails (of a buffer without an
+/// `Arc` alone); then the buffer is dropped, and `out` unchanged.
 #[unsafe(no_mangle)]
 pub extern "C" fn iobufmut_freeze(part: &mut PartAt, out: &mut ViewAt) -> u8
     ensures at { (part.new.at ≡ part.old.at) × (out.new.at ≡ out.old.at) }

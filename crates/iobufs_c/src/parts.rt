@@ -1,4 +1,4 @@
-// Parts strung together, at their places.
+// Several writable buffers as one, reached by their handles.
 ghost use Rattle.std.specs.Prelude.{◌≡◌, ◌⊎◌, ◌≤◌, ◌<◌, ◌^◌, ◌==◌, ◌∷◌, [], if◌then◌else◌, List, length, map, take, drop, min, replicate, nat_le, slice_get, Option, Some, None, Ok, IfOk, OnOk, OnErr, true, false, MatchOption};
 ghost use Rattle.std.specs.Borrow.{sem, Lends, full_share};
 ghost use Rattle.std.specs.Option.{option_map};
@@ -20,7 +20,7 @@ use std::alloc::{AllocError, Global};
 use std::marker::{Model, Send};
 use std::{mem, ptr};
 
-/// The place of parts strung together, or of none, in the caller's memory. None reads as one part of capacity 0.
+/// The handle of an `IoBufsMut`, or of none, in the caller's memory. None reads as one buffer of capacity 0.
 #[repr(C)]
 pub struct PartsAt {
     at: *mut u8,
@@ -35,7 +35,7 @@ impl Model for PartsAt {
     ghost also_owns = { λ h. lies_at parts_row full_share h.at h.value };
 }
 
-// Parts may go to another thread, and their place with them (proofs/parts/PartsAt/TheSendSync).
+// Buffers may go to another thread with their handle (proofs/parts/PartsAt/TheSendSync).
 unsafe impl Send for PartsAt {}
 
 impl PartsAt {
@@ -56,7 +56,7 @@ fn none() -> Option<IoBufsMut>
     None
 }
 
-/// How many bytes parts take.
+/// Returns the size of an `IoBufsMut` in bytes.
 #[unsafe(no_mangle)]
 pub extern "C" fn iobufsmut_size() -> usize
     ensures value { result ≡ 184 }
@@ -64,7 +64,7 @@ pub extern "C" fn iobufsmut_size() -> usize
     mem::size_of::<Option<IoBufsMut>>()
 }
 
-/// To what parts are aligned.
+/// Returns the alignment of an `IoBufsMut`.
 #[unsafe(no_mangle)]
 pub extern "C" fn iobufsmut_align() -> usize
     ensures value { result ≡ 8 }
@@ -72,7 +72,7 @@ pub extern "C" fn iobufsmut_align() -> usize
     mem::align_of::<Option<IoBufsMut>>()
 }
 
-/// Makes a place of memory, with no parts.
+/// Makes a handle of memory, without buffers.
 #[unsafe(no_mangle)]
 pub unsafe extern "C" fn iobufsmut_init(at: *mut u8)
     requires* { sem 𝓛 (room_at parts_row at) }
@@ -81,7 +81,7 @@ pub unsafe extern "C" fn iobufsmut_init(at: *mut u8)
     (at as *mut Option<IoBufsMut>).write(none());
 }
 
-/// Gives the parts up; none are left.
+/// Drops the buffers; none are left.
 #[unsafe(no_mangle)]
 pub extern "C" fn iobufsmut_drop(parts: &mut PartsAt)
     ensures at { parts.new.at ≡ parts.old.at }
@@ -90,7 +90,7 @@ pub extern "C" fn iobufsmut_drop(parts: &mut PartsAt)
     *parts.get() = None;
 }
 
-/// The one part of a buffer, which is left empty; where there is none, none are there.
+/// Makes an `IoBufsMut` of one buffer, whose handle is left empty; of none if there is no buffer.
 #[unsafe(no_mangle)]
 pub extern "C" fn iobufsmut_from_mut(part: &mut PartAt, out: &mut PartsAt)
     ensures at { (part.new.at ≡ part.old.at) × (out.new.at ≡ out.old.at) }
@@ -104,7 +104,7 @@ pub extern "C" fn iobufsmut_from_mut(part: &mut PartAt, out: &mut PartsAt)
     *out.get() = Some(IoBufsMut::from(part));
 }
 
-// Takes the buffers of places, in order; none are left there. Where memory is refused, all stay.
+// Takes the buffers of these handles, in order, and leaves the handles empty. If an allocation fails, all stay.
 fn take_row(alloc: Global, places: &mut [PartAt]) -> Result<Vec<IoBufMut>, AllocError>
     ensures ok { IfOk result (λ row. row.items ≡ held_parts (map (λ place. place.value) places.old)) }
     ensures taken { OnOk result (map (λ place. place.value) places.new ≡ replicate (length places.old) None) }
@@ -120,8 +120,8 @@ fn take_row(alloc: Global, places: &mut [PartAt]) -> Result<Vec<IoBufMut>, Alloc
     Ok(row)
 }
 
-/// The buffers of several places, strung together; none are left there. Where the first memory is refused all stay; later
-/// refusals give the buffers up.
+/// Makes an `IoBufsMut` of the buffers of several handles, which are left empty. Returns `Status::TooLong` or
+/// `Status::Memory`; if the first allocation fails, all stay, else the buffers are dropped.
 #[unsafe(no_mangle)]
 pub extern "C" fn iobufsmut_from_parts(
     alloc: Global,
@@ -148,7 +148,7 @@ pub extern "C" fn iobufsmut_from_parts(
     }
 }
 
-/// The number of readable bytes.
+/// Returns the number of readable bytes.
 #[unsafe(no_mangle)]
 pub extern "C" fn iobufsmut_len(parts: &mut PartsAt) -> usize
     ensures same { (parts.new.at ≡ parts.old.at) × (parts.new.value ≡ parts.old.value) }
@@ -160,7 +160,7 @@ pub extern "C" fn iobufsmut_len(parts: &mut PartsAt) -> usize
     }
 }
 
-/// Whether no byte is readable.
+/// Returns whether no byte is readable.
 #[unsafe(no_mangle)]
 pub extern "C" fn iobufsmut_is_empty(parts: &mut PartsAt) -> bool
     ensures same { (parts.new.at ≡ parts.old.at) × (parts.new.value ≡ parts.old.value) }
@@ -172,7 +172,7 @@ pub extern "C" fn iobufsmut_is_empty(parts: &mut PartsAt) -> bool
     }
 }
 
-/// How many bytes fit, counted from the first readable one.
+/// Returns how many bytes fit, counted from the first readable one.
 #[unsafe(no_mangle)]
 pub extern "C" fn iobufsmut_capacity(parts: &mut PartsAt) -> usize
     ensures same { (parts.new.at ≡ parts.old.at) × (parts.new.value ≡ parts.old.value) }
@@ -184,7 +184,7 @@ pub extern "C" fn iobufsmut_capacity(parts: &mut PartsAt) -> usize
     }
 }
 
-/// How many bytes may still be put.
+/// Returns how many bytes may still be written.
 #[unsafe(no_mangle)]
 pub extern "C" fn iobufsmut_remaining_mut(parts: &mut PartsAt) -> usize
     ensures same { (parts.new.at ≡ parts.old.at) × (parts.new.value ≡ parts.old.value) }
@@ -196,7 +196,7 @@ pub extern "C" fn iobufsmut_remaining_mut(parts: &mut PartsAt) -> usize
     }
 }
 
-/// The number of parts.
+/// Returns the number of buffers.
 #[unsafe(no_mangle)]
 pub extern "C" fn iobufsmut_part_count(parts: &mut PartsAt) -> usize
     ensures same { (parts.new.at ≡ parts.old.at) × (parts.new.value ≡ parts.old.value) }
@@ -208,7 +208,7 @@ pub extern "C" fn iobufsmut_part_count(parts: &mut PartsAt) -> usize
     }
 }
 
-/// Whether there is just one part.
+/// Returns whether there is just one buffer.
 #[unsafe(no_mangle)]
 pub extern "C" fn iobufsmut_is_single(parts: &mut PartsAt) -> bool
     ensures same { (parts.new.at ≡ parts.old.at) × (parts.new.value ≡ parts.old.value) }
@@ -220,8 +220,8 @@ pub extern "C" fn iobufsmut_is_single(parts: &mut PartsAt) -> bool
     }
 }
 
-/// Writes where the first piece of the readable bytes lies, if there are any, and answers its length. The parts share it
-/// with nobody, so the caller may write over it there; what is written so, no contract knows.
+/// Writes the address of the first chunk of the readable bytes, if there are any, and returns its length. No other buffer
+/// shares it, so the caller may write there; no contract knows what.
 #[unsafe(no_mangle)]
 pub extern "C" fn iobufsmut_chunk(parts: &mut PartsAt, out: &mut *mut u8) -> usize
     ensures same { (parts.new.at ≡ parts.old.at) × (parts.new.value ≡ parts.old.value) }
@@ -237,8 +237,8 @@ pub extern "C" fn iobufsmut_chunk(parts: &mut PartsAt, out: &mut *mut u8) -> usi
     chunk.len()
 }
 
-/// Writes where the readable bytes of a part lie, if it has some, and its capacity; answers how many these bytes are. 0
-/// where there is no such part.
+/// Writes the address of the readable bytes of a buffer, if it has some, and its capacity; returns how many there are, and 0
+/// if there is no such buffer.
 #[unsafe(no_mangle)]
 pub extern "C" fn iobufsmut_part_at(
     parts: &mut PartsAt,
@@ -265,7 +265,7 @@ pub extern "C" fn iobufsmut_part_at(
     chunk.len()
 }
 
-// Fills a list with where the first pieces of the readable bytes lie, and answers how many it filled.
+// Fills a list with the addresses and lengths of the first chunks of the readable bytes, and returns how many it filled.
 fn fill_chunks(parts: &IoBufsMut, out: &mut [Chunk]) -> usize
     ensures count { result ≡ min (length out.old) (length (parts_chunks parts.now)) }
     ensures lengths { map (λ chunk. chunk.len) (take result out.new) ≡ map length (take result (parts_chunks parts.now)) }
@@ -286,8 +286,7 @@ fn fill_chunks(parts: &IoBufsMut, out: &mut [Chunk]) -> usize
     count
 }
 
-/// Fills a list for `readv` or `writev` with where the first pieces of the readable bytes lie, and answers how many it
-/// filled.
+/// Fills a list for `readv` or `writev` with the first chunks of the readable bytes, and returns how many it filled.
 #[unsafe(no_mangle)]
 pub extern "C" fn iobufsmut_chunks(parts: &mut PartsAt, out: &mut [Chunk]) -> usize
     ensures same { (parts.new.at ≡ parts.old.at) × (parts.new.value ≡ parts.old.value) }
@@ -301,7 +300,7 @@ pub extern "C" fn iobufsmut_chunks(parts: &mut PartsAt, out: &mut [Chunk]) -> us
     }
 }
 
-/// Writes the readable byte at a place, if there is one.
+/// Writes the readable byte at an offset, and returns whether there is one.
 #[unsafe(no_mangle)]
 pub extern "C" fn iobufsmut_byte_at(parts: &mut PartsAt, i: usize, out: &mut u8) -> bool
     ensures same { (parts.new.at ≡ parts.old.at) × (parts.new.value ≡ parts.old.value) }
@@ -318,7 +317,7 @@ pub extern "C" fn iobufsmut_byte_at(parts: &mut PartsAt, i: usize, out: &mut u8)
     true
 }
 
-/// Puts bytes after those that are readable. `Status::OutOfRange` where they don't fit, and then nothing changes.
+/// Writes bytes after the readable ones. Returns `Status::OutOfRange` if they don't fit; then nothing changes.
 #[unsafe(no_mangle)]
 pub extern "C" fn iobufsmut_put_slice(parts: &mut PartsAt, src: &[u8]) -> u8
     ensures at { parts.new.at ≡ parts.old.at }
@@ -335,7 +334,7 @@ pub extern "C" fn iobufsmut_put_slice(parts: &mut PartsAt, src: &[u8]) -> u8
     Status::Done.code()
 }
 
-/// Puts a byte `n` times.
+/// Writes a byte `n` times. Returns `Status::OutOfRange` if they don't fit; then nothing changes.
 #[unsafe(no_mangle)]
 pub extern "C" fn iobufsmut_put_bytes(parts: &mut PartsAt, value: u8, n: usize) -> u8
     ensures at { parts.new.at ≡ parts.old.at }
@@ -352,7 +351,7 @@ pub extern "C" fn iobufsmut_put_bytes(parts: &mut PartsAt, value: u8, n: usize) 
     Status::Done.code()
 }
 
-/// Puts one byte.
+/// Writes one byte. Returns `Status::OutOfRange` if it doesn't fit; then nothing changes.
 #[unsafe(no_mangle)]
 pub extern "C" fn iobufsmut_put_u8(parts: &mut PartsAt, n: u8) -> u8
     ensures at { parts.new.at ≡ parts.old.at }
@@ -369,7 +368,8 @@ pub extern "C" fn iobufsmut_put_u8(parts: &mut PartsAt, n: u8) -> u8
     Status::Done.code()
 }
 
-/// Makes `n` bytes readable; those that were not are zero.
+/// Makes `n` bytes readable; those that were not are zero. Returns `Status::OutOfRange` above the capacity; then nothing
+/// changes.
 #[unsafe(no_mangle)]
 pub extern "C" fn iobufsmut_set_len(parts: &mut PartsAt, n: usize) -> u8
     ensures at { parts.new.at ≡ parts.old.at }
@@ -386,7 +386,7 @@ pub extern "C" fn iobufsmut_set_len(parts: &mut PartsAt, n: usize) -> u8
     Status::Done.code()
 }
 
-/// Drops the first bytes. `Status::OutOfRange` where there are fewer, and then nothing changes.
+/// Drops the first bytes. Returns `Status::OutOfRange` if there are fewer; then nothing changes.
 #[unsafe(no_mangle)]
 pub extern "C" fn iobufsmut_advance(parts: &mut PartsAt, n: usize) -> u8
     ensures at { parts.new.at ≡ parts.old.at }
@@ -403,7 +403,7 @@ pub extern "C" fn iobufsmut_advance(parts: &mut PartsAt, n: usize) -> u8
     Status::Done.code()
 }
 
-/// Copies the first bytes out, and drops them. `Status::EndOfBuffer` where there are fewer, and then nothing changes.
+/// Copies the first bytes out, and drops them. Returns `Status::EndOfBuffer` if there are fewer; then nothing changes.
 #[unsafe(no_mangle)]
 pub extern "C" fn iobufsmut_copy_to_slice(parts: &mut PartsAt, dst: &mut [u8]) -> u8
     ensures at { parts.new.at ≡ parts.old.at }
@@ -425,7 +425,7 @@ pub extern "C" fn iobufsmut_copy_to_slice(parts: &mut PartsAt, dst: &mut [u8]) -
     Status::Done.code()
 }
 
-/// Writes over the readable bytes. `Status::OutOfRange` where there are not just as many, and then nothing changes.
+/// Overwrites the readable bytes. Returns `Status::OutOfRange` if there are not just as many; then nothing changes.
 #[unsafe(no_mangle)]
 pub extern "C" fn iobufsmut_copy_from_slice(parts: &mut PartsAt, src: &[u8]) -> u8
     ensures at { parts.new.at ≡ parts.old.at }
@@ -442,8 +442,8 @@ pub extern "C" fn iobufsmut_copy_from_slice(parts: &mut PartsAt, src: &[u8]) -> 
     Status::Done.code()
 }
 
-/// The parts that hold bytes as the pieces of one text; none are left. Where memory is refused, they are given up, and
-/// the text stays.
+/// Freezes the buffers that hold bytes to the chunks of one `IoBufs`; no buffers are left. Returns `Status::Memory` if an
+/// allocation fails; then they are dropped, and `out` unchanged.
 #[unsafe(no_mangle)]
 pub extern "C" fn iobufsmut_freeze(alloc: Global, parts: &mut PartsAt, out: &mut TextAt) -> u8
     ensures at { (parts.new.at ≡ parts.old.at) × (out.new.at ≡ out.old.at) }
@@ -465,7 +465,8 @@ pub extern "C" fn iobufsmut_freeze(alloc: Global, parts: &mut PartsAt, out: &mut
     }
 }
 
-/// The parts as one buffer, with a copy where there are several; none are left. Where that is refused, they are given up.
+/// Coalesces the buffers into one, with a copy of several; none are left. Returns `Status::BadLayout` or `Status::Memory` if
+/// that fails; then they are dropped, and `out` unchanged.
 #[unsafe(no_mangle)]
 pub extern "C" fn iobufsmut_coalesce(alloc: Global, parts: &mut PartsAt, out: &mut PartAt) -> u8
     ensures at { (parts.new.at ≡ parts.old.at) × (out.new.at ≡ out.old.at) }
@@ -488,7 +489,7 @@ pub extern "C" fn iobufsmut_coalesce(alloc: Global, parts: &mut PartsAt, out: &m
     }
 }
 
-/// The only part as a buffer; none are left. `Status::Declined` where there are more, and then both are as before.
+/// Takes the only buffer out; none are left. Returns `Status::Declined` if there are more; then both are unchanged.
 #[unsafe(no_mangle)]
 pub extern "C" fn iobufsmut_try_into_single(parts: &mut PartsAt, out: &mut PartAt) -> u8
     ensures at { (parts.new.at ≡ parts.old.at) × (out.new.at ≡ out.old.at) }

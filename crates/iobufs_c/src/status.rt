@@ -4,33 +4,33 @@ ghost use Rattle.iobufs_c.specs.Codes.{code_of, of_buf_error, of_error};
 
 use iobufs_core::codec::{BufError, Error};
 
-/// The status that a call returns, as its number in the header's `enum iobufs_status`.
+/// The status that a call returns, as its number in the header's `enum iobufs_code`.
 #[derive(Clone, Copy)]
 pub enum Status {
     /// Done.
     Done,
-    /// A request for memory was refused.
+    /// An allocation failed.
     Memory,
     /// The alignment is no power of two, or the capacity is too large.
     BadLayout,
     /// A sum of lengths or capacities would be too large.
     TooLong,
-    /// A range or a place is outside the bytes, or the bytes outside the room.
+    /// A range or an offset is outside the bytes, or the bytes are more than the spare capacity.
     OutOfRange,
-    /// More bytes are asked for than are left.
+    /// Fewer bytes are left than were asked for.
     EndOfBuffer,
-    /// The bytes spell no length.
+    /// The bytes are no varint.
     InvalidVarint,
     /// The length is outside the range.
     InvalidLength,
-    /// The buffer can't become what was asked for, and stays.
+    /// The buffer can't be converted, and stays.
     Declined,
     /// The kind of a bound is unknown.
     BadKind,
 }
 
 impl Status {
-    /// The number that C gets.
+    /// Returns the number for C.
     pub(crate) fn code(self) -> u8
         ensures { result ≡ code_of self }
     {
@@ -49,7 +49,7 @@ impl Status {
     }
 }
 
-/// The number of a refusal of a buffer.
+/// Returns the number of a buffer's error.
 pub(crate) fn refusal(cause: BufError) -> u8
     ensures { result ≡ code_of (of_buf_error cause) }
 {
@@ -60,7 +60,7 @@ pub(crate) fn refusal(cause: BufError) -> u8
     }
 }
 
-/// The number of an error of reading.
+/// Returns the number of a reader's error.
 pub(crate) fn fault(error: Error) -> u8
     ensures { result ≡ code_of (of_error error) }
 {

@@ -1,4 +1,4 @@
-// Texts in pieces at their places.
+// Bytes in several chunks, reached by their handles.
 ghost use Rattle.std.specs.Prelude.{◌≡◌, ◌+◌, ◌-◌, ◌≤◌, ◌<◌, ◌^◌, ◌==◌, if◌then◌else◌, length, take, drop, map, min, nat_le, slice_get, Ok, Err, Some, None, true, false};
 ghost use Rattle.std.specs.Borrow.{sem, Lends, full_share};
 ghost use Rattle.std.specs.Ptr.{lies_at, room_at};
@@ -21,7 +21,7 @@ use std::alloc::Global;
 use std::marker::{Model, Send};
 use std::{mem, ptr};
 
-/// The place of a text in the caller's memory.
+/// The handle of an `IoBufs` in the caller's memory.
 #[repr(C)]
 pub struct TextAt {
     at: *mut u8,
@@ -36,13 +36,13 @@ impl Model for TextAt {
     ghost also_owns = { λ h. lies_at text_row full_share h.at h.value };
 }
 
-// A text may go to another thread, and its place with it (proofs/text/TextAt/TheSendSync).
+// An `IoBufs` may go to another thread with its handle (proofs/text/TextAt/TheSendSync).
 unsafe impl Send for TextAt {}
 
 impl TextAt {
     ghost use Rattle.iobufs_c.specs.contracts.text.TextAt.{the_row};
 
-    /// The text at the place.
+    /// Borrows the `IoBufs` of the handle.
     pub(crate) fn get(&mut self) -> &mut IoBufs
         ensures* writes_back { sem 𝓛 (Lends the_row text_row self.entry result (λ v. record { at = self.old.at; value = v })) }
         ensures value { result.now ≡ self.old.value }
@@ -57,7 +57,7 @@ fn empty() -> IoBufs
     IoBufs::default()
 }
 
-/// How many bytes a text takes.
+/// Returns the size of an `IoBufs` in bytes.
 #[unsafe(no_mangle)]
 pub extern "C" fn iobufs_size() -> usize
     ensures value { result ≡ 56 }
@@ -65,7 +65,7 @@ pub extern "C" fn iobufs_size() -> usize
     mem::size_of::<IoBufs>()
 }
 
-/// To what a text is aligned.
+/// Returns the alignment of an `IoBufs`.
 #[unsafe(no_mangle)]
 pub extern "C" fn iobufs_align() -> usize
     ensures value { result ≡ 8 }
@@ -73,7 +73,7 @@ pub extern "C" fn iobufs_align() -> usize
     mem::align_of::<IoBufs>()
 }
 
-/// Makes the empty text of memory.
+/// Makes an empty `IoBufs` of memory.
 #[unsafe(no_mangle)]
 pub unsafe extern "C" fn iobufs_init(at: *mut u8)
     requires* { sem 𝓛 (room_at text_row at) }
@@ -82,7 +82,7 @@ pub unsafe extern "C" fn iobufs_init(at: *mut u8)
     (at as *mut IoBufs).write(empty());
 }
 
-/// Gives the text's bytes up; the empty text is left.
+/// Drops the bytes; the empty `IoBufs` is left.
 #[unsafe(no_mangle)]
 pub extern "C" fn iobufs_drop(text: &mut TextAt)
     ensures at { text.new.at ≡ text.old.at }
@@ -91,7 +91,7 @@ pub extern "C" fn iobufs_drop(text: &mut TextAt)
     *text.get() = IoBufs::default();
 }
 
-/// The text of one view, which is left empty.
+/// Makes an `IoBufs` of one view, whose handle is left empty.
 #[unsafe(no_mangle)]
 pub extern "C" fn iobufs_from_view(src: &mut ViewAt, out: &mut TextAt)
     ensures at { (src.new.at ≡ src.old.at) × (out.new.at ≡ out.old.at) }
@@ -102,7 +102,8 @@ pub extern "C" fn iobufs_from_view(src: &mut ViewAt, out: &mut TextAt)
     *out.get() = IoBufs::from(view);
 }
 
-/// The text of a buffer; none is left. Where memory is refused, it is given up, and the text stays.
+/// Makes an `IoBufs` of a writable buffer; none is left. Returns `Status::Memory` if an allocation fails; then the buffer is
+/// dropped, and `out` unchanged.
 #[unsafe(no_mangle)]
 pub extern "C" fn iobufs_from_mut(part: &mut PartAt, out: &mut TextAt) -> u8
     ensures at { (part.new.at ≡ part.old.at) × (out.new.at ≡ out.old.at) }
@@ -124,7 +125,7 @@ pub extern "C" fn iobufs_from_mut(part: &mut PartAt, out: &mut TextAt) -> u8
     }
 }
 
-/// Another text of the same bytes, in their storage.
+/// Clones an `IoBufs`, in the same storage. Returns `Status::Memory` if an allocation fails; then `out` is unchanged.
 #[unsafe(no_mangle)]
 pub extern "C" fn iobufs_clone(text: &mut TextAt, out: &mut TextAt) -> u8
     ensures same { (text.new.at ≡ text.old.at) × (text.new.value ≡ text.old.value) }
@@ -141,7 +142,7 @@ pub extern "C" fn iobufs_clone(text: &mut TextAt, out: &mut TextAt) -> u8
     }
 }
 
-/// The number of bytes.
+/// Returns the number of bytes.
 #[unsafe(no_mangle)]
 pub extern "C" fn iobufs_len(text: &mut TextAt) -> usize
     ensures same { (text.new.at ≡ text.old.at) × (text.new.value ≡ text.old.value) }
@@ -150,7 +151,7 @@ pub extern "C" fn iobufs_len(text: &mut TextAt) -> usize
     text.get().len()
 }
 
-/// Whether there are no bytes.
+/// Returns whether there are no bytes.
 #[unsafe(no_mangle)]
 pub extern "C" fn iobufs_is_empty(text: &mut TextAt) -> bool
     ensures same { (text.new.at ≡ text.old.at) × (text.new.value ≡ text.old.value) }
@@ -159,7 +160,7 @@ pub extern "C" fn iobufs_is_empty(text: &mut TextAt) -> bool
     text.get().is_empty()
 }
 
-/// Whether all bytes are in one piece.
+/// Returns whether all bytes are in one chunk.
 #[unsafe(no_mangle)]
 pub extern "C" fn iobufs_is_single(text: &mut TextAt) -> bool
     ensures same { (text.new.at ≡ text.old.at) × (text.new.value ≡ text.old.value) }
@@ -168,7 +169,7 @@ pub extern "C" fn iobufs_is_single(text: &mut TextAt) -> bool
     text.get().is_single()
 }
 
-/// The number of pieces that hold bytes.
+/// Returns the number of chunks that hold bytes.
 #[unsafe(no_mangle)]
 pub extern "C" fn iobufs_chunk_count(text: &mut TextAt) -> usize
     ensures same { (text.new.at ≡ text.old.at) × (text.new.value ≡ text.old.value) }
@@ -177,7 +178,7 @@ pub extern "C" fn iobufs_chunk_count(text: &mut TextAt) -> usize
     IoBufs::chunk_count(text.get())
 }
 
-/// Writes where the first piece lies, if there are bytes, and answers its length.
+/// Writes the address of the first chunk, if there are bytes, and returns its length.
 #[unsafe(no_mangle)]
 pub extern "C" fn iobufs_chunk(text: &mut TextAt, out: &mut *const u8) -> usize
     ensures same { (text.new.at ≡ text.old.at) × (text.new.value ≡ text.old.value) }
@@ -190,7 +191,7 @@ pub extern "C" fn iobufs_chunk(text: &mut TextAt, out: &mut *const u8) -> usize
     chunk.len()
 }
 
-/// Writes where a piece lies, counted from 0, and answers its length; 0 where there is none.
+/// Writes the address of the chunk of an index, and returns its length; 0 if there is none.
 #[unsafe(no_mangle)]
 pub extern "C" fn iobufs_chunk_at(text: &mut TextAt, i: usize, out: &mut *const u8) -> usize
     ensures same { (text.new.at ≡ text.old.at) × (text.new.value ≡ text.old.value) }
@@ -205,7 +206,7 @@ pub extern "C" fn iobufs_chunk_at(text: &mut TextAt, i: usize, out: &mut *const 
     chunk.len()
 }
 
-/// Writes the byte at a place, if there is one.
+/// Writes the byte at an offset, and returns whether there is one.
 #[unsafe(no_mangle)]
 pub extern "C" fn iobufs_byte_at(text: &mut TextAt, i: usize, out: &mut u8) -> bool
     ensures same { (text.new.at ≡ text.old.at) × (text.new.value ≡ text.old.value) }
@@ -219,7 +220,8 @@ pub extern "C" fn iobufs_byte_at(text: &mut TextAt, i: usize, out: &mut u8) -> b
     true
 }
 
-/// Writes the number of the piece that holds a place, and how many of its bytes stand before the place.
+/// Writes the index of the chunk that contains an offset, and the distance from its start. Returns `Status::OutOfRange` if
+/// the offset is past the bytes; then both are unchanged.
 #[unsafe(no_mangle)]
 pub extern "C" fn iobufs_locate(
     text: &mut TextAt,
@@ -242,7 +244,8 @@ pub extern "C" fn iobufs_locate(
     Status::Done.code()
 }
 
-/// Puts a view after the text, and leaves its place empty. Where that is refused, both are as before.
+/// Appends a view, and leaves its handle empty. Returns `Status::TooLong` or `Status::Memory` if that fails; then both are
+/// unchanged.
 #[unsafe(no_mangle)]
 pub extern "C" fn iobufs_append(alloc: Global, text: &mut TextAt, piece: &mut ViewAt) -> u8
     ensures at { (text.new.at ≡ text.old.at) × (piece.new.at ≡ piece.old.at) }
@@ -263,7 +266,8 @@ pub extern "C" fn iobufs_append(alloc: Global, text: &mut TextAt, piece: &mut Vi
     }
 }
 
-/// Puts a view before the text, and leaves its place empty. Where that is refused, both are as before.
+/// Prepends a view, and leaves its handle empty. Returns `Status::TooLong` or `Status::Memory` if that fails; then both are
+/// unchanged.
 #[unsafe(no_mangle)]
 pub extern "C" fn iobufs_prepend(alloc: Global, text: &mut TextAt, piece: &mut ViewAt) -> u8
     ensures at { (text.new.at ≡ text.old.at) × (piece.new.at ≡ piece.old.at) }
@@ -284,7 +288,8 @@ pub extern "C" fn iobufs_prepend(alloc: Global, text: &mut TextAt, piece: &mut V
     }
 }
 
-/// Takes the first bytes away, as a text.
+/// Splits the first bytes off. Returns `Status::OutOfRange` if there are fewer, or `Status::Memory`; then both are
+/// unchanged.
 #[unsafe(no_mangle)]
 pub extern "C" fn iobufs_split_to(
     alloc: Global,
@@ -313,7 +318,8 @@ pub extern "C" fn iobufs_split_to(
     }
 }
 
-/// Another text of the bytes of a range, in their storage. It clones the range's chunks alone.
+/// Clones the chunks of a range, in their storage. Returns `Status::OutOfRange` if it isn't within the bytes, or
+/// `Status::Memory`; then `out` is unchanged.
 #[unsafe(no_mangle)]
 pub extern "C" fn iobufs_slice(
     alloc: Global,
@@ -343,7 +349,7 @@ pub extern "C" fn iobufs_slice(
     }
 }
 
-/// Drops the first bytes. `Status::OutOfRange` where there are fewer, and then nothing changes.
+/// Drops the first bytes. Returns `Status::OutOfRange` if there are fewer; then nothing changes.
 #[unsafe(no_mangle)]
 pub extern "C" fn iobufs_advance(text: &mut TextAt, n: usize) -> u8
     ensures at { text.new.at ≡ text.old.at }
@@ -358,7 +364,7 @@ pub extern "C" fn iobufs_advance(text: &mut TextAt, n: usize) -> u8
     Status::Done.code()
 }
 
-/// Copies the first bytes out, and drops them. `Status::EndOfBuffer` where there are fewer, and then nothing changes.
+/// Copies the first bytes out, and drops them. Returns `Status::EndOfBuffer` if there are fewer; then nothing changes.
 #[unsafe(no_mangle)]
 pub extern "C" fn iobufs_copy_to_slice(text: &mut TextAt, dst: &mut [u8]) -> u8
     ensures at { text.new.at ≡ text.old.at }
@@ -375,7 +381,8 @@ pub extern "C" fn iobufs_copy_to_slice(text: &mut TextAt, dst: &mut [u8]) -> u8
     Status::Done.code()
 }
 
-/// Takes the first bytes out as one view: in the storage of their piece, or a copy where they span pieces.
+/// Takes the first bytes as one view: in the storage of their chunk, or a copy across chunks. Returns `Status::EndOfBuffer`
+/// if there are fewer, or `Status::Memory`; then both are unchanged.
 #[unsafe(no_mangle)]
 pub extern "C" fn iobufs_take(alloc: Global, text: &mut TextAt, n: usize, out: &mut ViewAt) -> u8
     ensures at { (text.new.at ≡ text.old.at) × (out.new.at ≡ out.old.at) }
@@ -398,7 +405,7 @@ pub extern "C" fn iobufs_take(alloc: Global, text: &mut TextAt, n: usize, out: &
     }
 }
 
-/// Takes the `n` bytes after the first `skip`, which are dropped too.
+/// Takes the `n` bytes after the first `skip`, which are dropped too, as `iobufs_take` does.
 #[unsafe(no_mangle)]
 pub extern "C" fn iobufs_take_after(
     alloc: Global,
@@ -427,8 +434,8 @@ pub extern "C" fn iobufs_take_after(
     }
 }
 
-/// The text as one view, with a copy where there are several pieces; the empty text is left. Where that is refused, the
-/// bytes are given up: clone the text first to keep them.
+/// Coalesces the chunks into one view, with a copy of several, and leaves an empty `IoBufs`. Returns `Status::BadLayout` or
+/// `Status::Memory` if that fails; then the bytes are dropped: clone them first to keep them.
 #[unsafe(no_mangle)]
 pub extern "C" fn iobufs_coalesce(alloc: Global, text: &mut TextAt, out: &mut ViewAt) -> u8
     ensures at { (text.new.at ≡ text.old.at) × (out.new.at ≡ out.old.at) }
@@ -448,8 +455,8 @@ pub extern "C" fn iobufs_coalesce(alloc: Global, text: &mut TextAt, out: &mut Vi
     }
 }
 
-/// The text's only piece as a view; the empty text is left. `Status::Declined` where there are more, and then both are
-/// as before.
+/// Takes the only chunk as a view, and leaves an empty `IoBufs`. Returns `Status::Declined` if there are more; then both are
+/// unchanged.
 #[unsafe(no_mangle)]
 pub extern "C" fn iobufs_try_into_single(text: &mut TextAt, out: &mut ViewAt) -> u8
     ensures at { (text.new.at ≡ text.old.at) × (out.new.at ≡ out.old.at) }
@@ -469,7 +476,7 @@ pub extern "C" fn iobufs_try_into_single(text: &mut TextAt, out: &mut ViewAt) ->
     }
 }
 
-/// Where a piece lies, and its length, as in `struct iovec`.
+/// The address of a chunk and its length, as `struct iovec`.
 #[repr(C)]
 #[derive(Clone, Copy)]
 pub struct Chunk {
@@ -477,7 +484,7 @@ pub struct Chunk {
     pub(crate) len: usize,
 }
 
-// Where bytes lie, and how many they are.
+// The address and the length of bytes.
 pub(crate) fn chunk_of(bytes: &[u8]) -> Chunk
     ensures { result.len ≡ length bytes.now }
 {

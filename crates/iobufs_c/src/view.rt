@@ -1,4 +1,4 @@
-// Views at their places.
+// Views, reached by their handles.
 ghost use Rattle.std.specs.Prelude.{◌≡◌, ◌≤◌, ◌<◌, ◌==◌, if◌then◌else◌, length, take, nat_le, slice_get, Some, None, true, false, IfNone, IfSome};
 ghost use Rattle.std.specs.Borrow.{sem, Lends, full_share};
 ghost use Rattle.std.specs.Ptr.{lies_at, room_at};
@@ -16,7 +16,7 @@ use std::marker::{Model, Send};
 use std::ops::Bound;
 use std::{mem, ptr};
 
-/// The place of a view in the caller's memory.
+/// The handle of a view in the caller's memory.
 #[repr(C)]
 pub struct ViewAt {
     at: *mut u8,
@@ -31,13 +31,13 @@ impl Model for ViewAt {
     ghost also_owns = { λ h. lies_at view_row full_share h.at h.value };
 }
 
-// A view may go to another thread, and its place with it (proofs/view/ViewAt/TheSendSync).
+// A view may go to another thread with its handle (proofs/view/ViewAt/TheSendSync).
 unsafe impl Send for ViewAt {}
 
 impl ViewAt {
     ghost use Rattle.iobufs_c.specs.contracts.view.ViewAt.{the_row};
 
-    /// The view at the place.
+    /// Borrows the view of the handle.
     pub(crate) fn get(&mut self) -> &mut IoBuf
         ensures* writes_back { sem 𝓛 (Lends the_row view_row self.entry result (λ v. record { at = self.old.at; value = v })) }
         ensures value { result.now ≡ self.old.value }
@@ -52,7 +52,7 @@ fn empty() -> IoBuf
     IoBuf::default()
 }
 
-/// How many bytes a view takes.
+/// Returns the size of a view in bytes.
 #[unsafe(no_mangle)]
 pub extern "C" fn iobuf_size() -> usize
     ensures value { result ≡ 48 }
@@ -60,7 +60,7 @@ pub extern "C" fn iobuf_size() -> usize
     mem::size_of::<IoBuf>()
 }
 
-/// To what a view is aligned.
+/// Returns the alignment of a view.
 #[unsafe(no_mangle)]
 pub extern "C" fn iobuf_align() -> usize
     ensures value { result ≡ 8 }
@@ -68,7 +68,7 @@ pub extern "C" fn iobuf_align() -> usize
     mem::align_of::<IoBuf>()
 }
 
-/// Makes the empty view of memory.
+/// Makes an empty view of memory.
 #[unsafe(no_mangle)]
 pub unsafe extern "C" fn iobuf_init(at: *mut u8)
     requires* { sem 𝓛 (room_at view_row at) }
@@ -77,7 +77,7 @@ pub unsafe extern "C" fn iobuf_init(at: *mut u8)
     (at as *mut IoBuf).write(empty());
 }
 
-/// Gives the view's bytes up; the empty view is left.
+/// Drops the bytes; the empty view is left.
 #[unsafe(no_mangle)]
 pub extern "C" fn iobuf_drop(src: &mut ViewAt)
     ensures at { src.new.at ≡ src.old.at }
@@ -86,7 +86,7 @@ pub extern "C" fn iobuf_drop(src: &mut ViewAt)
     *src.get() = IoBuf::default();
 }
 
-/// The number of bytes.
+/// Returns the number of bytes.
 #[unsafe(no_mangle)]
 pub extern "C" fn iobuf_len(src: &mut ViewAt) -> usize
     ensures same { (src.new.at ≡ src.old.at) × (src.new.value ≡ src.old.value) }
@@ -95,7 +95,7 @@ pub extern "C" fn iobuf_len(src: &mut ViewAt) -> usize
     src.get().len()
 }
 
-/// Whether there are no bytes.
+/// Returns whether there are no bytes.
 #[unsafe(no_mangle)]
 pub extern "C" fn iobuf_is_empty(src: &mut ViewAt) -> bool
     ensures same { (src.new.at ≡ src.old.at) × (src.new.value ≡ src.old.value) }
@@ -104,7 +104,7 @@ pub extern "C" fn iobuf_is_empty(src: &mut ViewAt) -> bool
     src.get().is_empty()
 }
 
-/// Writes where the bytes lie, if there are any, and answers how many there are.
+/// Writes the address of the bytes, if there are any, and returns how many there are.
 #[unsafe(no_mangle)]
 pub extern "C" fn iobuf_chunk(src: &mut ViewAt, out: &mut *const u8) -> usize
     ensures same { (src.new.at ≡ src.old.at) × (src.new.value ≡ src.old.value) }
@@ -117,7 +117,7 @@ pub extern "C" fn iobuf_chunk(src: &mut ViewAt, out: &mut *const u8) -> usize
     chunk.len()
 }
 
-/// Writes the byte at a place, if there is one.
+/// Writes the byte at an offset, and returns whether there is one.
 #[unsafe(no_mangle)]
 pub extern "C" fn iobuf_byte_at(src: &mut ViewAt, i: usize, out: &mut u8) -> bool
     ensures same { (src.new.at ≡ src.old.at) × (src.new.value ≡ src.old.value) }
@@ -131,7 +131,7 @@ pub extern "C" fn iobuf_byte_at(src: &mut ViewAt, i: usize, out: &mut u8) -> boo
     true
 }
 
-/// Whether two views hold the same bytes.
+/// Returns whether two views hold the same bytes.
 #[unsafe(no_mangle)]
 pub extern "C" fn iobuf_eq(src: &mut ViewAt, other: &mut ViewAt) -> bool
     ensures same { (src.new.at ≡ src.old.at) × (src.new.value ≡ src.old.value) }
@@ -143,7 +143,7 @@ pub extern "C" fn iobuf_eq(src: &mut ViewAt, other: &mut ViewAt) -> bool
     bytes == others
 }
 
-/// Another view of the same bytes, in their storage.
+/// Clones a view, in the same storage. Returns `Status::Memory` if that fails; then `out` is unchanged.
 #[unsafe(no_mangle)]
 pub extern "C" fn iobuf_clone(src: &mut ViewAt, out: &mut ViewAt) -> u8
     ensures same { (src.new.at ≡ src.old.at) × (src.new.value ≡ src.old.value) }
@@ -160,7 +160,7 @@ pub extern "C" fn iobuf_clone(src: &mut ViewAt, out: &mut ViewAt) -> u8
     }
 }
 
-/// Drops the first bytes. `Status::OutOfRange` where there are fewer, and then the view stays.
+/// Drops the first bytes. Returns `Status::OutOfRange` if there are fewer; then nothing changes.
 #[unsafe(no_mangle)]
 pub extern "C" fn iobuf_advance(src: &mut ViewAt, n: usize) -> u8
     ensures at { src.new.at ≡ src.old.at }
@@ -175,7 +175,8 @@ pub extern "C" fn iobuf_advance(src: &mut ViewAt, n: usize) -> u8
     Status::Done.code()
 }
 
-/// Takes the first bytes away, in the same storage.
+/// Splits the first bytes off, in the same storage. Returns `Status::OutOfRange` if there are fewer, or `Status::Memory`;
+/// then both are unchanged.
 #[unsafe(no_mangle)]
 pub extern "C" fn iobuf_split_to(src: &mut ViewAt, at: usize, out: &mut ViewAt) -> u8
     ensures at { (src.new.at ≡ src.old.at) × (out.new.at ≡ out.old.at) }
@@ -199,7 +200,8 @@ pub extern "C" fn iobuf_split_to(src: &mut ViewAt, at: usize, out: &mut ViewAt) 
     }
 }
 
-/// Takes the first bytes out, as one view that may be kept.
+/// Takes the first bytes as a view of its own. Returns `Status::EndOfBuffer` if there are fewer, or `Status::Memory`; then
+/// both are unchanged.
 #[unsafe(no_mangle)]
 pub extern "C" fn iobuf_take(alloc: Global, src: &mut ViewAt, n: usize, out: &mut ViewAt) -> u8
     ensures at { (src.new.at ≡ src.old.at) × (out.new.at ≡ out.old.at) }
@@ -221,7 +223,7 @@ pub extern "C" fn iobuf_take(alloc: Global, src: &mut ViewAt, n: usize, out: &mu
     }
 }
 
-/// Copies the first bytes out, and drops them. `Status::EndOfBuffer` where there are fewer, and then nothing changes.
+/// Copies the first bytes out, and drops them. Returns `Status::EndOfBuffer` if there are fewer; then nothing changes.
 #[unsafe(no_mangle)]
 pub extern "C" fn iobuf_copy_to_slice(src: &mut ViewAt, dst: &mut [u8]) -> u8
     ensures at { src.new.at ≡ src.old.at }
@@ -238,7 +240,7 @@ pub extern "C" fn iobuf_copy_to_slice(src: &mut ViewAt, dst: &mut [u8]) -> u8
     Status::Done.code()
 }
 
-// A bound, if its kind is known.
+// The bound, if its kind is known.
 fn bound(kind: u8, n: usize) -> Option<Bound<usize>>
     ensures { result ≡ bound_from_c kind n }
 {
@@ -250,7 +252,8 @@ fn bound(kind: u8, n: usize) -> Option<Bound<usize>>
     }
 }
 
-/// Returns the bytes of a range, in the same storage.
+/// Returns the bytes of a range, in the same storage. Returns `Status::BadKind` for an unknown kind of bound,
+/// `Status::OutOfRange` if the range isn't within the bytes, or `Status::Memory`; then `out` is unchanged.
 #[unsafe(no_mangle)]
 pub extern "C" fn iobuf_slice(
     src: &mut ViewAt,
@@ -287,8 +290,8 @@ pub extern "C" fn iobuf_slice(
     }
 }
 
-/// A view of bytes that live, unchanged, until the last buffer made of them is dropped. The contract takes them for static: only
-/// buffers made of them have their address, so nothing reads them after that.
+/// Makes a view of bytes that live, unchanged, until the last buffer made of them is dropped. The contract takes them for
+/// static: only buffers made of them have their address, so nothing reads them after that.
 #[unsafe(no_mangle)]
 pub extern "C" fn iobuf_from_static(text: &'static [u8], out: &mut ViewAt)
     ensures at { out.new.at ≡ out.old.at }
@@ -297,7 +300,7 @@ pub extern "C" fn iobuf_from_static(text: &'static [u8], out: &mut ViewAt)
     *out.get() = IoBuf::from(text);
 }
 
-/// A copy of bytes.
+/// Copies bytes into a view. Returns `Status::Memory` if an allocation fails; then `out` is unchanged.
 #[unsafe(no_mangle)]
 pub extern "C" fn iobuf_copy_from_slice(alloc: Global, src: &[u8], out: &mut ViewAt) -> u8
     ensures at { out.new.at ≡ out.old.at }

@@ -25,7 +25,7 @@ impl Draw {
         let mut word = [0u8; 64];
         let len = rt.var("DRAW", &mut word).unwrap_or(0);
         let mut state = 1u64;
-        for byte in &word[..len.min(64)] {
+        for byte in word.get(..len).unwrap_or_default() {
             state = (state ^ u64::from(*byte)).wrapping_mul(1099511628211);
         }
         Draw { state }
@@ -43,7 +43,7 @@ impl Draw {
 
     // A number from 1 to a limit, of a drawn scale.
     fn size(&mut self, limit: usize) -> usize {
-        let scale = SCALES[self.below(9)];
+        let scale = SCALES.get(self.below(SCALES.len())).copied().unwrap_or(1);
         self.below(scale.min(limit)).saturating_add(1)
     }
 
