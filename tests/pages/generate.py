@@ -35,9 +35,13 @@ SHORT = [
     (r"length (\w+)\.(?:now|old)", r"\1.len"),
     (r"(?:self|to)\.old\.rest\.bytes ≡ \[\]", "is_sent"),
     (r"n < prefix_limit self", "fits(n)"),
+    (r"E\.probed ends\.old ≡ 0", "no probe was counted before"),
+    (r"I\.can_next \w+", "the iterator can go on"),
+    (r"IsFinite \(.*\)$", "the iterator ends"),
     (r" ≡ ", " == "),
     (r"≤", "<="),
 ]
+WORDED = {words for _, words in SHORT if words.count(" ") > 1}
 # When a call cannot fail: the condition of a clause that ends in `IsOk result`.
 SURE = [
     (r"text_len self\.old ≡ 0|length self\.old\.bytes ≡ 0", "empty target"),
@@ -61,9 +65,10 @@ SURE = [
 
 
 def short(condition):
+    """A condition in code font, or in words if a row of SHORT has it whole."""
     for pattern, words in SHORT:
         condition = re.sub(pattern, words, condition)
-    return condition
+    return condition if condition in WORDED else f"`{condition}`"
 
 
 def sure(declared):
@@ -112,7 +117,7 @@ def calls(files):
         for comment, name, declared in declarations((CRATES / file).read_text()):
             names = re.match(r"\w+(?:<.*?>)?\((.*?)\)\s*(?:->|\n|\{|;)", declared, flags=re.S)
             takes = [it.split(":")[0].replace("mut ", "").strip() for it in (names[1] if names else "").split(",") if ":" in it and "self" not in it]
-            conditions = [f"`{short(' '.join(it.split()))}`" for it in re.findall(r"requires(?: \w+)? \{(.*?)\}\n", declared, flags=re.S)]
+            conditions = [short(" ".join(it.split())) for it in re.findall(r"requires(?: \w+)? \{(.*?)\}\n", declared, flags=re.S)]
             row = (f"{name}({', '.join(takes)})", does(comment), ", ".join(conditions), errors(declared, comment), sure(declared), original(comment))
             if any(row[2:5]) or "alloc" in takes:
                 rows.setdefault(name if name not in rows or rows[name] == row else f"{name}{len(rows)}", row)
