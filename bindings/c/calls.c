@@ -172,7 +172,7 @@ static void put_behind(struct iobufs_at *text, const char *piece) {
 }
 
 static void texts(void) {
-    TEXT(t); TEXT(u); VIEW(v); PART(p);
+    TEXT(t); TEXT(u); TEXT(x); VIEW(v); PART(p);
     const uint8_t *at = NULL;
     uint8_t byte;
     CHECK(iobufs_is_empty(&t) && iobufs_is_single(&t) && iobufs_chunk_count(&t) == 0 && iobufs_chunk(&t, &at) == 0);
@@ -199,6 +199,17 @@ static void texts(void) {
     OK(iobufs_slice(&t, 9, 15, &u));
     CHECK(text_is(&u, "ldabcd") && iobufs_chunk_count(&u) == 3 && iobufs_len(&t) == 20);
     CHECK(iobufs_slice(&t, 3, 21, &u) == IOBUFS_OUT_OF_RANGE && iobufs_slice(&t, 3, 2, &u) == IOBUFS_OUT_OF_RANGE && text_is(&u, "ldabcd"));
+    OK(iobufs_truncate(&u, 6));
+    OK(iobufs_truncate(&u, SIZE_MAX));
+    CHECK(text_is(&u, "ldabcd") && !iobufs_eq(&t, &u) && iobufs_eq(&u, &u));
+    OK(iobufs_truncate(&u, 3));
+    CHECK(text_is(&u, "lda") && iobufs_chunk_count(&u) == 2);
+    OK(iobufs_slice(&t, 9, 12, &u));
+    OK(iobufs_clone(&t, &x));
+    OK(iobufs_truncate(&x, 12));
+    CHECK(iobufs_advance(&x, 9) == IOBUFS_OK && iobufs_eq(&u, &x) && iobufs_eq(&x, &u));
+    OK(iobufs_truncate(&x, 0));
+    CHECK(text_is(&x, "") && !iobufs_eq(&u, &x));
     OK(iobufs_slice(&t, 20, 20, &u));
     CHECK(text_is(&u, "") && text_is(&t, "hello worldabcdefghi"));
     OK(iobufs_split_to(&t, 12, &u));
@@ -229,7 +240,7 @@ static void texts(void) {
     CHECK(text_is(&t, "xyz") && iobufmut_capacity(&p) == 0);
     OK(iobufs_from_mut(&p, &t));
     CHECK(text_is(&t, ""));
-    iobufs_drop(&t); iobufs_drop(&t); iobufs_drop(&u); iobuf_drop(&v); iobufmut_drop(&p);
+    iobufs_drop(&t); iobufs_drop(&t); iobufs_drop(&u); iobufs_drop(&x); iobuf_drop(&v); iobufmut_drop(&p);
 }
 
 static void parts(void) {

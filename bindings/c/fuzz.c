@@ -345,7 +345,7 @@ static void text_call(int i, int j, int k) {
     size_t len = text_len(t), n = about(len), m;
     uint8_t byte;
     int full = t->count > 12 || len + v->len > MOST;
-    switch (full ? 4 + below(11) : below(15)) {
+    switch (full ? 4 + below(13) : below(17)) {
     case 0: OK(iobufs_append(at, &view_at[k])); push(t, v); *v = no_bytes; break;
     case 1:
         OK(iobufs_prepend(at, &view_at[k]));
@@ -405,6 +405,14 @@ static void text_call(int i, int j, int k) {
         m = about(len);
         if (n > m || m > len) { CHECK(iobufs_slice(at, n, m, to) == IOBUFS_OUT_OF_RANGE); break; }
         OK(iobufs_slice(at, n, m, to)); drop_text(out); *out = sliced(t, n, m); break;
+    case 15:
+        if (n < len) { struct text kept = sliced(t, 0, n); drop_text(t); *t = kept; }
+        OK(iobufs_truncate(at, n)); break;
+    case 16: {
+        uint8_t ours[PIECES * MOST], theirs[PIECES * MOST];
+        bytes_of(t, ours), bytes_of(out, theirs);
+        CHECK(iobufs_eq(at, to) == (len == text_len(out) && !memcmp(ours, theirs, len))); break;
+    }
     }
     same_text(i); same_text(j); same_view(k);
 }

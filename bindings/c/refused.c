@@ -60,6 +60,7 @@ static iobufs_status append(struct made *m) { return iobufs_append(&m->text, &m-
 static iobufs_status prepend(struct made *m) { return iobufs_prepend(&m->text, &m->view); }
 static iobufs_status text_split(struct made *m) { return iobufs_split_to(&m->text, 4, &m->out_text); }
 static iobufs_status text_slice(struct made *m) { return iobufs_slice(&m->text, 1, 5, &m->out_text); }
+static iobufs_status text_truncate(struct made *m) { return iobufs_truncate(&m->text, 5); }
 static iobufs_status text_take(struct made *m) { return iobufs_take(&m->text, 5, &m->out_view); }
 static iobufs_status text_take_after(struct made *m) { return iobufs_take_after(&m->text, 1, 5, &m->out_view); }
 static iobufs_status coalesce(struct made *m) { return iobufs_coalesce(&m->text, &m->out_view); }
@@ -101,7 +102,7 @@ static const struct { const char *name; run *call; kept *stays; } cases[] = {
     { "from_view", from_view, shared_stays }, { "freeze", freeze, given_up }, { "clone", clone, view_stays },
     { "split_to", split, view_stays }, { "take", take, view_stays }, { "slice", slice, view_stays },
     { "text clone", text_clone, text_stays }, { "append", append, text_stays }, { "prepend", prepend, text_stays },
-    { "text split_to", text_split, text_stays }, { "text slice", text_slice, text_stays }, { "text take", text_take, text_stays },
+    { "text split_to", text_split, text_stays }, { "text slice", text_slice, text_stays }, { "text truncate", text_truncate, text_stays }, { "text take", text_take, text_stays },
     { "text take_after", text_take_after, text_stays }, { "coalesce", coalesce, given_up },
     { "from_mut", text_from_mut, given_up }, { "parts freeze", parts_freeze, given_up },
     { "parts coalesce", parts_coalesce, given_up }, { "from_parts", from_parts, given_up },

@@ -259,6 +259,8 @@ IOBUFS_CHECKED iobufs_status iobufs_clone(const struct iobufs_at *text, struct i
 size_t iobufs_len(const struct iobufs_at *text);
 /* Whether there are none. (IoBufs::is_empty) */
 bool iobufs_is_empty(const struct iobufs_at *text);
+/* Whether both hold the same bytes, for every chunking. (==) */
+bool iobufs_eq(const struct iobufs_at *text, const struct iobufs_at *other);
 /* Whether all bytes are in one chunk. (is_single) */
 bool iobufs_is_single(const struct iobufs_at *text);
 /* The number of chunks that hold bytes. (chunk_count) */
@@ -290,6 +292,8 @@ IOBUFS_CHECKED iobufs_status iobufs_split_to(struct iobufs_at *text, size_t at, 
 IOBUFS_CHECKED iobufs_status iobufs_slice(const struct iobufs_at *text, size_t lo, size_t hi, struct iobufs_at *out);
 /* Drops the first n bytes; IOBUFS_OUT_OF_RANGE if there are fewer. No memory. (Buf::advance) */
 IOBUFS_CHECKED iobufs_status iobufs_advance(struct iobufs_at *text, size_t n);
+/* Keeps at most the first n bytes; memory, unless n is 0 or there are no more. After an error nothing has changed. (own) */
+IOBUFS_CHECKED iobufs_status iobufs_truncate(struct iobufs_at *text, size_t n);
 /* Copies the first n bytes out and drops them; IOBUFS_END_OF_BUFFER if there are fewer. (Buf::copy_to_slice) */
 IOBUFS_CHECKED iobufs_status iobufs_copy_to_slice(struct iobufs_at *text, uint8_t *dst, size_t n);
 /* Takes the first n bytes as one view: shared within a chunk, a copy (memory) across chunks; IOBUFS_END_OF_BUFFER

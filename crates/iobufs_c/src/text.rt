@@ -125,6 +125,17 @@ pub extern "C" fn iobufs_from_mut(part: &mut PartAt, out: &mut TextAt) -> u8
     }
 }
 
+/// Returns whether two `IoBufs` hold the same bytes, for every chunking.
+#[unsafe(no_mangle)]
+pub extern "C" fn iobufs_eq(text: &mut TextAt, other: &mut TextAt) -> bool
+    ensures same { (text.new.at ≡ text.old.at) × (text.new.value ≡ text.old.value) }
+    ensures other { (other.new.at ≡ other.old.at) × (other.new.value ≡ other.old.value) }
+    ensures yes { result ≡ true → text.old.value.bytes ≡ other.old.value.bytes }
+    ensures no { text.old.value.bytes ≡ other.old.value.bytes → result ≡ true }
+{
+    text.get() == other.get()
+}
+
 /// Clones an `IoBufs`, in the same storage. Returns `Status::Memory` if an allocation fails; then `out` is unchanged.
 #[unsafe(no_mangle)]
 pub extern "C" fn iobufs_clone(text: &mut TextAt, out: &mut TextAt) -> u8
@@ -345,6 +356,22 @@ pub extern "C" fn iobufs_slice(
             *out.get() = slice;
             Status::Done.code()
         }
+        Err(_) => Status::Memory.code(),
+    }
+}
+
+/// Keeps at most the first `len` bytes. Returns `Status::Memory` if an allocation fails; then nothing changes.
+#[unsafe(no_mangle)]
+pub extern "C" fn iobufs_truncate(alloc: Global, text: &mut TextAt, len: usize) -> u8
+    ensures at { text.new.at ≡ text.old.at }
+    ensures kept { result ≡ 0 → len < text_len text.old.value → text.new.value ≡ text_split_front text.old.value len }
+    ensures longer { text_len text.old.value ≤ len → (text.new.value ≡ text.old.value) × (result ≡ 0) }
+    ensures unchanged { (result ≡ 0 → ⊥) → text.new.value ≡ text.old.value }
+    ensures memory { IsDoneUnless result Status.Memory }
+    ensures nothing { len ≡ 0 → result ≡ 0 }
+{
+    match text.get().truncate(alloc, len) {
+        Ok(()) => Status::Done.code(),
         Err(_) => Status::Memory.code(),
     }
 }
