@@ -18,6 +18,10 @@ use Rattle.iobufs_frames.specs.declared.lengths.Prefix.{Prefix}
 pub seen_later : (prefix : Prefix) (bytes more : List ℕ) (n k : ℕ) → IsSeenAt prefix bytes n k → IsSeenAt prefix (bytes ++ more) n k
 seen_later prefix bytes more n k (at, long, within) = (length-later prefix bytes more n at, long, omega (arith, within, length-append bytes more))
 
+-- bytes that begin with others are these and the rest
+pub grown : (old new : List ℕ) → take (length old) new ≡ old → new ≡ old ++ drop (length old) new
+grown old new front = sym (take-append-drop (length old) new) ∙ ap (λ w. w ++ drop (length old) new) front
+
 -- it stays where a read appends bytes, or fails
 pub seen_read : {E : Type 0} (prefix : Prefix) (old new : Filled) (n k : ℕ) (P : List ℕ → Type 0) (Q : Type 0) (result : Result ℕ E)
     → IfOk result (λ count. (more : List ℕ) × (length more ≡ count) × (new.items ≡ old.items ++ more) × P more) → OnErr result ((new ≡ old) × Q)

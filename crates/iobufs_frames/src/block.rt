@@ -4,6 +4,7 @@ ghost use Rattle.std.specs.Io.KnownBytes.{Consumes, IsAtEnd, Keeps};
 ghost use Rattle.iobufs_core.specs.View.{view_of_bytes};
 ghost use Rattle.iobufs_frames.specs.Frames.{HasFrame, IsNext};
 ghost use Rattle.iobufs_frames.specs.Prefixes.{HasNoLengthAt, IsOpenAt, IsSeenAt};
+ghost use Rattle.iobufs_frames.specs.Receiving.{HasReceived, none_received};
 
 use crate::lengths::{Length, Prefix, frame_size};
 use crate::shown::Shown;
@@ -13,6 +14,7 @@ use iobufs_core::codec::{Error, RangeCfg};
 use std::alloc::{AllocError, Global};
 use std::io::{self, Read};
 use std::marker::Model;
+use std::ptr;
 
 // How large the first block is, and how large one is at most, unless a single frame needs more.
 const FIRST: usize = 1 << 12;
@@ -69,7 +71,7 @@ fn widen(block: &mut BytesMut, whole: usize, size: usize) -> Result<(), AllocErr
 impl Received {
     /// Makes an empty one, of frames whose lengths are written as `prefix`. It allocates nothing.
     pub fn new(alloc: Global, prefix: Prefix) -> Received
-        ensures { result ≡ record { prefix = prefix; bytes = []; space = 0 } }
+        ensures { result ≡ none_received prefix }
     {
         Received {
             prefix,
@@ -84,6 +86,13 @@ impl Received {
         ensures { result ≡ length self.now.bytes }
     {
         self.block.len()
+    }
+
+    /// Returns how many bytes the space has.
+    pub fn space(&self) -> usize
+        ensures { result ≡ self.now.space }
+    {
+        self.block.capacity() - self.block.len()
     }
 
     // The length at the front, if all its bytes are there.
@@ -197,6 +206,30 @@ impl Received {
         widen(&mut self.block, self.whole, size)?;
         self.whole = self.block.capacity();
         Ok(())
+    }
+
+    /// Writes the address of the space, if there is any, and returns how many bytes it has. They are zeros, or what the
+    /// block held before. No contract says what is written there.
+    pub fn lend_space(&mut self, at: &mut *mut u8) -> usize
+        ensures same { self.new ≡ self.old }
+        ensures space { result ≡ self.old.space }
+    {
+        let (len, space) = (self.len(), self.space());
+        if space == 0 {
+            return 0;
+        }
+        self.block.advance_mut(space);
+        *at = ptr::from_ref(&self.block.as_slice()[len]) as *mut u8;
+        self.block.truncate(len);
+        space
+    }
+
+    /// Counts the first `n` bytes of the space as received.
+    pub fn fill(&mut self, n: usize)
+        requires { n ≤ self.old.space }
+        ensures { HasReceived n self.old self.new }
+    {
+        self.block.advance_mut(n);
     }
 
     /// Reads once, into the space.
