@@ -10,6 +10,7 @@ static void sizes(void) {
     CHECK(iobufsmut_size() == sizeof(struct iobufsmut) && iobufsmut_align() == IOBUFS_ALIGN);
     CHECK(iobufs_builder_size() == sizeof(struct iobufs_builder) && iobufs_builder_align() == IOBUFS_ALIGN);
     CHECK(iobufs_frames_size() == sizeof(struct iobufs_frames) && iobufs_frames_align() == IOBUFS_ALIGN);
+    CHECK(iobufs_received_size() == sizeof(struct iobufs_received) && iobufs_received_align() == IOBUFS_ALIGN);
 }
 
 static void views(void) {
@@ -412,6 +413,42 @@ static void frames(void) {
     CHECK(iobufs_frames_len(&f) == 0);
 }
 
+/* What no contract says of the space: where it is, and that what is written there is received. */
+static void received(void) {
+    RECEIVED(r); VIEW(v); VIEW(w);
+    uint8_t *at = NULL, *again = NULL;
+    size_t n = 7, more = 0, wrong = 0;
+    CHECK(iobufs_frames_space(&r, &at, &n) == IOBUFS_DECLINED && at == NULL && n == 7 && iobufs_received_len(&r) == 0);
+    CHECK(iobufs_frames_filled(&r, 1) == IOBUFS_OUT_OF_RANGE && iobufs_received_next(&r, 0, 9, &v, &wrong) == IOBUFS_END_OF_BUFFER);
+    OK(iobufs_frames_filled(&r, 0));
+    CHECK(iobufs_received_new(10, &r) == IOBUFS_BAD_KIND && iobufs_frames_space(&r, &at, &n) == IOBUFS_DECLINED);
+    OK(iobufs_received_new(IOBUFS_VARINT, &r));
+    CHECK(iobufs_frames_filled(&r, 1) == IOBUFS_OUT_OF_RANGE);
+    OK(iobufs_frames_space(&r, &at, &n));
+    CHECK(n >= 12 && at[0] == 0 && at[n - 1] == 0 && iobufs_received_len(&r) == 0);
+    memcpy(at, "\5helloX", 7);
+    CHECK(iobufs_frames_filled(&r, n + 1) == IOBUFS_OUT_OF_RANGE && iobufs_frames_filled(&r, SIZE_MAX) == IOBUFS_OUT_OF_RANGE);
+    CHECK(iobufs_received_len(&r) == 0);
+    OK(iobufs_frames_filled(&r, 4));
+    CHECK(iobufs_received_len(&r) == 4 && iobufs_received_next(&r, 0, 9, &v, &wrong) == IOBUFS_END_OF_BUFFER);
+    CHECK(iobufs_received_next(&r, 0, 4, &v, &wrong) == IOBUFS_INVALID_LENGTH && wrong == 5 && iobufs_received_len(&r) == 4);
+    OK(iobufs_frames_space(&r, &again, &more));
+    CHECK(again == at + 4 && more == n - 4);
+    OK(iobufs_frames_filled(&r, 2));
+    OK(iobufs_received_next(&r, 5, 5, &v, &wrong));
+    const uint8_t *body = NULL;
+    CHECK(view_is(&v, "hello") && iobuf_chunk(&v, &body) == 5 && body == at + 1 && iobufs_received_len(&r) == 0);
+    receive(&r, "\0\2hi\x80\0", 6);
+    OK(iobufs_received_next(&r, 0, 9, &w, &wrong));
+    CHECK(view_is(&w, ""));
+    OK(iobufs_received_next(&r, 0, 9, &w, &wrong));
+    CHECK(view_is(&w, "hi") && view_is(&v, "hello"));
+    CHECK(iobufs_received_next(&r, 0, 9, &w, &wrong) == IOBUFS_INVALID_VARINT && iobufs_received_len(&r) == 2 && view_is(&w, "hi"));
+    iobufs_received_drop(&r); iobufs_received_drop(&r);
+    CHECK(iobufs_received_len(&r) == 0 && view_is(&v, "hello"));
+    iobuf_drop(&v); iobuf_drop(&w);
+}
+
 /* A frame of each prefix: `abc` behind its length, and a length outside the range. */
 static void prefixes(void) {
     static const struct { uint8_t prefix; const char *bytes; size_t n; } cases[] = {
@@ -420,9 +457,17 @@ static void prefixes(void) {
         { IOBUFS_U64_LE, "\3\0\0\0\0\0\0\0abc", 11 }, { IOBUFS_U8, "\3abc", 4 }, { IOBUFS_U24_BE, "\0\0\3abc", 6 },
         { IOBUFS_U24_LE, "\3\0\0abc", 6 },
     };
-    FRAMES(f); VIEW(v);
-    size_t wrong = 0;
+    FRAMES(f); RECEIVED(r); VIEW(v);
+    size_t wrong = 0, n = 99;
+    uint8_t head[10];
     for (size_t i = 0; i < sizeof cases / sizeof *cases; i++, wrong = 0) {
+        OK(iobufs_frames_head(cases[i].prefix, 3, head, sizeof head, &n));
+        CHECK(n == cases[i].n - 3 && !memcmp(head, cases[i].bytes, n));
+        CHECK(iobufs_frames_head(cases[i].prefix, 4, head, n - 1, &wrong) == IOBUFS_OUT_OF_RANGE && !memcmp(head, cases[i].bytes, n) && wrong == 0);
+        OK(iobufs_received_new(cases[i].prefix, &r));
+        receive(&r, cases[i].bytes, cases[i].n);
+        OK(iobufs_received_next(&r, 0, 3, &v, &wrong));
+        CHECK(view_is(&v, "abc") && iobufs_received_len(&r) == 0);
         OK(iobufs_frames_set_prefix(&f, cases[i].prefix));
         OK(iobuf_copy_from_slice(bytes(cases[i].bytes), cases[i].n, &v));
         OK(iobufs_frames_feed(&f, &v));
@@ -431,7 +476,12 @@ static void prefixes(void) {
         CHECK(view_is(&v, "abc") && iobufs_frames_len(&f) == 0);
     }
     CHECK(iobufs_frames_set_prefix(&f, 10) == IOBUFS_BAD_KIND && iobufs_frames_set_prefix(&f, 255) == IOBUFS_BAD_KIND);
-    iobufs_frames_drop(&f); iobuf_drop(&v);
+    CHECK(iobufs_frames_head(10, 0, head, sizeof head, &n) == IOBUFS_BAD_KIND && iobufs_received_new(255, &r) == IOBUFS_BAD_KIND);
+    CHECK(iobufs_frames_head(IOBUFS_U8, 256, head, sizeof head, &n) == IOBUFS_TOO_LONG);
+    CHECK(iobufs_frames_head(IOBUFS_U24_LE, 1 << 24, head, sizeof head, &n) == IOBUFS_TOO_LONG);
+    OK(iobufs_frames_head(IOBUFS_VARINT, SIZE_MAX, head, sizeof head, &n));
+    CHECK(n == 10 && head[9] == 1);
+    iobufs_frames_drop(&f); iobufs_received_drop(&r); iobuf_drop(&v);
 }
 
 static void statuses(void) {
@@ -440,7 +490,7 @@ static void statuses(void) {
 }
 
 int main(void) {
-    sizes(); views(); lent(); moved(); buffers(); texts(); parts(); builders(); lengths(); numbers(); frames(); prefixes();
-    statuses();
+    sizes(); views(); lent(); moved(); buffers(); texts(); parts(); builders(); lengths(); numbers(); frames(); received();
+    prefixes(); statuses();
     return 0;
 }

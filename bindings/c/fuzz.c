@@ -164,6 +164,8 @@ static struct text texts[TEXTS]; static struct iobufs text_memory[TEXTS]; static
 static struct row rows[ROWS]; static struct iobufsmut row_memory[ROWS]; static struct iobufsmut_at row_at[ROWS];
 static struct builder builder; static struct iobufs_builder builder_memory; static struct iobufs_builder_at builder_at;
 static struct text frames; static struct iobufs_frames frames_memory; static struct iobufs_frames_at frames_at;
+static uint8_t came[2 * MOST]; static size_t came_len; static struct iobufs_received received_memory; static struct iobufs_received_at received_at;
+static struct { uint8_t bytes[40]; size_t len; } kept[VIEWS]; static struct iobuf kept_memory[VIEWS]; static struct iobuf_at kept_at[VIEWS];
 static uint8_t fixed[MOST];
 
 static uint64_t state = 47;
@@ -539,13 +541,31 @@ static void builder_call(int j, int k) {
     same_view(k);
 }
 
-/* Frames are fed with bodies below 30 bytes behind their length, cut anywhere. */
+/* What taking the first frame answers, of a body up to 40 bytes; of a whole one, where its body is. */
+static iobufs_status front_of(const uint8_t *all, size_t len, size_t *at, size_t *body) {
+    size_t i = 0, shift = 0, n = 0;
+    while (i < len && i < 9 && all[i] >= 128) { n += (size_t)(all[i] & 127) << shift; shift += 7; i++; }
+    if (i == len) return IOBUFS_END_OF_BUFFER;
+    if ((i == 9 && all[9] != 1) || (i && all[i] == 0)) return IOBUFS_INVALID_VARINT;
+    if ((n += (size_t)all[i] << shift) > 40) return IOBUFS_INVALID_LENGTH;
+    *at = i + 1; *body = n;
+    return len - i - 1 < n ? IOBUFS_END_OF_BUFFER : IOBUFS_OK;
+}
+
+/* Fills `some` with a frame of a body below 30 bytes, and answers where it is cut. */
+static size_t any_front(void) {
+    size_t n = below(30);
+    any_bytes(n + 1); some[0] = (uint8_t)n;
+    return below(n + 2);
+}
+
+/* Frames are fed with the fronts of frames. */
 static void frames_call(int k) {
-    size_t len = text_len(&frames), n;
+    size_t len = text_len(&frames), n, at, body;
     uint8_t all[PIECES * MOST];
     struct view *v = &views[k];
     if (below(2) && frames.count < 20) {
-        n = below(30); any_bytes(n + 1); some[0] = (uint8_t)n; n = below(n + 2);
+        n = any_front();
         OK(iobuf_copy_from_slice(some, n, &view_at[k])); let_go(v);
         OK(iobufs_frames_feed(&frames_at, &view_at[k]));
         *v = copied(some, n); push(&frames, v); *v = no_bytes; same_view(k);
@@ -555,19 +575,44 @@ static void frames_call(int k) {
     bytes_of(&frames, all);
     size_t wrong;
     iobufs_status status = iobufs_frames_next(&frames_at, 0, 40, &view_at[k], &wrong);
-    size_t i = 0, shift = 0, body = 0;
-    while (i < len && i < 9 && all[i] >= 128) { body += (size_t)(all[i] & 127) << shift; shift += 7; i++; }
-    if (i == len) { CHECK(status == IOBUFS_END_OF_BUFFER); return; }
-    if ((i == 9 && all[9] != 1) || (i && all[i] == 0)) CHECK(status == IOBUFS_INVALID_VARINT);
-    else if ((body += (size_t)all[i] << shift) > 40) CHECK(status == IOBUFS_INVALID_LENGTH);
-    else if (len - i - 1 < body) { CHECK(status == IOBUFS_END_OF_BUFFER); return; }
-    else {
-        CHECK(status == IOBUFS_OK); let_go(v);
-        *v = taken(&frames, i + 1, body); text_rest(&frames, i + 1 + body); same_view(k);
+    CHECK(status == front_of(all, len, &at, &body));
+    if (status == IOBUFS_END_OF_BUFFER) return;
+    if (status == IOBUFS_OK) {
+        let_go(v);
+        *v = taken(&frames, at, body); text_rest(&frames, at + body); same_view(k);
         CHECK(iobufs_frames_len(&frames_at) == text_len(&frames));
         return;
     }
     iobufs_frames_drop(&frames_at); drop_text(&frames);
+}
+
+/* The fronts of frames are received, and bodies stay as they are while more is. */
+static void received_call(int k) {
+    size_t n, space, wrong, body;
+    uint8_t *to;
+    const uint8_t *at;
+    if (below(2) && came_len < MOST) {
+        OK(iobufs_frames_space(&received_at, &to, &space));
+        n = any_front();
+        if (n > space) n = space;
+        CHECK(space > 0 && iobufs_frames_filled(&received_at, space + 1 + below(9)) == IOBUFS_OUT_OF_RANGE);
+        memcpy(to, some, n); memcpy(came + came_len, some, n);
+        OK(iobufs_frames_filled(&received_at, n));
+        came_len += n;
+    } else {
+        iobufs_status status = iobufs_received_next(&received_at, 0, 40, &kept_at[k], &wrong);
+        CHECK(status == front_of(came, came_len, &n, &body));
+        if (status == IOBUFS_OK) {
+            memcpy(kept[k].bytes, came + n, kept[k].len = body);
+            memmove(came, came + n + body, came_len -= n + body);
+        } else if (status != IOBUFS_END_OF_BUFFER) {
+            OK(iobufs_received_new(IOBUFS_VARINT, &received_at));
+            came_len = 0;
+        }
+    }
+    k = (int)below(VIEWS);
+    CHECK(iobuf_chunk(&kept_at[k], &at) == kept[k].len && (kept[k].len == 0 || !memcmp(at, kept[k].bytes, kept[k].len)));
+    CHECK(iobufs_received_len(&received_at) == came_len);
 }
 
 int main(int argc, char **argv) {
@@ -579,22 +624,25 @@ int main(int argc, char **argv) {
     for (int i = 0; i < ROWS; i++) { row_at[i].at = &row_memory[i]; iobufsmut_init(row_at[i].at); rows[i].count = 1; }
     builder_at.at = &builder_memory; iobufs_builder_init(builder_at.at);
     frames_at.at = &frames_memory; iobufs_frames_init(frames_at.at); no_text(&frames);
+    received_at.at = &received_memory; iobufs_received_init(received_at.at); OK(iobufs_received_new(IOBUFS_VARINT, &received_at));
+    for (int i = 0; i < VIEWS; i++) { kept_at[i].at = &kept_memory[i]; iobuf_init(kept_at[i].at); }
     while (made < calls && (made % 10000 || time(NULL) - began < seconds)) {
         made++;
         int i = (int)below(VIEWS), j = (i + 1 + (int)below(VIEWS - 1)) % VIEWS, t = (int)below(TEXTS);
-        switch (below(12)) {
+        switch (below(13)) {
         case 0: case 1: case 2: view_call(i, j); break;
         case 3: case 4: case 5: part_call(i, j); break;
         case 6: case 7: case 8: text_call(t, (t + 1 + (int)below(TEXTS - 1)) % TEXTS, i); break;
         case 9: row_call((int)below(ROWS), t, i); break;
         case 10: builder_call(t, i); break;
         case 11: frames_call(i); break;
+        case 12: received_call(i); break;
         }
     }
-    for (int i = 0; i < VIEWS; i++) { iobuf_drop(&view_at[i]); iobufmut_drop(&part_at[i]); }
+    for (int i = 0; i < VIEWS; i++) { iobuf_drop(&view_at[i]); iobufmut_drop(&part_at[i]); iobuf_drop(&kept_at[i]); }
     for (int i = 0; i < TEXTS; i++) iobufs_drop(&text_at[i]);
     for (int i = 0; i < ROWS; i++) iobufsmut_drop(&row_at[i]);
-    iobufs_builder_drop(&builder_at); iobufs_frames_drop(&frames_at);
+    iobufs_builder_drop(&builder_at); iobufs_frames_drop(&frames_at); iobufs_received_drop(&received_at);
     printf("%ld calls agree\n", made);
     return 0;
 }

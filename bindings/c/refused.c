@@ -38,6 +38,7 @@ struct made {
     struct iobufsmut_at parts;
     struct iobufs_builder_at builder;
     struct iobufs_frames_at frames;
+    struct iobufs_received_at received, fresh;
 };
 
 typedef iobufs_status run(struct made *);
@@ -82,6 +83,8 @@ static iobufs_status finish(struct made *m) { return iobufs_builder_finish(&m->b
 static iobufs_status feed(struct made *m) { return iobufs_frames_feed(&m->frames, &m->view); }
 static iobufs_status next(struct made *m) { size_t wrong; return iobufs_frames_next(&m->frames, 0, 99, &m->out_view, &wrong); }
 static iobufs_status rest(struct made *m) { return iobufs_frames_rest(&m->frames, &m->out_text); }
+static iobufs_status space(struct made *m) { uint8_t *at; size_t n; return iobufs_frames_space(&m->fresh, &at, &n); }
+static iobufs_status received(struct made *m) { size_t wrong; return iobufs_received_next(&m->received, 0, 99, &m->out_view, &wrong); }
 static iobufs_status read_view(struct made *m) { return iobufs_read_view(&m->text, 0, 99, &m->out_view); }
 static iobufs_status view_read(struct made *m) { return iobuf_read_view(&m->view, 0, 99, &m->out_view); }
 
@@ -93,6 +96,9 @@ static void text_stays(struct made *m) {
 static void builder_stays(struct made *m) { CHECK(iobufs_builder_remaining_mut(&m->builder) == 0 && view_is(&m->view, "\3abc")); }
 static void frames_stay(struct made *m) {
     CHECK(iobufs_frames_len(&m->frames) == 10 && view_is(&m->view, "\3abc") && view_is(&m->out_view, "old"));
+}
+static void received_stays(struct made *m) {
+    CHECK(iobufs_received_len(&m->received) == 4 && iobufs_received_len(&m->fresh) == 0 && view_is(&m->out_view, "old"));
 }
 static void given_up(struct made *m) { (void)m; }
 
@@ -108,6 +114,7 @@ static const struct { const char *name; run *call; kept *stays; } cases[] = {
     { "parts coalesce", parts_coalesce, given_up }, { "from_parts", from_parts, given_up },
     { "builder", builder_new, builder_stays }, { "push", push, builder_stays }, { "finish", finish, given_up },
     { "feed", feed, frames_stay }, { "next", next, frames_stay }, { "rest", rest, frames_stay },
+    { "space", space, received_stays }, { "received next", received, received_stays },
     { "read_view", read_view, text_stays }, { "view read_view", view_read, view_stays },
 };
 
@@ -123,7 +130,8 @@ static void pieces(struct iobufs_at *text) {
 /* One case with its k-th request refused; answers whether it made so many. */
 static int refused(run *call, kept *stays, long k) {
     VIEW(view); VIEW(out_view); VIEW(shared); VIEW(other); PART(part); PART(out_part); TEXT(text); TEXT(out_text); PARTS(parts); BUILDER(builder); FRAMES(frames);
-    struct made m = { view, out_view, shared, part, out_part, text, out_text, parts, builder, frames };
+    RECEIVED(received); RECEIVED(fresh);
+    struct made m = { view, out_view, shared, part, out_part, text, out_text, parts, builder, frames, received, fresh };
     OK(iobuf_copy_from_slice(bytes("\3abc"), 4, &view));
     OK(iobuf_copy_from_slice(bytes("\3abc"), 4, &shared));
     OK(iobuf_clone(&shared, &other));
@@ -134,6 +142,8 @@ static int refused(run *call, kept *stays, long k) {
     OK(iobufmut_copy_from_slice(bytes("xyz"), 3, &part)); OK(iobufmut_with_capacity(5, &out_part));
     OK(iobufs_builder_new(1, &builder)); OK(iobufs_builder_put_u8(&builder, 1));
     pieces(&text);
+    OK(iobufs_received_new(IOBUFS_VARINT, &received)); OK(iobufs_received_new(IOBUFS_VARINT, &fresh));
+    receive(&received, "\3abc", 4);
     for (size_t i = 0; i < iobufs_chunk_count(&text); i++) {
         const uint8_t *at;
         size_t n = iobufs_chunk_at(&text, i, &at);
@@ -149,6 +159,7 @@ static int refused(run *call, kept *stays, long k) {
     if (was) stays(&m);
     iobuf_drop(&view); iobuf_drop(&out_view); iobuf_drop(&shared); iobuf_drop(&other); iobufmut_drop(&part); iobufmut_drop(&out_part);
     iobufs_drop(&text); iobufs_drop(&out_text); iobufsmut_drop(&parts); iobufs_builder_drop(&builder); iobufs_frames_drop(&frames);
+    iobufs_received_drop(&received); iobufs_received_drop(&fresh);
     CHECK(blocks == 0);
     return was;
 }

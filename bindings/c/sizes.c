@@ -62,6 +62,27 @@ static void views(size_t n) {
     iobufmut_drop(&part);
 }
 
+/* Frames of n bytes that are received in steps, after a short one whose body is kept. */
+static void received(size_t n, size_t step) {
+    RECEIVED(block); VIEW(first); VIEW(body);
+    uint8_t head[10];
+    size_t len, wrong;
+    OK(iobufs_received_new(IOBUFS_U32_LE, &block));
+    receive(&block, "\3\0\0\0abc", 7);
+    OK(iobufs_received_next(&block, 0, 3, &first, &wrong));
+    for (int twice = 0; twice < 2; twice++) {
+        OK(iobufs_frames_head(IOBUFS_U32_LE, n, head, sizeof head, &len));
+        receive(&block, (const char *)head, len);
+        for (size_t at = 0; at < n; at += step) {
+            CHECK(iobufs_received_next(&block, 0, n, &body, &wrong) == IOBUFS_END_OF_BUFFER && iobufs_received_len(&block) == len + at);
+            receive(&block, (const char *)model + at, n - at < step ? n - at : step);
+        }
+        OK(iobufs_received_next(&block, 0, n, &body, &wrong));
+        CHECK(view_shows(&body, 0, n) && view_is(&first, "abc") && iobufs_received_len(&block) == 0);
+    }
+    iobufs_received_drop(&block); iobuf_drop(&first); iobuf_drop(&body);
+}
+
 static void parts(size_t n) {
     PART(part); PART(whole);
     PARTS(row);
@@ -170,7 +191,7 @@ static void limits(void) {
     static const uint8_t written[] = { 0x85, 0x80, 0x80, 0x80, 0x20 };
     PART(part);
     VIEW(view); VIEW(out);
-    FRAMES(frames);
+    FRAMES(frames); RECEIVED(block);
     size_t n = 1;
     CHECK(iobufs_length_size(FAR + 5) == 5 && iobufs_length_size(SIZE_MAX) == 10);
     OK(iobufmut_with_capacity(9, &part));
@@ -190,6 +211,11 @@ static void limits(void) {
     CHECK(iobufs_frames_next(&frames, FAR, SIZE_MAX, &out, &n) == IOBUFS_INVALID_LENGTH && iobufs_frames_len(&frames) == 4);
     OK(iobufs_frames_next(&frames, 3, FAR, &out, &n));
     CHECK(view_is(&out, "abc"));
+    OK(iobufs_received_new(IOBUFS_U64_BE, &block));
+    receive(&block, "\0\0\0\2\0\0\0\5", 8);
+    CHECK(iobufs_received_next(&block, 0, FAR + 4, &out, &n) == IOBUFS_INVALID_LENGTH && n == FAR + 5);
+    CHECK(iobufs_received_next(&block, FAR + 5, SIZE_MAX, &out, &n) == IOBUFS_END_OF_BUFFER && iobufs_received_len(&block) == 8);
+    iobufs_received_drop(&block);
     CHECK(iobufmut_with_capacity((size_t)1 << 63, &part) == IOBUFS_BAD_LAYOUT);
     CHECK(iobufmut_with_alignment(8, ((size_t)1 << 32) + 1, &part) == IOBUFS_BAD_LAYOUT);
     CHECK(iobufmut_zeroed((size_t)1 << 63, &part) == IOBUFS_BAD_LAYOUT);
@@ -234,6 +260,7 @@ int main(void) {
     for (size_t i = 0; i < sizeof sizes / sizeof *sizes; i++) {
         views(sizes[i]);
         parts(sizes[i] / 3);
+        received(sizes[i], sizes[i] / 7 + 1), received(sizes[i] / 16, 1), received(sizes[i], 4096);
         texts(1, sizes[i]), texts(2, sizes[i] / 2), texts(4, sizes[i] / 4), texts(sizes[i] / 16, 16);
     }
     ranges();

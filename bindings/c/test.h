@@ -13,8 +13,23 @@
 #define PARTS(name) struct iobufsmut_at name = IOBUFSMUT_INIT
 #define BUILDER(name) struct iobufs_builder_at name = IOBUFS_BUILDER_INIT
 #define FRAMES(name) struct iobufs_frames_at name = IOBUFS_FRAMES_INIT
+#define RECEIVED(name) struct iobufs_received_at name = IOBUFS_RECEIVED_INIT
 
 static inline const uint8_t *bytes(const char *text) { return (const uint8_t *)text; }
+
+/* Receives bytes: writes them into the space, as a read would. */
+static inline void receive(struct iobufs_received_at *received, const char *src, size_t n) {
+    for (size_t done = 0; done < n;) {
+        uint8_t *at = NULL;
+        size_t space = 0;
+        OK(iobufs_frames_space(received, &at, &space));
+        if (space > n - done) space = n - done;
+        CHECK(space > 0);
+        memcpy(at, src + done, space);
+        OK(iobufs_frames_filled(received, space));
+        done += space;
+    }
+}
 
 /* Whether a buffer holds just these bytes. */
 static inline int view_is(const struct iobuf_at *view, const char *text) {

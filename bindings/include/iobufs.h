@@ -26,7 +26,8 @@
  *  4. Pointers to bytes are not NULL, also for 0 bytes, and outlive the call. The bytes of `iobuf_from_static` live, unchanged,
  *     until the last buffer made of them is dropped.
  *  5. The pointer of `.._chunk` and its like may be read until the next call that changes or drops that buffer. Only the
- *     bytes of a writable buffer (`iobufmut`, `iobufsmut`) may be overwritten there.
+ *     bytes of a writable buffer (`iobufmut`, `iobufsmut`) may be overwritten there, and the space that
+ *     `iobufs_frames_space` lends.
  *  6. malloc, realloc and free are one allocator's; no call comes from a signal handler, or from the forked child of a
  *     process with threads.
  *
@@ -87,6 +88,7 @@ static inline const char *iobufs_strerror(iobufs_status status) {
 #define IOBUFSMUT_SIZE 184
 #define IOBUFS_BUILDER_SIZE 120
 #define IOBUFS_FRAMES_SIZE 64
+#define IOBUFS_RECEIVED_SIZE 120
 #define IOBUFS_ALIGN 8
 
 struct iobuf { uint64_t room[IOBUF_SIZE / 8]; };                   /* IoBuf: bytes to read, in one chunk */
@@ -95,6 +97,7 @@ struct iobufs { uint64_t room[IOBUFS_SIZE / 8]; };                 /* IoBufs: by
 struct iobufsmut { uint64_t room[IOBUFSMUT_SIZE / 8]; };           /* IoBufsMut: parts to write, or none */
 struct iobufs_builder { uint64_t room[IOBUFS_BUILDER_SIZE / 8]; }; /* Builder: an iobufs in the making, or none */
 struct iobufs_frames { uint64_t room[IOBUFS_FRAMES_SIZE / 8]; };   /* Frames: frames of bytes that come in chunks */
+struct iobufs_received { uint64_t room[IOBUFS_RECEIVED_SIZE / 8]; }; /* Received: frames of bytes that are read into one block, or none */
 
 /* Places. */
 struct iobuf_at { struct iobuf *at; };
@@ -103,6 +106,7 @@ struct iobufs_at { struct iobufs *at; };
 struct iobufsmut_at { struct iobufsmut *at; };
 struct iobufs_builder_at { struct iobufs_builder *at; };
 struct iobufs_frames_at { struct iobufs_frames *at; };
+struct iobufs_received_at { struct iobufs_received *at; };
 
 /* `struct iobuf_at view = IOBUF_INIT;` makes an empty buffer, whose memory lives as long as the block around it (C alone):
  * one line in place of the memory, the place and the call of `.._init`. */
@@ -113,6 +117,7 @@ struct iobufs_frames_at { struct iobufs_frames *at; };
 #define IOBUFSMUT_INIT iobufsmut_made(&(struct iobufsmut){{0}})
 #define IOBUFS_BUILDER_INIT iobufs_builder_made(&(struct iobufs_builder){{0}})
 #define IOBUFS_FRAMES_INIT iobufs_frames_made(&(struct iobufs_frames){{0}})
+#define IOBUFS_RECEIVED_INIT iobufs_received_made(&(struct iobufs_received){{0}})
 #endif
 
 /* As `struct iovec` of <sys/uio.h>, which may be cast to it. */
@@ -479,6 +484,37 @@ IOBUFS_CHECKED iobufs_status iobufs_frames_feed(struct iobufs_frames_at *frames,
 IOBUFS_CHECKED iobufs_status iobufs_frames_next(struct iobufs_frames_at *frames, size_t lo, size_t hi, struct iobuf_at *out,
     size_t *wrong);
 
+/* Writes a body's length n, which is sent before the body, as an `enum iobufs_prefix` to `out`, and its size to `len`: at most
+ * ten bytes. IOBUFS_BAD_KIND if the prefix is unknown, IOBUFS_TOO_LONG if n can't be written so, IOBUFS_OUT_OF_RANGE if it
+ * doesn't fit into `room` bytes; then nothing is written. No memory. (own) */
+IOBUFS_CHECKED iobufs_status iobufs_frames_head(uint8_t prefix, size_t n, uint8_t *out, size_t room, size_t *len);
+
+/* ---- iobufs_received (Received): frames of bytes that are read into one block. None reads as one that holds nothing ---- */
+
+/* The library's size of a `struct iobufs_received`. */
+size_t iobufs_received_size(void);
+/* The library's alignment of a `struct iobufs_received`. */
+size_t iobufs_received_align(void);
+/* Makes a place with no receive block of memory. No memory. */
+void iobufs_received_init(struct iobufs_received *at);
+/* Drops what came and was not taken; no receive block is left. (Drop) */
+void iobufs_received_drop(struct iobufs_received_at *received);
+/* An empty receive block of frames whose lengths are written as an `enum iobufs_prefix`; IOBUFS_BAD_KIND if it is none. No
+ * memory. (own) */
+IOBUFS_CHECKED iobufs_status iobufs_received_new(uint8_t prefix, struct iobufs_received_at *out);
+/* How many bytes came and were not taken. (own) */
+size_t iobufs_received_len(const struct iobufs_received_at *received);
+/* Lends the space for a read: writes its address to `out`, and to `n` how many bytes it has, at least one. They are zeros, or
+ * what the block held before. Memory if there is no space; IOBUFS_DECLINED if there is no receive block. (own) */
+IOBUFS_CHECKED iobufs_status iobufs_frames_space(struct iobufs_received_at *received, uint8_t **out, size_t *n);
+/* Counts the first n bytes of the space as received, after they were written there; the space is what is after them.
+ * IOBUFS_OUT_OF_RANGE if it has fewer, and nothing changes. No memory. (own) */
+IOBUFS_CHECKED iobufs_status iobufs_frames_filled(struct iobufs_received_at *received, size_t n);
+/* Takes the first frame, whose length is from lo to hi, not copied: its body shares the block, and keeps all of it. Statuses,
+ * and `wrong`, as of iobufs_frames_next. Memory, at times. (own) */
+IOBUFS_CHECKED iobufs_status iobufs_received_next(struct iobufs_received_at *received, size_t lo, size_t hi, struct iobuf_at *out,
+    size_t *wrong);
+
 /* ---- little-endian numbers: put swapped, as in iobufmut_put_u32(&part, iobufs_swap32(n)), and swapped after a read ---- */
 
 static inline uint16_t iobufs_swap16(uint16_t n) {
@@ -521,6 +557,11 @@ static inline struct iobufs_builder_at iobufs_builder_made(struct iobufs_builder
 static inline struct iobufs_frames_at iobufs_frames_made(struct iobufs_frames *memory) {
     struct iobufs_frames_at at = { memory };
     iobufs_frames_init(memory);
+    return at;
+}
+static inline struct iobufs_received_at iobufs_received_made(struct iobufs_received *memory) {
+    struct iobufs_received_at at = { memory };
+    iobufs_received_init(memory);
     return at;
 }
 

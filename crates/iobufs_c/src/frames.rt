@@ -1,10 +1,11 @@
 // Frames at their places.
-ghost use Rattle.std.specs.Prelude.{◌≡◌, ◌⊎◌, ℕ, ◌+◌, ◌≤◌, ◌<◌, ◌^◌, ◌==◌, if◌then◌else◌, length, false, Ok, Some, IfNone, IfSome};
+ghost use Rattle.std.specs.Prelude.{◌≡◌, ◌⊎◌, ℕ, ◌+◌, ◌≤◌, ◌<◌, ◌^◌, ◌==◌, if◌then◌else◌, ◌++◌, length, drop, nat_le, false, Ok, Some, IfNone, IfSome};
 ghost use Rattle.std.specs.Borrow.{sem, Lends, full_share};
 ghost use Rattle.std.specs.Ptr.{lies_at, room_at};
 ghost use Rattle.iobufs_core.specs.MarkedText.{text_append, text_len, text_rest};
 ghost use Rattle.iobufs_core.specs.View.{default_view};
 ghost use Rattle.iobufs_frames.specs.Frames.{HasBodyBytes, IsNext, LacksFrame, frame_written};
+ghost use Rattle.iobufs_frames.specs.Prefixes.{prefix_limit, prefix_written};
 ghost use Rattle.iobufs_frames.specs.contracts.Frames.{the_row as frames_row};
 ghost use Rattle.iobufs_frames.specs.declared.Frames.{Frames as AllFrames};
 ghost use Rattle.iobufs_c.specs.FrameRows.{default_frames, prefix_from_c};
@@ -136,7 +137,7 @@ pub extern "C" fn iobufs_frames_feed(alloc: Global, frames: &mut FramesAt, piece
 }
 
 // The prefix of a kind, if it is known.
-fn prefix_of(kind: u8) -> Option<Prefix>
+pub(crate) fn prefix_of(kind: u8) -> Option<Prefix>
     ensures { result ≡ prefix_from_c kind }
 {
     match kind {
@@ -167,6 +168,34 @@ pub extern "C" fn iobufs_frames_set_prefix(frames: &mut FramesAt, kind: u8) -> u
         return Status::BadKind.code();
     };
     frames.get().prefix = prefix;
+    Status::Done.code()
+}
+
+/// Encodes a length as a prefix does, to be sent before a body, and writes how many bytes it has: at most ten. Returns
+/// `Status::BadKind` if the prefix is unknown, `Status::TooLong` if the length can't be written so, `Status::OutOfRange` if
+/// it doesn't fit into `out`. Unless it is done, nothing is written.
+#[unsafe(no_mangle)]
+pub extern "C" fn iobufs_frames_head(prefix: u8, n: usize, out: &mut [u8], len: &mut usize) -> u8
+    ensures unknown { IfNone (prefix_from_c prefix) (result ≡ code_of Status.BadKind) }
+    ensures too_long { IfSome (prefix_from_c prefix) (λ known. prefix_limit known ≤ n → result ≡ code_of Status.TooLong) }
+    ensures known { IfSome (prefix_from_c prefix) (λ known. n < prefix_limit known
+        → result ≡ (if nat_le (length (prefix_written known n)) (length out.old) then 0 else code_of Status.OutOfRange)) }
+    ensures written { result ≡ 0 → IfSome (prefix_from_c prefix) (λ known. (len.new ≡ length (prefix_written known n))
+        × (out.new ≡ prefix_written known n ++ drop (length (prefix_written known n)) out.old)) }
+    ensures unchanged { (result == 0) ≡ false → (out.new ≡ out.old) × (len.new ≡ len.old) }
+{
+    let Some(prefix) = prefix_of(prefix) else {
+        return Status::BadKind.code();
+    };
+    if !prefix.fits(n) {
+        return Status::TooLong.code();
+    }
+    let head = prefix.head(n);
+    if head.len() > out.len() {
+        return Status::OutOfRange.code();
+    }
+    out[..head.len()].copy_from_slice(head.as_slice());
+    *len = head.len();
     Status::Done.code()
 }
 

@@ -12,6 +12,7 @@ pub mod lengths;
 pub mod numbers;
 pub mod part;
 pub mod parts;
+pub mod received;
 pub mod status;
 pub mod text;
 pub mod view;

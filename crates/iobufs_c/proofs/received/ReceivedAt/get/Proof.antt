@@ -1,0 +1,14 @@
+-- `get` lends the receive block of the handle, and the handle follows it.
+use Rattle.std.proofs.Common.{refl}
+use Rattle.iobufs_c.specs.FrameRows.{received_row as V}
+use Rattle.iobufs_c.specs.declared.received.ReceivedAt.{ReceivedAt}
+use Rattle.iobufs_c.specs.contracts.received.ReceivedAt.{struct, the_codes}
+use Rattle.iobufs_c.specs.contracts.received.ReceivedAt.get.Key.{name}
+use Rattle.iobufs_c.proofs.Places.{lends}
+use Rattle.iobufs_c.proofs.received.ReceivedAt.get.Statement.{statement}
+use Rattle.iobufs_c.proofs.received.ReceivedAt.get.Code as code
+
+pub get_spec : {M : Type 1} → statement M
+get_spec 𝓤 𝓛 𝓜 𝓡 wired =
+    lends V struct.name ReceivedAt (λ d. d.at) (λ d. d.value) (λ p v. record { at = p; value = v }) (λ d. refl) (λ p v. refl) (λ p v. refl) the_codes tt 𝓛
+    𝓜 𝓡 name _ _ _ (code.unfolded 𝓤 𝓛.H 𝓜 𝓡 wired)

@@ -1,0 +1,209 @@
+// Receive blocks at their places.
+ghost use Rattle.std.specs.Prelude.{◌≡◌, ◌⊎◌, ◌≤◌, ◌<◌, ◌==◌, if◌then◌else◌, length, nat_le, Option, Some, None, Ok, false, IfNone, IfSome};
+ghost use Rattle.std.specs.Borrow.{sem, Lends, full_share};
+ghost use Rattle.std.specs.Ptr.{lies_at, room_at};
+ghost use Rattle.iobufs_core.specs.View.{view_of_bytes};
+ghost use Rattle.iobufs_frames.specs.Frames.{HasBodyBytes, IsNext, LacksFrame};
+ghost use Rattle.iobufs_frames.specs.Receiving.{HasReceived, ReceivedBytes, none_received};
+ghost use Rattle.iobufs_c.specs.Codes.{IsDoneUnless, IsViewReadCode, code_of};
+ghost use Rattle.iobufs_c.specs.FrameRows.{AreBoth, prefix_from_c, received_or_none, received_row};
+
+use crate::frames::prefix_of;
+use crate::part::fits;
+use crate::status::{Status, fault};
+use crate::view::ViewAt;
+use iobufs_core::codec::{Error, RangeCfg};
+use iobufs_frames::{End, Received};
+use std::alloc::Global;
+use std::marker::{Model, Send};
+use std::mem;
+
+/// The handle of a receive block, or of none, which reads as one that holds nothing.
+#[repr(C)]
+pub struct ReceivedAt {
+    at: *mut u8,
+    ghost value: { Option ReceivedBytes },
+}
+
+impl Model for ReceivedAt {
+    ghost use Rattle.std.specs.Borrow.{full_share};
+    ghost use Rattle.std.specs.Ptr.{lies_at};
+    ghost use Rattle.iobufs_c.specs.FrameRows.{received_row};
+
+    ghost also_owns = { λ h. lies_at received_row full_share h.at h.value };
+}
+
+// A receive block may go to another thread, and its handle with it (proofs/received/ReceivedAt/TheSendSync).
+unsafe impl Send for ReceivedAt {}
+
+impl ReceivedAt {
+    ghost use Rattle.iobufs_c.specs.contracts.received.ReceivedAt.{the_row};
+
+    /// Borrows the contents of the handle.
+    pub(crate) fn get(&mut self) -> &mut Option<Received>
+        ensures* writes_back { sem 𝓛 (Lends the_row received_row self.entry result (λ v. record { at = self.old.at; value = v })) }
+        ensures value { result.now ≡ self.old.value }
+    {
+        unsafe { &mut *(self.at as *mut Option<Received>) }
+    }
+}
+
+fn none() -> Option<Received>
+    ensures { result ≡ None }
+{
+    None
+}
+
+/// How many bytes a receive block's handle needs.
+#[unsafe(no_mangle)]
+pub extern "C" fn iobufs_received_size() -> usize
+    ensures value { result ≡ 120 }
+{
+    mem::size_of::<Option<Received>>()
+}
+
+/// To what a receive block is aligned.
+#[unsafe(no_mangle)]
+pub extern "C" fn iobufs_received_align() -> usize
+    ensures value { result ≡ 8 }
+{
+    mem::align_of::<Option<Received>>()
+}
+
+/// Makes a handle of memory, with no receive block.
+#[unsafe(no_mangle)]
+pub unsafe extern "C" fn iobufs_received_init(at: *mut u8)
+    requires* { sem 𝓛 (room_at received_row at) }
+    ensures* { sem 𝓛 (lies_at received_row full_share at None) }
+{
+    (at as *mut Option<Received>).write(none());
+}
+
+/// Drops the receive block; none is left.
+#[unsafe(no_mangle)]
+pub extern "C" fn iobufs_received_drop(received: &mut ReceivedAt)
+    ensures at { received.new.at ≡ received.old.at }
+    ensures value { received.new.value ≡ None }
+{
+    *received.get() = None;
+}
+
+/// Makes an empty receive block of frames whose lengths are written as `prefix`. It allocates nothing. Returns
+/// `Status::BadKind` if the prefix is unknown.
+#[unsafe(no_mangle)]
+pub extern "C" fn iobufs_received_new(alloc: Global, prefix: u8, out: &mut ReceivedAt) -> u8
+    ensures at { out.new.at ≡ out.old.at }
+    ensures status { (result ≡ 0) ⊎ (result ≡ code_of Status.BadKind) }
+    ensures known { IfSome (prefix_from_c prefix) (λ known. (result ≡ 0) × (out.new.value ≡ Some (none_received known))) }
+    ensures unknown { IfNone (prefix_from_c prefix) ((result ≡ code_of Status.BadKind) × (out.new.value ≡ out.old.value)) }
+{
+    let Some(prefix) = prefix_of(prefix) else {
+        return Status::BadKind.code();
+    };
+    *out.get() = Some(Received::new(alloc, prefix));
+    Status::Done.code()
+}
+
+/// Returns how many bytes came and were not taken.
+#[unsafe(no_mangle)]
+pub extern "C" fn iobufs_received_len(received: &mut ReceivedAt) -> usize
+    ensures same { (received.new.at ≡ received.old.at) × (received.new.value ≡ received.old.value) }
+    ensures value { result ≡ length (received_or_none received.old.value).bytes }
+{
+    match received.get() {
+        Some(received) => received.len(),
+        None => 0,
+    }
+}
+
+/// Makes space for a read, of at least one byte, and writes its address and how many bytes it has. They are zeros, or what
+/// the block held before. Returns `Status::Declined` if there is no receive block. Unless it is done, `n` is unchanged.
+#[unsafe(no_mangle)]
+pub extern "C" fn iobufs_frames_space(
+    received: &mut ReceivedAt,
+    out: &mut *mut u8,
+    n: &mut usize,
+) -> u8
+    ensures at { received.new.at ≡ received.old.at }
+    ensures kept { AreBoth (λ old new. (new.prefix ≡ old.prefix) × (new.bytes ≡ old.bytes)) received.old.value received.new.value }
+    ensures space { result ≡ 0 → IfSome received.new.value (λ new. (0 < new.space) × (n.new ≡ new.space)) }
+    ensures unchanged { (result == 0) ≡ false → n.new ≡ n.old }
+    ensures none { received.old.value ≡ None → result ≡ code_of Status.Declined }
+    ensures memory { (old : ReceivedBytes) → received.old.value ≡ Some old → IsDoneUnless result Status.Memory }
+{
+    let Some(received) = received.get() else {
+        return Status::Declined.code();
+    };
+    match received.make_space() {
+        Ok(()) => {
+            *n = received.lend_space(out);
+            Status::Done.code()
+        }
+        Err(_) => Status::Memory.code(),
+    }
+}
+
+/// Counts the first `n` bytes of the space as received. Returns `Status::OutOfRange` if the space has fewer; then all is
+/// unchanged.
+#[unsafe(no_mangle)]
+pub extern "C" fn iobufs_frames_filled(received: &mut ReceivedAt, n: usize) -> u8
+    ensures at { received.new.at ≡ received.old.at }
+    ensures came { result ≡ 0 → AreBoth (HasReceived n) received.old.value received.new.value }
+    ensures unchanged { (result == 0) ≡ false → received.new.value ≡ received.old.value }
+    ensures result { result ≡ (if nat_le n (received_or_none received.old.value).space then 0 else code_of Status.OutOfRange) }
+{
+    let Some(received) = received.get() else {
+        return fits(n, 0);
+    };
+    if n > received.space() {
+        return Status::OutOfRange.code();
+    }
+    received.fill(n);
+    Status::Done.code()
+}
+
+/// Takes the first frame, whose length is from `lo` to `hi`. Returns `Status::EndOfBuffer` if it is not whole yet,
+/// `Status::InvalidVarint` or `Status::InvalidLength` if no further bytes can make it whole; of an invalid length,
+/// `wrong` is it. Unless a frame is taken, both handles are unchanged. The body isn't copied.
+#[unsafe(no_mangle)]
+pub extern "C" fn iobufs_received_next(
+    received: &mut ReceivedAt,
+    lo: usize,
+    hi: usize,
+    out: &mut ViewAt,
+    wrong: &mut usize,
+) -> u8
+    ensures at { (received.new.at ≡ received.old.at) × (out.new.at ≡ out.old.at) }
+    ensures prefix { AreBoth (λ old new. new.prefix ≡ old.prefix) received.old.value received.new.value }
+    ensures taken { result ≡ 0 → IsNext (received_or_none received.old.value).prefix (record { lo = lo; hi = hi })
+        (received_or_none received.old.value).bytes (Ok (Some out.new.value)) (received_or_none received.new.value).bytes }
+    ensures body { result ≡ 0 → out.new.value ≡ view_of_bytes out.new.value.bytes }
+    ensures unchanged { (result == 0) ≡ false → (received.new.value ≡ received.old.value) × (out.new.value ≡ out.old.value) }
+    ensures open { result ≡ code_of Status.EndOfBuffer → LacksFrame (received_or_none received.old.value).prefix (record { lo = lo; hi = hi })
+        (received_or_none received.old.value).bytes End.Open }
+    ensures invalid { result ≡ code_of Status.InvalidVarint → LacksFrame (received_or_none received.old.value).prefix (record { lo = lo; hi = hi })
+        (received_or_none received.old.value).bytes (End.Bad Error.InvalidVarint) }
+    ensures outside { result ≡ code_of Status.InvalidLength → LacksFrame (received_or_none received.old.value).prefix (record { lo = lo; hi = hi })
+        (received_or_none received.old.value).bytes (End.Bad (Error.InvalidLength wrong.new)) }
+    ensures wrong { (result == code_of Status.InvalidLength) ≡ false → wrong.new ≡ wrong.old }
+    ensures memory { result ≡ code_of Status.Memory → HasBodyBytes (received_or_none received.old.value).prefix (record { lo = lo; hi = hi })
+        (received_or_none received.old.value).bytes }
+    ensures causes { IsViewReadCode result }
+{
+    let Some(received) = received.get() else {
+        return Status::EndOfBuffer.code();
+    };
+    let range = RangeCfg { lo, hi };
+    match received.next(&range) {
+        Ok(Some(view)) => {
+            *out.get() = view;
+            Status::Done.code()
+        }
+        Ok(None) => Status::EndOfBuffer.code(),
+        Err(Error::InvalidLength(n)) => {
+            *wrong = n;
+            Status::InvalidLength.code()
+        }
+        Err(error) => fault(error),
+    }
+}
