@@ -10,10 +10,9 @@ use Rattle.std.proofs.Math.Seq.{drop-append_seam, take-add, take-append-add}
 use Rattle.std.proofs.lemmas.Bool.{eqb-true, ne_eqb}
 use Rattle.std.proofs.lemmas.List.{drop_more, length-drop, length-take-le, nil_from_length, take_rest}
 use Rattle.iobufs_core.specs.Part.{Part, part_put}
-use Rattle.iobufs_core.specs.Spelling.{spell}
 use Rattle.iobufs_journal.specs.Crc.{crc32}
-use Rattle.iobufs_journal.specs.Journal.{record_written, records_written, sealed}
-use Rattle.iobufs_journal.specs.JournalLaws.{length-sealed, record_small, short_on, written_more}
+use Rattle.iobufs_journal.specs.Journal.{front, head, record_written, records_written, summed, version}
+use Rattle.iobufs_journal.specs.JournalLaws.{length-record, short_on, written_more}
 use Rattle.iobufs_journal.proofs.ScanLaws.{all_known}
 use Rattle.iobufs_journal.specs.Lines.{AreFirst, AreHeld, HasBegun, HasLongLine, IsAppended, IsCutShort, IsEnded, IsFinished, IsGoing, IsLast, IsLine, AreNext, TakesLines, last_of, lines_from, lines_of, most_bytes}
 use Rattle.iobufs_journal.specs.declared.lines.Lines.{Lines}
@@ -26,21 +25,24 @@ put-both part a b i = record { filled = append_assoc part.filled a b i; spare = 
     less = omega (arith, length-append a b)
 
 -- a record that is put piece by piece
-pub record_put : (out a b c d : Part) (number len sum at : ℕ) (body text : List ℕ) → len ≡ length body + 12
-    → a ≡ part_put out (spell len) → at ≡ length a.filled → b ≡ part_put a (to_be_bytes w64 number) → c ≡ part_put b body
+pub record_put : (out a b c d e f : Part) (number len at sum last : ℕ) (body text : List ℕ) → len ≡ length body → at ≡ length out.filled
+    → a ≡ part_put out version → b ≡ part_put a (to_be_bytes w64 number) → c ≡ part_put b (to_be_bytes w32 len)
     → text ≡ c.filled → sum ≡ crc32 (take (length text - at) (drop at text)) → d ≡ part_put c (to_be_bytes w32 sum)
-    → d ≡ part_put out (record_written number body)
-record_put out a b c d number len sum at body text long first place second third behind sum_is fourth =
-    let head = to_be_bytes w64 number ++ body in
-    let both : c ≡ part_put a head = third ∙ ap (λ p. part_put p body) second ∙ put-both a (to_be_bytes w64 number) body in
-    let cut : take (length text - at) (drop at text) ≡ head =
-    take_rest text at ∙ ap (drop at) (behind ∙ ap (λ (p : Part). p.filled) both)
-    ∙ ap (λ n. drop n (a.filled ++ head)) place ∙ drop-append_seam a.filled head in
-    let seal : head ++ to_be_bytes w32 sum ≡ sealed number body = ap (λ s. head ++ to_be_bytes w32 s) (sum_is ∙ ap crc32 cut) in
-    let sized : len ≡ length (sealed number body) = omega (arith, long, length-sealed number body) in
-    fourth ∙ ap (λ p. part_put p (to_be_bytes w32 sum)) both ∙ put-both a head (to_be_bytes w32 sum)
-    ∙ ap (λ w. part_put a w) seal ∙ ap (λ p. part_put p (sealed number body)) first ∙ put-both out (spell len) (sealed number body)
-    ∙ ap (λ n. part_put out (spell n ++ sealed number body)) sized
+    → e ≡ part_put d body → last ≡ crc32 body → f ≡ part_put e (to_be_bytes w32 last) → f ≡ part_put out (record_written number body)
+record_put out a b c d e f number len at sum last body text long place first second third behind sum_is fourth fifth last_is sixth =
+    let bytes = front number ++ to_be_bytes w32 len in
+    let both : c ≡ part_put out bytes =
+    third ∙ ap (λ p. part_put p (to_be_bytes w32 len)) (second ∙ ap (λ p. part_put p (to_be_bytes w64 number)) first ∙ put-both out version (to_be_bytes w64 number))
+    ∙ put-both out (front number) (to_be_bytes w32 len) in
+    let cut : take (length text - at) (drop at text) ≡ bytes =
+    take_rest text at ∙ ap (drop at) (behind ∙ ap (λ (p : Part). p.filled) both) ∙ ap (λ n. drop n (out.filled ++ bytes)) place
+    ∙ drop-append_seam out.filled bytes in
+    let headed : d ≡ part_put out (head number len) =
+    fourth ∙ ap (λ p. part_put p (to_be_bytes w32 sum)) both ∙ put-both out bytes (to_be_bytes w32 sum)
+    ∙ ap (λ s. part_put out (bytes ++ to_be_bytes w32 s)) (sum_is ∙ ap crc32 cut) in
+    sixth ∙ ap (λ p. part_put p (to_be_bytes w32 last)) fifth ∙ put-both d body (to_be_bytes w32 last)
+    ∙ ap (λ s. part_put d (body ++ to_be_bytes w32 s)) last_is ∙ ap (λ p. part_put p (summed body)) headed
+    ∙ put-both out (head number len) (summed body) ∙ ap (λ n. part_put out (head number n ++ summed body)) long
 
 -- ---- lines
 
@@ -74,12 +76,12 @@ last_some (b ∷ bs) some = refl
 
 -- a line that is too long, whatever it is joined with
 by_end : (text begun left : List ℕ) (byte : ℕ) (taken : List (List ℕ)) (test : Bool)
-    → lines_of text ≡ taken ++ (if test then begun ∷ lines_from [] left else lines_from (begun ++ byte ∷ []) left) → most_bytes < 12 + length begun
+    → lines_of text ≡ taken ++ (if test then begun ∷ lines_from [] left else lines_from (begun ++ byte ∷ []) left) → most_bytes < length begun
     → (lines_of text ≡ taken ++ lines_from (begun ++ byte ∷ []) left → HasLongLine text taken) → HasLongLine text taken
 by_end text begun left byte taken true e long on = record { line = begun; more = lines_from [] left; next = e; long = long }
 by_end text begun left byte taken false e long on = on e
 
-too_long : (text begun left : List ℕ) (taken : List (List ℕ)) → lines_of text ≡ taken ++ lines_from begun left → most_bytes < 12 + length begun
+too_long : (text begun left : List ℕ) (taken : List (List ℕ)) → lines_of text ≡ taken ++ lines_from begun left → most_bytes < length begun
     → HasLongLine text taken
 too_long text begun [] taken e long =
     record { line = begun; more = []; next = e ∙ ap (λ ls. taken ++ ls) (last_some begun (omega (arith, long))); long = long }
@@ -94,7 +96,7 @@ held_so first next bytes P Q is so = record { taken = is.taken; short = is.short
 
 -- one more line is put as a record
 held_more : (first : ℕ) (written : List ℕ) (P Q : List (List ℕ) → Type 0) (from to : Part) (old new : Lines)
-    (is : AreHeld first (written ++ from.filled) old.number P) → IsEnded from to old new → 12 + length old.begun.items ≤ most_bytes
+    (is : AreHeld first (written ++ from.filled) old.number P) → IsEnded from to old new → length old.begun.items ≤ most_bytes
     → Q (is.taken ++ old.begun.items ∷ []) → AreHeld first (written ++ to.filled) new.number Q
 held_more first written P Q from to old new is ended fits so =
     let line = old.begun.items in
@@ -114,9 +116,9 @@ held_more first written P Q from to old new is ended fits so =
 pub record IsTaking (piece rest : List ℕ) (from to : Part) (old now : Lines) : Type 0 where
   pub going : (first : ℕ) (read written : List ℕ) → IsGoing first read (written ++ from.filled) old
       → AreHeld first (written ++ to.filled) now.number (AreFirst (read ++ piece) rest now.begun.items)
-  pub room : length now.begun.items + 23 * length rest + 22 ≤ to.spare
+  pub room : length now.begun.items + 25 * length rest + 24 ≤ to.spare
 
-pub nothing_taken : (piece : List ℕ) (out : Part) (lines : Lines) → length lines.begun.items + 23 * length piece + 22 ≤ out.spare
+pub nothing_taken : (piece : List ℕ) (out : Part) (lines : Lines) → length lines.begun.items + 25 * length piece + 24 ≤ out.spare
     → IsTaking piece piece out out lines lines
 nothing_taken piece out lines room = record {
   going = λ first read written is.
@@ -139,7 +141,7 @@ line_begun piece rest line from to old now at so_far is begun first read written
 
 -- there is room for the line that is begun
 pub line_room : (piece rest line : List ℕ) (from to : Part) (old now : Lines) (at : ℕ) → IsTaking piece rest from to old now → IsLine rest at
-    → line ≡ now.begun.items ++ take at rest → length line + 23 * (length rest - at) + 22 ≤ to.spare
+    → line ≡ now.begun.items ++ take at rest → length line + 25 * (length rest - at) + 24 ≤ to.spare
 line_room piece rest line from to old now at so_far is begun =
     let inside = is.inside in
     let had = so_far.room in
@@ -148,7 +150,7 @@ line_room piece rest line from to old now at so_far is begun =
 
 -- one more line of a piece is put
 pub line_taken : (piece rest next : List ℕ) (from to after : Part) (old now mid new : Lines) (at : ℕ) → IsTaking piece rest from to old now → IsLine rest at
-    → at < length rest → mid.begun.items ≡ now.begun.items ++ take at rest → mid.number ≡ now.number → 12 + length mid.begun.items ≤ most_bytes
+    → at < length rest → mid.begun.items ≡ now.begun.items ++ take at rest → mid.number ≡ now.number → length mid.begun.items ≤ most_bytes
     → IsEnded to after mid new → next ≡ take (length rest - (at + 1)) (drop (at + 1) rest) → IsTaking piece next from after old new
 line_taken piece rest next from to after old now mid new at so_far is inside begun same fits ended behind =
     let line = mid.begun.items in
@@ -170,13 +172,13 @@ line_taken piece rest next from to after old now mid new at so_far is inside beg
         length-drop (at + 1) rest,
         ap (λ (w : List ℕ). length w) ended.fresh,
         ap (λ (p : Part). p.spare) ended.put,
-        record_small mid.number line,
+        length-record mid.number line,
       );
     }
 
 -- the line that was begun is too long
 pub line_too_long : (piece rest line : List ℕ) (from to : Part) (old now : Lines) (at : ℕ) → IsTaking piece rest from to old now → IsLine rest at
-    → line ≡ now.begun.items ++ take at rest → most_bytes < 12 + length line → (first : ℕ) (read written : List ℕ)
+    → line ≡ now.begun.items ++ take at rest → most_bytes < length line → (first : ℕ) (read written : List ℕ)
     → IsGoing first read (written ++ from.filled) old → AreHeld first (written ++ to.filled) now.number (AreNext (read ++ piece) line true)
 line_too_long piece rest line from to old now at so_far is begun long first read written before =
     held_so first now.number (written ++ to.filled) (AreFirst (read ++ piece) (drop at rest) line) (AreNext (read ++ piece) line true)
@@ -185,7 +187,7 @@ line_too_long piece rest line from to old now at so_far is begun long first read
 
 -- no line ends in what is left
 pub none_ended : (piece rest line : List ℕ) (from to : Part) (old now : Lines) (at : ℕ) → IsTaking piece rest from to old now → IsLine rest at
-    → at ≡ length rest → line ≡ now.begun.items ++ take at rest → 12 + length line ≤ most_bytes → (first : ℕ) (read written : List ℕ)
+    → at ≡ length rest → line ≡ now.begun.items ++ take at rest → length line ≤ most_bytes → (first : ℕ) (read written : List ℕ)
     → IsGoing first read (written ++ from.filled) old → AreHeld first (written ++ to.filled) now.number (AreNext (read ++ piece) line false)
 none_ended piece rest line from to old now at so_far is last begun fits first read written before =
     held_so first now.number (written ++ to.filled) (AreFirst (read ++ piece) (drop at rest) line) (AreNext (read ++ piece) line false)
@@ -225,7 +227,7 @@ nothing_read had held lines none = record {
     short = tt;
     put = refl;
     counted = omega arith;
-    so = subst (λ w. AreNext [] w false []) (sym none) (let fits : 12 ≤ most_bytes = omega arith in fits, λ more. refl);
+    so = subst (λ w. AreNext [] w false []) (sym none) (let fits : 0 ≤ most_bytes = omega arith in fits, λ more. refl);
   };
 }
 

@@ -2,101 +2,56 @@
 --     read_alike, replayed    two readings are equal; records that were written are what is read
 --     one_journal             bytes have a reading, which is the only one
 --     cut_short               after a whole journal, the first bytes of records are the records that are whole among them
-use Rattle.std.specs.Prelude.{◌≡◌, ◌⊎◌, ℕ, zero, suc, ◌+◌, ◌-◌, ◌^◌, ◌<◌, ◌≤◌, nat_lt, if◌then◌else◌, Bool, true, false, Result, Ok, Err, List, [], ◌∷◌, ◌++◌, length, take, drop, refl, bytes_eq}
+use Rattle.std.specs.Prelude.{◌≡◌, ◌⊎◌, ℕ, zero, suc, ◌+◌, ◌-◌, ◌^◌, ◌<◌, ◌≤◌, nat_lt, if◌then◌else◌, Bool, true, false, List, [], ◌∷◌, ◌++◌, length, take, drop, slice_index, refl, bytes_eq}
 use Rattle.std.specs.Cmp.Lexicographic.{bytes_decides}
-use Rattle.std.specs.Int.{w32, w64, to_be_bytes}
+use Rattle.std.specs.Int.{w32, from_be_bytes}
 use Rattle.std.proofs.Common.{append-nil, arith, inl, inr, ap, sym, subst, ◌∙◌, append_assoc, length-append, length-take, take-append-drop}
-use Rattle.std.proofs.Math.Seq.{take-append_seam, take-append-add, take-nil}
+use Rattle.std.proofs.Math.Seq.{take-append-add, take-nil}
 use Rattle.std.proofs.lemmas.Bool.Decides.{nat_tests}
-use Rattle.std.proofs.lemmas.List.{append_cancel_left, length-drop, take-append-le}
-use Rattle.iobufs_core.proofs.CallerFacts.{one_front}
-use Rattle.iobufs_core.proofs.LengthFacts.{begun_open, less, some_answer}
-use Rattle.iobufs_core.specs.Ranges.{in_range}
-use Rattle.iobufs_core.specs.Spelled.{spelled_as_one, spelled_before}
-use Rattle.iobufs_core.specs.Spelling.{spell, IsSpelledAt}
-use Rattle.iobufs_core.specs.Wire.{IsLengthRead, bytes_written}
-use Rattle.iobufs_core.specs.declared.codec.base.Error.{Error}
-use Rattle.iobufs_core.specs.declared.codec.base.Error.TheVariants.{BadLayout, EndOfBuffer, InvalidVarint, InvalidLength, Memory, TooLong}
-use Rattle.iobufs_journal.specs.Crc.{crc32}
-use Rattle.iobufs_journal.specs.Journal.{AreAlike, AreShort, HasBadLength, HasNoRecord, HasOneJournal, IsJournal, IsTornAt, record_written, records_written, sealed, up_to, whole_of}
-use Rattle.iobufs_journal.specs.JournalLaws.{is_sealed, length-sealed, sealed_is, short_on, written_on}
+use Rattle.std.proofs.lemmas.List.{length-drop, length-take-le, take-append-le}
+use Rattle.iobufs_core.proofs.LengthFacts.{less}
+use Rattle.iobufs_journal.specs.Journal.{AreAlike, AreShort, HasNoRecord, HasOneJournal, IsJournal, IsOld, IsUnread, head, record_written, records_written, summed, version, whole_of}
+use Rattle.iobufs_journal.specs.JournalLaws.{HasHead, begun, cut_head, is_summed, length-record, one_record, said, short_on, summed_is, torn_or_whole, written_on}
 use Rattle.iobufs_journal.specs.declared.journal.JournalEnd.{JournalEnd}
-use Rattle.iobufs_journal.specs.declared.journal.JournalEnd.TheVariants.{Whole, Torn, Damaged}
+use Rattle.iobufs_journal.specs.declared.journal.JournalEnd.TheVariants.{Whole, Torn, Damaged, Old}
+use Rattle.iobufs_journal.proofs.FrontLaws.{body_long, no_body, no_head, no_start, record_at, torn_body}
 
--- a number seals one body in one way
-one_body : (number : ℕ) (a b : List ℕ) → sealed number a ≡ sealed number b → a ≡ b
-one_body number a b e =
-    let num = to_be_bytes w64 number in
-    let sum = λ (w : List ℕ). to_be_bytes w32 (crc32 (num ++ w)) in
-    let long : length a ≡ length b = omega (arith, length-sealed number a, length-sealed number b, ap (λ (w : List ℕ). length w) e) in
-    let tail : a ++ sum a ≡ b ++ sum b = append_cancel_left num (a ++ sum a) (b ++ sum b) (sym (append_assoc num a (sum a)) ∙ e ∙ append_assoc num b (sum b)) in
-    sym (take-append_seam a (sum a)) ∙ ap (take (length a)) tail ∙ ap (λ n. take n (b ++ sum b)) long ∙ take-append_seam b (sum b)
+-- ---- one end
 
-in_most : (most n : ℕ) → n ≤ most → in_range (up_to most) n ≡ true
-in_most most n h = grind (arith, nat_tests)
-
--- ---- a frame, a torn one and a bad length exclude each other
-
-abbrev BeginsFramed : List ℕ → ℕ → Type 0
-BeginsFramed bytes n = IsSpelledAt bytes n × (length (spell n) + n ≤ length bytes)
-
-framed_so : (bytes framed behind : List ℕ) → length framed < 2 ^ 64 → bytes ≡ bytes_written framed ++ behind → BeginsFramed bytes (length framed)
-framed_so bytes framed behind small is =
-    let n = length framed in
-    let long = ap (λ (w : List ℕ). length w) is in (
-      subst (λ (xs : List ℕ). IsSpelledAt xs n) (sym (is ∙ append_assoc (spell n) framed behind)) (spelled_before n (framed ++ behind) small),
-      omega (arith, long, length-append (bytes_written framed) behind, length-append (spell n) framed),
-    )
-
-not_torn : (most n : ℕ) (bytes : List ℕ) → BeginsFramed bytes n → IsTornAt most bytes → ⊥
-not_torn most n bytes frame (inl opened) = opened.0 n frame.0
-not_torn most n bytes frame (inr (m, (at, inside), few)) =
-    let enough = frame.1 in
-    let same : length (spell m) + m ≡ length (spell n) + n = ap (λ k. length (spell k) + k) (spelled_as_one bytes m n at frame.0) in
-    omega (arith, few, enough, same)
-
-not_bad : (most n : ℕ) (bytes : List ℕ) → IsSpelledAt bytes n → in_range (up_to most) n ≡ true → HasBadLength most bytes → ⊥
-not_bad most n bytes at inside (inl none) = none.0 n at
-not_bad most n bytes at inside (inr (m, (there, outside))) =
-    let both : true ≡ false = sym inside ∙ ap (in_range (up_to most)) (spelled_as_one bytes n m at there) ∙ outside in cc
-
--- an end that is cut off, and one that is damaged, are two
-torn_or_damaged : (most number : ℕ) (bytes : List ℕ) → HasNoRecord most number bytes Torn → HasNoRecord most number bytes Damaged → ⊥
-torn_or_damaged most number bytes (some, torn) (more, inr (framed, behind, small, is, never)) =
-    not_torn most (length framed) bytes (framed_so bytes framed behind small is) torn
-torn_or_damaged most number bytes (some, inl opened) (more, inl (inl closed)) = closed.1 opened.1
-torn_or_damaged most number bytes (some, inl opened) (more, inl (inr (m, (at, outside)))) = opened.0 m at
-torn_or_damaged most number bytes (some, inr (n, (at, inside), few)) (more, inl bad) = not_bad most n bytes at inside bad
+empty_or_some : (bytes : List ℕ) → bytes ≡ [] → 0 < length bytes → ⊥
+empty_or_some bytes none some = omega (arith, ap (λ (w : List ℕ). length w) none, some)
 
 one_end : (most number : ℕ) (bytes : List ℕ) (a b : JournalEnd) → HasNoRecord most number bytes a → HasNoRecord most number bytes b → a ≡ b
 one_end most number bytes Whole Whole p q = refl
-one_end most number bytes Whole Torn p q = absurd (omega (arith, ap (λ (w : List ℕ). length w) p, q.0))
-one_end most number bytes Whole Damaged p q = absurd (omega (arith, ap (λ (w : List ℕ). length w) p, q.0))
-one_end most number bytes Torn Whole p q = absurd (omega (arith, ap (λ (w : List ℕ). length w) q, p.0))
+one_end most number bytes Whole Torn p q = absurd (empty_or_some bytes p q.0)
+one_end most number bytes Whole Damaged p q = absurd (empty_or_some bytes p q.0.some)
+one_end most number bytes Whole Old p q = absurd (empty_or_some bytes p q.0.some)
+one_end most number bytes Torn Whole p q = absurd (empty_or_some bytes q p.0)
 one_end most number bytes Torn Torn p q = refl
-one_end most number bytes Torn Damaged p q = absurd (torn_or_damaged most number bytes p q)
-one_end most number bytes Damaged Whole p q = absurd (omega (arith, ap (λ (w : List ℕ). length w) q, p.0))
-one_end most number bytes Damaged Torn p q = absurd (torn_or_damaged most number bytes q p)
+one_end most number bytes Torn Damaged p q = absurd (q.0.not_torn p.1)
+one_end most number bytes Torn Old p q = absurd (q.0.not_torn p.1)
+one_end most number bytes Damaged Whole p q = absurd (empty_or_some bytes q p.0.some)
+one_end most number bytes Damaged Torn p q = absurd (p.0.not_torn q.1)
 one_end most number bytes Damaged Damaged p q = refl
+one_end most number bytes Damaged Old p q = absurd (p.1 q.1)
+one_end most number bytes Old Whole p q = absurd (empty_or_some bytes q p.0.some)
+one_end most number bytes Old Torn p q = absurd (p.0.not_torn q.1)
+one_end most number bytes Old Damaged p q = absurd (q.1 p.1)
+one_end most number bytes Old Old p q = refl
 
 -- where a record is at the front, no reason holds that none is
-record_frame : (most number : ℕ) (text body behind : List ℕ) → most < 2 ^ 64 → 12 + length body ≤ most → text ≡ record_written number body ++ behind
-    → BeginsFramed text (length (sealed number body))
-record_frame most number text body behind large short e =
-    framed_so text (sealed number body) behind (omega (arith, length-sealed number body, large, short)) e
-
-stands : (most number : ℕ) (text body behind : List ℕ) (end : JournalEnd) → most < 2 ^ 64 → 12 + length body ≤ most → text ≡ record_written number body ++ behind
+stands : (most number : ℕ) (text body behind : List ℕ) (end : JournalEnd) → most < 2 ^ 32 → length body ≤ most → text ≡ record_written number body ++ behind
     → HasNoRecord most number text end → ⊥
-stands most number text body behind Whole large short e none =
-    let enough = (record_frame most number text body behind large short e).1 in
-    omega (arith, enough, length-sealed number body, ap (λ (w : List ℕ). length w) none)
-stands most number text body behind Torn large short e (some, torn) =
-    not_torn most (length (sealed number body)) text (record_frame most number text body behind large short e) torn
-stands most number text body behind Damaged large short e (some, inl bad) =
-    not_bad most (length (sealed number body)) text (record_frame most number text body behind large short e).0
-    (in_most most (length (sealed number body)) (omega (arith, length-sealed number body, short))) bad
-stands most number text body behind Damaged large short e (some, inr (framed, left, small, is, never)) =
-    never body (one_front framed (sealed number body) left behind small (omega (arith, length-sealed number body, large, short)) (sym is ∙ e)).0
+stands most number text body behind Whole large short e none = omega (
+  arith,
+  ap (λ (w : List ℕ). length w) e,
+  length-append (record_written number body) behind,
+  length-record number body,
+  ap (λ (w : List ℕ). length w) none,
+)
+stands most number text body behind Torn large short e (some, torn) = torn_or_whole most number text body behind large short e torn
+stands most number text body behind Damaged large short e none = none.0.no_record body behind short e
+stands most number text body behind Old large short e none = none.0.no_record body behind short e
 
 -- ---- one reading of a text
 
@@ -110,7 +65,7 @@ after_first most number text body behind rest found end is whole = record {
 }
 
 -- a record is at the front, or none is
-not_first : (most number : ℕ) (text body x y : List ℕ) (bodies : List (List ℕ)) (a b : JournalEnd) → most < 2 ^ 64 → IsJournal most number text [] a x
+not_first : (most number : ℕ) (text body x y : List ℕ) (bodies : List (List ℕ)) (a b : JournalEnd) → most < 2 ^ 32 → IsJournal most number text [] a x
     → IsJournal most number text (body ∷ bodies) b y → ⊥
 not_first most number text body x y bodies a b large none is =
     stands most number x body (records_written (suc number) bodies ++ y) a large is.admitted.0
@@ -118,7 +73,7 @@ not_first most number text body x y bodies a b large none is =
     (subst (λ k. HasNoRecord most k x a) (let z : number + 0 ≡ number = omega arith in z) none.ends)
 
 -- two readings from a number on are the same
-pub read_alike : (most number : ℕ) (text : List ℕ) (fs gs : List (List ℕ)) (a b : JournalEnd) (x y : List ℕ) → most < 2 ^ 64
+pub read_alike : (most number : ℕ) (text : List ℕ) (fs gs : List (List ℕ)) (a b : JournalEnd) (x y : List ℕ) → most < 2 ^ 32
     → IsJournal most number text fs a x → IsJournal most number text gs b y → AreAlike fs gs a b x y
 read_alike most number text [] [] a b x y large is other =
     let same : x ≡ y = sym is.whole ∙ other.whole in record {
@@ -132,13 +87,12 @@ read_alike most number text (f ∷ fs) (g ∷ gs) a b x y large is other =
     let first = is.admitted.0 in
     let second = other.admitted.0 in
     let later = records_written (suc number) fs ++ x in
-    let (same, behind) = one_front (sealed number f) (sealed number g) later (records_written (suc number) gs ++ y)
-    (omega (arith, length-sealed number f, large, first)) (omega (arith, length-sealed number g, large, second))
+    let (same, behind) = one_record number f g later (records_written (suc number) gs ++ y) (omega (arith, large, first)) (omega (arith, large, second))
     (sym (append_assoc (record_written number f) (records_written (suc number) fs) x) ∙ sym is.whole ∙ other.whole
     ∙ append_assoc (record_written number g) (records_written (suc number) gs) y) in
     let others = read_alike most (suc number) later fs gs a b x y large (after_first most number text f later x fs a is refl)
     (after_first most number text g later y gs b other behind) in record {
-      same_records = ap (λ w. w ∷ fs) (one_body number f g same) ∙ ap (λ ws. g ∷ ws) others.same_records;
+      same_records = ap (λ w. w ∷ fs) same ∙ ap (λ ws. g ∷ ws) others.same_records;
       same_end = others.same_end;
       same_rest = others.same_rest;
     }
@@ -146,7 +100,7 @@ read_alike most number text (f ∷ fs) (g ∷ gs) a b x y large is other =
 -- ---- its records, one after the other
 
 -- a first record, and the records after it
-behind_first : (most number : ℕ) (text body behind rest : List ℕ) (found : List (List ℕ)) (end : JournalEnd) → 12 + length body ≤ most
+behind_first : (most number : ℕ) (text body behind rest : List ℕ) (found : List (List ℕ)) (end : JournalEnd) → length body ≤ most
     → text ≡ record_written number body ++ behind → IsJournal most (suc number) behind found end rest → IsJournal most number text (body ∷ found) end rest
 behind_first most number text body behind rest found end short whole is = record {
   whole =
@@ -161,7 +115,7 @@ none_first most number text end none =
     record { whole = refl; admitted = tt; ends = subst (λ k. HasNoRecord most k text end) (let z : number ≡ number + 0 = omega arith in z) none }
 
 -- records that were written are what is read
-pub replayed : (most : ℕ) (text : List ℕ) (found written : List (List ℕ)) (end : JournalEnd) (rest : List ℕ) → most < 2 ^ 64 → AreShort most written
+pub replayed : (most : ℕ) (text : List ℕ) (found written : List (List ℕ)) (end : JournalEnd) (rest : List ℕ) → most < 2 ^ 32 → AreShort most written
     → text ≡ records_written 0 written → IsJournal most 0 text found end rest → (found ≡ written) × (end ≡ Whole)
 replayed most text found written end rest large short e is =
     let all = read_alike most 0 text found written end Whole rest [] large is
@@ -173,73 +127,103 @@ replayed most text found written end rest large short e is =
 -- a record is at the front, and what is after it; or none is
 abbrev Front : ℕ → ℕ → List ℕ → Type 0
 Front most number bytes =
-    ((body : List ℕ) × (behind : List ℕ) × (12 + length body ≤ most) × (bytes ≡ record_written number body ++ behind))
+    ((body : List ℕ) × (behind : List ℕ) × (length body ≤ most) × (bytes ≡ record_written number body ++ behind))
     ⊎ ((end : JournalEnd) × HasNoRecord most number bytes end)
 
-by_seal : (most number : ℕ) (bytes framed behind : List ℕ) (test : Bool) → 0 < length bytes → length framed < 2 ^ 64 → length framed ≤ most
-    → bytes ≡ bytes_written framed ++ behind → bytes_eq framed (sealed number (drop 8 (take (length framed - 4) framed))) ≡ test → Front most number bytes
-by_seal most number bytes framed behind true some small least is e =
-    let body = drop 8 (take (length framed - 4) framed) in
-    let seal : framed ≡ sealed number body = (bytes_decides framed (sealed number body)).0 e in
-    let long = ap (λ (w : List ℕ). length w) seal in
-    inl (body, behind, omega (arith, length-sealed number body, long, least), is ∙ ap (λ w. bytes_written w ++ behind) seal)
-by_seal most number bytes framed behind false some small least is e =
-    let never : (body : List ℕ) → framed ≡ sealed number body → ⊥ = λ body seal.
-    let test = (bytes_decides framed (sealed number (drop 8 (take (length framed - 4) framed)))).1
-    (sealed_is number framed (is_sealed number framed body seal)) in
-    let both : true ≡ false = sym test ∙ e in cc in
-    inr (Damaged, (some, inr (framed, behind, small, is, never)))
+same_by : (a b : List ℕ) (test : Bool) → bytes_eq a b ≡ test → (a ≡ b) ⊎ ((a ≡ b) → ⊥)
+same_by a b true e = inl ((bytes_decides a b).0 e)
+same_by a b false e = inr (λ same. let both : true ≡ false = sym ((bytes_decides a b).1 same) ∙ e in cc)
 
-by_length : (most number : ℕ) (bytes : List ℕ) (length_read : Result ℕ Error) → 0 < length bytes → IsLengthRead bytes (up_to most) length_read
-    → Front most number bytes
-by_length most number bytes (Ok n) some (at, inside) = elim (less (length bytes) (length (spell n) + n)) [
-  | inl few ↦ inr (Torn, (some, inr (n, (at, inside), few)))
-  | inr enough ↦
-      let k = length (spell n) in
-      let framed = take n (drop k bytes) in
-      let behind = drop n (drop k bytes) in
-      let least : n ≤ most = grind (arith, nat_tests, inside) in
-      let small = at.0 in
-      let long : length framed ≡ n = length-take n (drop k bytes) ∙ omega (arith, length-drop k bytes, enough) in
-      let is : bytes ≡ bytes_written framed ++ behind =
-      sym (take-append-drop k bytes) ∙ ap (λ w. w ++ drop k bytes) at.1 ∙ ap (λ w. spell n ++ w) (sym (take-append-drop n (drop k bytes)))
-      ∙ sym (append_assoc (spell n) framed behind) ∙ ap (λ m. (spell m ++ framed) ++ behind) (sym long) in
-      by_seal most number bytes framed behind (bytes_eq framed (sealed number (drop 8 (take (length framed - 4) framed)))) some
-      (omega (arith, long, small)) (omega (arith, long, least)) is refl
+-- two lists of bytes are the same, or they aren't
+same : (a b : List ℕ) → (a ≡ b) ⊎ ((a ≡ b) → ⊥)
+same a b = same_by a b (bytes_eq a b) refl
+
+old_or_not : (number : ℕ) (bytes : List ℕ) → IsOld number bytes ⊎ (IsOld number bytes → ⊥)
+old_or_not number bytes = elim (less 0 number) [
+  | inl later ↦ inr (λ old. let first = old.first in omega (arith, first, later))
+  | inr first ↦ elim (less 0 (slice_index bytes 0)) [
+    | inr none ↦ inr (λ old. old.length_is (omega (arith, none)))
+    | inl some ↦ elim (same (take 6 (drop 3 bytes)) (0 ∷ 0 ∷ 0 ∷ 0 ∷ 0 ∷ 0 ∷ [])) [
+      | inl zeros ↦ inl (record { first = omega (arith, first); length_is = λ none. omega (arith, none, some); number_is = zeros })
+      | inr other ↦ inr (λ old. other old.number_is)
+    ]
+  ]
 ]
-by_length most number bytes (Err EndOfBuffer) some none = inr (Torn, (some, inl none))
-by_length most number bytes (Err InvalidVarint) some none = inr (Damaged, (some, inl (inl none)))
-by_length most number bytes (Err (InvalidLength n)) some out = inr (Damaged, (some, inl (inr (n, out))))
-by_length most number bytes (Err Memory) some none = absurd none
-by_length most number bytes (Err BadLayout) some none = absurd none
-by_length most number bytes (Err TooLong) some none = absurd none
 
-front : (most number : ℕ) (bytes : List ℕ) → Front most number bytes
-front most number [] = inr (Whole, refl)
-front most number (b ∷ bs) =
-    let read = some_answer (b ∷ bs) (up_to most) in
-    by_length most number (b ∷ bs) read.answer (omega arith) read.is
+by_unread : (most number : ℕ) (bytes : List ℕ) → IsUnread most number bytes → Front most number bytes
+by_unread most number bytes none = elim (old_or_not number bytes) [
+  | inl old ↦ inr (Old, (none, old))
+  | inr never ↦ inr (Damaged, (none, never))
+]
+
+by_body : (most number n : ℕ) (bytes : List ℕ) → most < 2 ^ 32 → HasHead most number n bytes → Front most number bytes
+by_body most number n bytes large has =
+    let framed = take (n + 4) (drop 20 bytes) in
+    let inside = has.inside in
+    let enough = has.enough in
+    let long : length framed - 4 ≡ n = omega (arith, length-take-le (n + 4) (drop 20 bytes) (omega (arith, enough, length-drop 20 bytes))) in
+    elim (same framed (summed (take n framed))) [
+      | inl seal ↦
+          inl (
+            take n (drop 20 bytes),
+            drop (24 + n) bytes,
+            omega (arith, inside, body_long most number n bytes has),
+            record_at most number n bytes has (is_summed framed (take n framed) seal),
+          )
+      | inr other ↦
+          by_unread most number bytes (no_body most number n bytes large has (λ body seal.
+          other (summed_is framed (is_summed framed body seal) ∙ ap (λ k. summed (take k framed)) long)))
+    ]
+
+by_head : (most number : ℕ) (bytes : List ℕ) → most < 2 ^ 32 → 20 ≤ length bytes → Front most number bytes
+by_head most number bytes large enough =
+    let n = from_be_bytes w32 (take 4 (drop 12 bytes)) in
+    let one : (m : ℕ) → m ≤ most → take 20 bytes ≡ head number m → m ≡ n =
+    λ m inside at. said number m bytes (drop 20 bytes) (cut_head number m bytes at) (omega (arith, inside, large)) in
+    elim (same (take 20 bytes) (head number n)) [
+      | inr other ↦ by_unread most number bytes (no_head most number bytes enough (λ m inside at. other (at ∙ ap (head number) (one m inside at))))
+      | inl at ↦ elim (less most n) [
+        | inl far ↦ by_unread most number bytes (no_head most number bytes enough (λ m inside is. omega (arith, far, inside, one m inside is)))
+        | inr inside ↦ elim (less (length bytes) (24 + n)) [
+          | inl few ↦ inr (Torn, (omega (arith, enough), torn_body most number n bytes inside at enough few))
+          | inr all ↦ by_body most number n bytes large (record { inside = inside; is = at; enough = all })
+        ]
+      ]
+    ]
+
+front : (most number : ℕ) (bytes : List ℕ) → most < 2 ^ 32 → Front most number bytes
+front most number [] large = inr (Whole, refl)
+front most number (b ∷ bs) large =
+    let bytes = b ∷ bs in
+    let some : 0 < length bytes = omega arith in
+    elim (less (length bytes) 20) [
+      | inr enough ↦ by_head most number bytes large enough
+      | inl few ↦ elim (same (take 4 bytes) (take (length bytes) version)) [
+        | inl agree ↦ inr (Torn, (some, inl (few, agree)))
+        | inr other ↦ by_unread most number bytes (no_start most number bytes some few (λ inside. other inside.1))
+      ]
+    ]
 
 record_some : (number : ℕ) (body : List ℕ) → 0 < length (record_written number body)
-record_some number body = omega (arith, length-append (spell (length (sealed number body))) (sealed number body), length-sealed number body)
+record_some number body = omega (arith, length-record number body)
 
-reading : (most number fuel : ℕ) (text : List ℕ) → length text < fuel
+reading : (most number fuel : ℕ) (text : List ℕ) → most < 2 ^ 32 → length text < fuel
     → (found : List (List ℕ)) × (end : JournalEnd) × (rest : List ℕ) × IsJournal most number text found end rest
-reading most number zero text enough = absurd (omega (arith, enough))
-reading most number (suc fuel) text enough = elim (front most number text) [
+reading most number zero text large enough = absurd (omega (arith, enough))
+reading most number (suc fuel) text large enough = elim (front most number text large) [
   | inr (end, none) ↦ ([], end, text, none_first most number text end none)
   | inl (body, behind, short, whole) ↦
       let long = ap (λ (w : List ℕ). length w) whole in
       let some = record_some number body in
       let smaller : length behind < fuel = omega (arith, enough, long, some, length-append (record_written number body) behind) in
-      let (found, end, rest, is) = reading most (suc number) fuel behind smaller in
+      let (found, end, rest, is) = reading most (suc number) fuel behind large smaller in
       (body ∷ found, end, rest, behind_first most number text body behind rest found end short whole is)
 ]
 
 -- bytes have one list of records, one end and one rest
-pub one_journal : (most : ℕ) → most < 2 ^ 64 → (text : List ℕ) → HasOneJournal most text
+pub one_journal : (most : ℕ) → most < 2 ^ 32 → (text : List ℕ) → HasOneJournal most text
 one_journal most large text =
-    let (found, end, rest, is) = reading most 0 (suc (length text)) text (omega arith) in record {
+    let (found, end, rest, is) = reading most 0 (suc (length text)) text large (omega arith) in record {
       found = found;
       end = end;
       rest = rest;
@@ -254,17 +238,16 @@ abbrev EndsUndamaged : (most number : ℕ) (text : List ℕ) → List (List ℕ)
 EndsUndamaged most number text found = (end : JournalEnd) × (rest : List ℕ) × IsJournal most number text found end rest × (end ≡ Damaged → ⊥)
 
 -- a record of which bytes are missing
-missing : (most number n : ℕ) (body : List ℕ) → most < 2 ^ 64 → 12 + length body ≤ most → n < length (record_written number body)
+missing : (most number n : ℕ) (body : List ℕ) → most < 2 ^ 32 → length body ≤ most → n < length (record_written number body)
     → EndsUndamaged most number (take n (record_written number body)) []
 missing most number zero body large short few = (Whole, [], none_first most number [] Whole refl, λ e. cc)
 missing most number (suc n) body large short few =
     let written = record_written number body in
-    let torn = begun_open (up_to most) (sealed number body) (take (suc n) written) (drop (suc n) written)
-    (omega (arith, length-sealed number body, large, short)) (in_most most (length (sealed number body)) (omega (arith, length-sealed number body, short)))
-    (sym (take-append-drop (suc n) written)) (omega (arith, length-drop (suc n) written, few)) in
+    let torn = begun most number (length body) (take (suc n) written) (drop (suc n) written) (summed body) (take-append-drop (suc n) written) short
+    (omega (arith, length-take (suc n) written, length-record number body, few)) in
     (Torn, take (suc n) written, none_first most number (take (suc n) written) Torn (omega (arith, length-take (suc n) written, few), torn), λ e. cc)
 
-by_test : (most number n : ℕ) (body : List ℕ) (bodies : List (List ℕ)) (test : Bool) → most < 2 ^ 64 → 12 + length body ≤ most
+by_test : (most number n : ℕ) (body : List ℕ) (bodies : List (List ℕ)) (test : Bool) → most < 2 ^ 32 → length body ≤ most
     → nat_lt n (length (record_written number body)) ≡ test
     → EndsUndamaged most (suc number) (take (n - length (record_written number body)) (records_written (suc number) bodies))
     (whole_of (suc number) (n - length (record_written number body)) bodies)
@@ -283,7 +266,7 @@ by_test most number n body bodies false large short test (end, rest, is, never) 
     let kept = whole_of (suc number) (n - length written) bodies in
     (end, rest, behind_first most number (take n (written ++ more)) body (take (n - length written) more) rest kept end short cut is, never)
 
-first_whole : (most number n : ℕ) (lines : List (List ℕ)) → most < 2 ^ 64 → AreShort most lines
+first_whole : (most number n : ℕ) (lines : List (List ℕ)) → most < 2 ^ 32 → AreShort most lines
     → EndsUndamaged most number (take n (records_written number lines)) (whole_of number n lines)
 first_whole most number n [] large short = (Whole, take n [], none_first most number (take n []) Whole (take-nil n), λ e. cc)
 first_whole most number n (body ∷ bodies) large short =
@@ -291,7 +274,7 @@ first_whole most number n (body ∷ bodies) large short =
     (first_whole most (suc number) (n - length (record_written number body)) bodies large short.1)
 
 -- a whole journal with the first bytes of records after it has those of them that are whole
-pub cut_short : (most n : ℕ) (found lines others : List (List ℕ)) (text rest : List ℕ) (end : JournalEnd) → most < 2 ^ 64 → IsJournal most 0 text found Whole []
+pub cut_short : (most n : ℕ) (found lines others : List (List ℕ)) (text rest : List ℕ) (end : JournalEnd) → most < 2 ^ 32 → IsJournal most 0 text found Whole []
     → AreShort most lines → IsJournal most 0 (text ++ take n (records_written (length found) lines)) others end rest
     → (others ≡ found ++ whole_of (length found) n lines) × (end ≡ Damaged → ⊥)
 cut_short most n found lines others text rest end large was short is =

@@ -1,16 +1,16 @@
 -- A journal that is read piece by piece: all its records were printed, and it ends so after them.
-use Rattle.std.specs.Prelude.{◌≡◌, ℕ, ◌+◌, ◌≤◌, Bool, false, Option, None, Some, IfSome, List, [], ◌∷◌, ◌++◌, length, refl}
+use Rattle.std.specs.Prelude.{◌≡◌, ℕ, ◌+◌, ◌<◌, ◌≤◌, Bool, true, false, Option, None, Some, IfSome, List, [], ◌∷◌, ◌++◌, length, drop, take, slice_index, refl}
 use Rattle.std.specs.Io.KnownBytes.{Appends, Consumes}
 use Rattle.std.proofs.Common.{arith, ap, sym, subst, ◌∙◌, append_assoc, append-nil, length-append}
 use Rattle.std.proofs.KnownBytes.{Appends-nil, Appends-trans, Consumes-nil, Consumes-trans, Consumes-whole}
 use Rattle.std.proofs.lemmas.Bool.Decides.{nat_tests}
-use Rattle.std.proofs.lemmas.List.{nil_from_length}
-use Rattle.iobufs_journal.specs.Journal.{AreShort, HasNoRecord, record_written, records_written}
-use Rattle.iobufs_journal.specs.JournalLaws.{short_on, stays_damaged, written_more}
+use Rattle.std.proofs.lemmas.List.{drop-take, nil_from_length, take-append-le}
+use Rattle.iobufs_journal.specs.Journal.{AreShort, HasNoRecord, IsOld, record_written, records_written}
+use Rattle.iobufs_journal.specs.JournalLaws.{short_on, stays_unread, written_more}
 use Rattle.iobufs_journal.specs.Lines.{most_bytes}
 use Rattle.iobufs_journal.specs.declared.journal.JournalEnd.{JournalEnd}
-use Rattle.iobufs_journal.specs.declared.journal.JournalEnd.TheVariants.{Damaged}
-use Rattle.iobufs_journal.specs.Scan.{IsFilled, IsPrinted, printed}
+use Rattle.iobufs_journal.specs.declared.journal.JournalEnd.TheVariants.{Whole, Torn, Damaged, Old}
+use Rattle.iobufs_journal.specs.Scan.{IsFilled, IsPrinted, printed, settled}
 
 -- where all that a reader had is known, it is what it gave, and what it has left
 pub all_known : (had has : Option (List ℕ)) (bytes : List ℕ) (P : List ℕ → Type 0) → Consumes had has bytes
@@ -45,7 +45,7 @@ printed_more (f ∷ fs) body = ap (λ w. (f ++ 10 ∷ []) ++ w) (printed_more fs
 
 -- a record more was taken from what is held, and printed
 pub one_printed : (a b held middle holds : Option (List ℕ)) (old new body bytes : List ℕ) (number taken next sum : ℕ)
-    → IsPrinting a b held middle old number taken → old ≡ record_written number body ++ new → 12 + length body ≤ most_bytes
+    → IsPrinting a b held middle old number taken → old ≡ record_written number body ++ new → length body ≤ most_bytes
     → bytes ≡ body → Appends middle holds (bytes ++ 10 ∷ []) → next ≡ number + 1 → sum + length new ≡ taken + length old
     → IsPrinting a b held holds new next sum
 one_printed a b held middle holds old new body bytes number taken next sum so_far is fits same put counts sums =
@@ -107,15 +107,48 @@ ended a b held holds window rest number taken end so_far none =
       put = so_far.put;
     }
 
--- what is held is damaged at the front, whatever the reader has left
-pub ended_damaged : (a b held holds : Option (List ℕ)) (window : List ℕ) (number taken : ℕ) → IsPrinting a b held holds window number taken
-    → HasNoRecord most_bytes number window Damaged
-    → IfSome a (λ text. IsPrinted text held holds (record { found = number; taken = taken; end = Damaged }))
-ended_damaged a b held holds window number taken so_far none =
+first_same : (bytes more : List ℕ) → 0 < length bytes → slice_index (bytes ++ more) 0 ≡ slice_index bytes 0
+first_same [] more some = absurd (omega (arith, some))
+first_same (b ∷ bs) more some = refl
+
+numbers_same : (bytes more : List ℕ) → 20 ≤ length bytes → take 6 (drop 3 (bytes ++ more)) ≡ take 6 (drop 3 bytes)
+numbers_same bytes more enough =
+    sym (drop-take 3 6 (bytes ++ more)) ∙ ap (drop 3) (take-append-le 9 bytes more (omega (arith, enough))) ∙ drop-take 3 6 bytes
+
+-- an end that is settled stays with more bytes after it
+stays : (most number : ℕ) (bytes more : List ℕ) (end : JournalEnd) → HasNoRecord most number bytes end → settled end (length bytes) ≡ true
+    → HasNoRecord most number (bytes ++ more) end
+stays most number bytes more Whole none held = cc
+stays most number bytes more Torn none held = cc
+stays most number bytes more Damaged none held =
+    let enough : 20 ≤ length bytes = grind (arith, nat_tests, held) in (
+      stays_unread most number bytes more none.0,
+      λ old. none.1 (record {
+        first = old.first;
+        length_is = λ zero. old.length_is (first_same bytes more (omega (arith, enough)) ∙ zero);
+        number_is = sym (numbers_same bytes more enough) ∙ old.number_is;
+      }),
+    )
+stays most number bytes more Old none held =
+    let enough : 20 ≤ length bytes = grind (arith, nat_tests, held) in
+    let old = none.1 in (
+      stays_unread most number bytes more none.0,
+      record {
+        first = old.first;
+        length_is = λ zero. old.length_is (sym (first_same bytes more (omega (arith, enough))) ∙ zero);
+        number_is = numbers_same bytes more enough ∙ old.number_is;
+      },
+    )
+
+-- no record is at the front of what is held, whatever the reader has left
+pub ended_settled : (a b held holds : Option (List ℕ)) (window : List ℕ) (number taken : ℕ) (end : JournalEnd)
+    → IsPrinting a b held holds window number taken → HasNoRecord most_bytes number window end → settled end (length window) ≡ true
+    → IfSome a (λ text. IsPrinted text held holds (record { found = number; taken = taken; end = end }))
+ended_settled a b held holds window number taken end so_far none is =
     let records = records_written 0 so_far.found in
-    let printed_so = λ (text : List ℕ). IsPrinted text held holds (record { found = number; taken = taken; end = Damaged }) in
+    let printed_so = λ (text : List ℕ). IsPrinted text held holds (record { found = number; taken = taken; end = end }) in
     all_known a b (records ++ window) printed_so so_far.took (λ left some. subst printed_so (sym (append_assoc records window left))
-    (ended a b held holds window (window ++ left) number taken Damaged so_far (stays_damaged most_bytes number window left none)))
+    (ended a b held holds window (window ++ left) number taken end so_far (stays most_bytes number window left end none is)))
 
 -- nothing came, so it ends as what is held does
 pub ended_there : (a b c held holds : Option (List ℕ)) (old new : List ℕ) (number taken : ℕ) (end : JournalEnd) (more : Bool)

@@ -1,68 +1,84 @@
--- Journals: records in order, numbered from 0.
---     sealed, summed                     a number, a body, and the CRC-32 of both; any bytes with theirs
---     record_written, records_written    a length and a sealed body; several, numbered from one on
---     up_to                              the range of lengths that a record may have
---     HasNoRecord                        why no record is at the front: the bytes are at their end, they are cut off,
---                                        or damaged
---     IsTornAt, HasBadLength, IsUnsealed    fewer bytes than the length says, no length or too large a one, and bytes
---                                        that aren't sealed with the number
---     AreShort                           each record has at most this many bytes after its length
+-- Journals: records in order, numbered from 0. A record is a head, a body and the body's CRC-32. A head is sealed by itself: it
+-- has the format's version, the record's number, the body's length, and the CRC-32 of these.
+--     version, front                     what each head begins with; that and a number
+--     summed, head                       bytes with their CRC-32; a front and a length with theirs
+--     record_written, records_written    a head, and a body with its CRC-32; several, numbered from one on
+--     IsTornAt                           the bytes end inside a head (`IsInHead`), or inside the body that follows a head
+--                                        (`IsInBody`)
+--     IsUnread, IsOld                    neither a torn record nor a whole one is at the front; the bytes begin as a journal
+--                                        of the first format does
+--     HasNoRecord                        why no record is at the front: the bytes are at their end, torn, damaged, or of
+--                                        the first format
+--     AreShort                           each body has at most this many bytes
 --     whole_of                           those records of which all bytes are among the first n
 --     IsJournal                          bytes are these records, each short enough, and a rest that no record begins
 --     HasOneJournal, AreAlike            bytes have exactly one list of records, one end and one rest; two of these
 --                                        are equal
-use Rattle.std.specs.Prelude.{◌≤◌, ◌≡◌, ◌⊎◌, ℕ, suc, ◌+◌, ◌-◌, ◌^◌, ◌<◌, nat_lt, if◌then◌else◌, Ok, Err, List, [], ◌∷◌, ◌++◌, length}
+use Rattle.std.specs.Prelude.{◌≤◌, ◌≡◌, ◌⊎◌, ℕ, suc, ◌+◌, ◌-◌, ◌<◌, nat_lt, if◌then◌else◌, List, [], ◌∷◌, ◌++◌, length, take, drop, slice_index}
 use Rattle.std.specs.Int.{w32, w64, to_be_bytes}
-use Rattle.iobufs_core.specs.Spelling.{spell}
-use Rattle.iobufs_core.specs.Wire.{IsLengthRead, bytes_written}
-use Rattle.iobufs_core.specs.declared.codec.base.Error.TheVariants.{EndOfBuffer, InvalidVarint, InvalidLength}
-use Rattle.iobufs_core.specs.declared.codec.base.RangeCfg.{RangeCfg}
 use Rattle.iobufs_journal.specs.Crc.{crc32}
 use Rattle.iobufs_journal.specs.declared.journal.JournalEnd.{JournalEnd}
-use Rattle.iobufs_journal.specs.declared.journal.JournalEnd.TheVariants.{Whole, Torn, Damaged}
+use Rattle.iobufs_journal.specs.declared.journal.JournalEnd.TheVariants.{Whole, Torn, Damaged, Old}
+
+-- "IOJ2"
+abbrev pub version : List ℕ
+version = 73 ∷ 79 ∷ 74 ∷ 50 ∷ []
+
+abbrev pub front : ℕ → List ℕ
+front number = version ++ to_be_bytes w64 number
 
 -- bytes, and their CRC-32
 abbrev pub summed : List ℕ → List ℕ
 summed bytes = bytes ++ to_be_bytes w32 (crc32 bytes)
 
-abbrev pub sealed : ℕ → List ℕ → List ℕ
-sealed number body = summed (to_be_bytes w64 number ++ body)
+-- 20 bytes
+abbrev pub head : ℕ → ℕ → List ℕ
+head number n = summed (front number ++ to_be_bytes w32 n)
 
 abbrev pub record_written : ℕ → List ℕ → List ℕ
-record_written number body = bytes_written (sealed number body)
+record_written number body = head number (length body) ++ summed body
 
 -- records from a number on
 abbrev pub records_written : ℕ → List (List ℕ) → List ℕ
 records_written number [] = []
 records_written number (body ∷ bodies) = record_written number body ++ records_written (suc number) bodies
 
--- the lengths that a record may have
-abbrev pub up_to : ℕ → RangeCfg
-up_to most = record { lo = 0; hi = most }
+-- fewer bytes than a head has, and they begin as one does
+abbrev pub IsInHead : List ℕ → Type 0
+IsInHead bytes = (length bytes < 20) × (take 4 bytes ≡ take (length bytes) version)
 
--- the length at the front may go on, or fewer bytes follow it than it says
-abbrev pub IsTornAt : ℕ → List ℕ → Type 0
-IsTornAt most bytes =
-    IsLengthRead bytes (up_to most) (Err EndOfBuffer) ⊎ ((n : ℕ) × IsLengthRead bytes (up_to most) (Ok n) × (length bytes < length (spell n) + n))
+-- after a head come fewer bytes than its body and the body's sum have
+pub record IsInBody (most number : ℕ) (bytes : List ℕ) : Type 0 where
+  pub n : ℕ
+  pub rest : List ℕ
+  pub inside : n ≤ most
+  pub whole : bytes ≡ head number n ++ rest
+  pub few : length rest < n + 4
 
--- no length is at the front, or one that is too large
-abbrev pub HasBadLength : ℕ → List ℕ → Type 0
-HasBadLength most bytes = IsLengthRead bytes (up_to most) (Err InvalidVarint) ⊎ ((n : ℕ) × IsLengthRead bytes (up_to most) (Err (InvalidLength n)))
+abbrev pub IsTornAt : (most number : ℕ) → List ℕ → Type 0
+IsTornAt most number bytes = IsInHead bytes ⊎ IsInBody most number bytes
 
--- so many bytes follow the length, and aren't a body sealed with this number
-abbrev pub IsUnsealed : ℕ → List ℕ → Type 0
-IsUnsealed number bytes = (framed : List ℕ) × (behind : List ℕ) × (length framed < 2 ^ 64) × (bytes ≡ bytes_written framed ++ behind)
-    × ((body : List ℕ) → framed ≡ sealed number body → ⊥)
+pub record IsUnread (most number : ℕ) (bytes : List ℕ) : Type 0 where
+  pub some : 0 < length bytes
+  pub not_torn : IsTornAt most number bytes → ⊥
+  pub no_record : (body more : List ℕ) → length body ≤ most → bytes ≡ record_written number body ++ more → ⊥
 
-abbrev pub HasNoRecord : ℕ → ℕ → List ℕ → JournalEnd → Type 0
+-- the first format: a length of one to three bytes, of which the first isn't 0, and then the number 0 in eight bytes
+pub record IsOld (number : ℕ) (bytes : List ℕ) : Type 0 where
+  pub first : number ≡ 0
+  pub length_is : slice_index bytes 0 ≡ 0 → ⊥
+  pub number_is : take 6 (drop 3 bytes) ≡ 0 ∷ 0 ∷ 0 ∷ 0 ∷ 0 ∷ 0 ∷ []
+
+abbrev pub HasNoRecord : (most number : ℕ) → List ℕ → JournalEnd → Type 0
 HasNoRecord most number rest Whole = rest ≡ []
-HasNoRecord most number rest Torn = (0 < length rest) × IsTornAt most rest
-HasNoRecord most number rest Damaged = (0 < length rest) × (HasBadLength most rest ⊎ IsUnsealed number rest)
+HasNoRecord most number rest Torn = (0 < length rest) × IsTornAt most number rest
+HasNoRecord most number rest Damaged = IsUnread most number rest × (IsOld number rest → ⊥)
+HasNoRecord most number rest Old = IsUnread most number rest × IsOld number rest
 
--- each record has at most so many bytes after its length
+-- each body has at most so many bytes
 abbrev pub AreShort : ℕ → List (List ℕ) → Type 0
 AreShort most [] = Unit {0}
-AreShort most (body ∷ bodies) = (12 + length body ≤ most) × AreShort most bodies
+AreShort most (body ∷ bodies) = (length body ≤ most) × AreShort most bodies
 
 -- the records of which all bytes are among the first n, where they are written from a number on
 abbrev pub whole_of : ℕ → ℕ → List (List ℕ) → List (List ℕ)

@@ -2,7 +2,7 @@
 --     lines_of, lines_from     the lines of some bytes; and those after a line that was begun
 --     last_of                  the last line, if it has a byte
 --     IsLine                   the first line ends at this offset, or the bytes do
---     most_bytes               how many bytes a record may have after its length
+--     most_bytes               how many bytes a body may have
 --     HasLongLine, IsLast      a line is too long for a record; why no more lines were taken
 --     AreHeld                  bytes are records, and their bodies have a property
 --     AreFirst, AreNext         these are the first lines, whatever follows, and one was begun; it may go on, or is too long
@@ -37,16 +37,16 @@ pub record IsLine (bytes : List ℕ) (at : ℕ) : Type 0 where
   pub free : (k : ℕ) → k < at → (slice_index bytes k == 10) ≡ true → ⊥
   pub ends : at < length bytes → drop at bytes ≡ 10 ∷ drop (at + 1) bytes
 
--- how many bytes a record may have after its length
+-- how many bytes a body may have
 abbrev pub most_bytes : ℕ
-most_bytes = 1048576
+most_bytes = 1048564
 
 -- a line that is too long follows those that were taken
 pub record HasLongLine (text : List ℕ) (taken : List (List ℕ)) : Type 0 where
   pub line : List ℕ
   pub more : List (List ℕ)
   pub next : lines_of text ≡ taken ++ line ∷ more
-  pub long : most_bytes < 12 + length line
+  pub long : most_bytes < length line
 
 -- why no more lines were taken: one is too long, or there are none
 abbrev pub IsLast : List ℕ → List (List ℕ) → Bool → Type 0
@@ -68,7 +68,7 @@ AreFirst text left begun taken = (more : List ℕ) → lines_of (text ++ more) �
 -- all lines of a text but one that was begun, which may go on; or one is too long
 abbrev pub AreNext : (text begun : List ℕ) → Bool → List (List ℕ) → Type 0
 AreNext text begun true taken = (more : List ℕ) → HasLongLine (text ++ more) taken
-AreNext text begun false taken = (12 + length begun ≤ most_bytes) × AreFirst text [] begun taken
+AreNext text begun false taken = (length begun ≤ most_bytes) × AreFirst text [] begun taken
 
 -- these bytes are the lines of what was read, except one that was begun
 abbrev pub IsGoing : ℕ → (read bytes : List ℕ) → Lines → Type 0

@@ -1,11 +1,21 @@
 -- A journal that is read piece by piece, and what is printed of it.
+--     settled      whether more bytes after those that are held leave the end as it is
 --     IsFilled     more bytes are held, or the reader is at its end
 --     printed      the bodies of records, a line each
 --     IsPrinted    the records of the journal were printed, and it ends so after them
-use Rattle.std.specs.Prelude.{◌≡◌, ℕ, Bool, false, nat_lt, Option, List, [], ◌∷◌, ◌++◌, length}
+use Rattle.std.specs.Prelude.{◌≡◌, ℕ, Bool, false, nat_le, nat_lt, Option, List, [], ◌∷◌, ◌++◌, length}
 use Rattle.std.specs.Io.KnownBytes.{Appends, Consumes, IsAtEnd}
 use Rattle.iobufs_journal.specs.Ending.{HasEnding}
 use Rattle.iobufs_journal.specs.declared.journal.Ending.{Ending}
+use Rattle.iobufs_journal.specs.declared.journal.JournalEnd.{JournalEnd}
+use Rattle.iobufs_journal.specs.declared.journal.JournalEnd.TheVariants.{Whole, Torn, Damaged, Old}
+
+-- no record is at the front of as many bytes as a head has
+abbrev pub settled : JournalEnd → ℕ → Bool
+settled Whole held = false
+settled Torn held = false
+settled Damaged held = nat_le 20 held
+settled Old held = nat_le 20 held
 
 -- bytes were read after those that are held: some, or the reader is at its end
 pub record IsFilled (had has : Option (List ℕ)) (old new : List ℕ) (more : Bool) : Type 0 where

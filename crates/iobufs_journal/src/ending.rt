@@ -19,7 +19,8 @@ pub enum Plan {
     Refuse,
 }
 
-/// Plans to append, or to repair if `is_repair`: a torn end is cut off, a damaged one if that is forced.
+/// Plans to append, or to repair if `is_repair`: a torn end is cut off, a damaged one if that is forced. A journal of an older
+/// format stays.
 pub fn planned(end: JournalEnd, is_repair: bool, is_forced: bool) -> Plan
     ensures { result ≡ plan_of end is_repair is_forced }
 {
@@ -27,17 +28,18 @@ pub fn planned(end: JournalEnd, is_repair: bool, is_forced: bool) -> Plan
         JournalEnd::Whole => Plan::Keep,
         JournalEnd::Torn if is_repair => Plan::Cut,
         JournalEnd::Damaged if is_repair && is_forced => Plan::Cut,
-        JournalEnd::Torn | JournalEnd::Damaged => Plan::Refuse,
+        JournalEnd::Torn | JournalEnd::Damaged | JournalEnd::Old => Plan::Refuse,
     }
 }
 
-/// Returns the exit status of a program that read a journal: 0 if it is whole, else 1.
+/// Returns the exit status of a program that read a journal: 0 if it is whole, 4 if its format is older, else 1.
 pub fn status(end: JournalEnd) -> u8
     ensures { result ≡ status_of end }
 {
     match end {
         JournalEnd::Whole => 0,
         JournalEnd::Torn | JournalEnd::Damaged => 1,
+        JournalEnd::Old => 4,
     }
 }
 

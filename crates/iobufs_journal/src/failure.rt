@@ -1,6 +1,7 @@
 // Why a command doesn't do all.
 ghost use Rattle.std.specs.Prelude.{◌≡◌, IfOk, Ok};
 
+use crate::ending::status;
 use crate::journal::Ending;
 use iobufs_core::codec::BufError;
 use std::alloc::AllocError;
@@ -37,10 +38,10 @@ pub enum Failure {
 }
 
 impl Failure {
-    /// Returns the exit status: 1 if a journal isn't whole, else 3.
+    /// Returns the exit status: that of a journal that isn't whole, else 3.
     pub fn status(&self) -> u8 {
         match self {
-            Failure::NotWhole(_) => 1,
+            Failure::NotWhole(ending) => status(ending.end),
             _ => 3,
         }
     }

@@ -8,10 +8,10 @@ use crate::journal::JournalEnd;
 /// journal with the first bytes of records after it has those of them that are whole, and isn't damaged: so a writer that
 /// ends at any byte leaves what was there and its first records.
 pub fn journal_law()
-    ensures one { (most : ℕ) (text : List ℕ) → most < 2 ^ 64 → HasOneJournal most text }
-    ensures written { (most : ℕ) (text : List ℕ) (found written : List (List ℕ)) (end : JournalEnd) (rest : List ℕ) → most < 2 ^ 64 → AreShort most written
+    ensures one { (most : ℕ) (text : List ℕ) → most < 2 ^ 32 → HasOneJournal most text }
+    ensures written { (most : ℕ) (text : List ℕ) (found written : List (List ℕ)) (end : JournalEnd) (rest : List ℕ) → most < 2 ^ 32 → AreShort most written
         → text ≡ records_written 0 written → IsJournal most 0 text found end rest → (found ≡ written) × (end ≡ JournalEnd.Whole) }
-    ensures cut { (most n : ℕ) (found lines others : List (List ℕ)) (text rest : List ℕ) (end : JournalEnd) → most < 2 ^ 64
+    ensures cut { (most n : ℕ) (found lines others : List (List ℕ)) (text rest : List ℕ) (end : JournalEnd) → most < 2 ^ 32
         → IsJournal most 0 text found JournalEnd.Whole [] → AreShort most lines
         → IsJournal most 0 (text ++ take n (records_written (length found) lines)) others end rest
         → (others ≡ found ++ whole_of (length found) n lines) × (end ≡ JournalEnd.Damaged → ⊥) }

@@ -1,24 +1,21 @@
 // Lines that become the records of a journal.
 ghost use Rattle.std.specs.Prelude.{◌+◌, ◌*◌, ◌≤◌, length, IfOk, IfSome, OnErr, OnOk};
 ghost use Rattle.std.specs.Io.KnownBytes.{Appends};
-ghost use Rattle.iobufs_journal.specs.Lines.{HasBegun, IsAppended, IsCutShort, IsEnded, IsFinished, IsLine, TakesLines};
+ghost use Rattle.iobufs_journal.specs.Lines.{HasBegun, IsAppended, IsCutShort, IsEnded, IsFinished, IsLine, TakesLines, most_bytes};
 
 use crate::failure::{Failure, too_large};
-use crate::journal::{MOST, put_record};
+use crate::journal::{MOST_LINE, put_record};
 use crate::scan::{added, read_piece};
 use iobufs_core::buf::IoBufMut;
 use memchr::memchr;
 use std::alloc::Global;
 use std::io::{self, ErrorKind, Read, Write};
 
-/// How many bytes a line may have.
-pub const MOST_LINE: usize = MOST - 12;
-
 // How many bytes are read at a time, at most.
 const PIECE: usize = 1 << 15;
 
 // How many bytes the records of a line that was begun and of a piece take, at most.
-const ROOM: usize = MOST_LINE + 23 * PIECE + 22;
+const ROOM: usize = MOST_LINE + 25 * PIECE + 24;
 
 const WRITE: &'static str = "cannot write the journal";
 
@@ -61,7 +58,8 @@ struct Lines {
 impl Lines {
     // Puts the line that was begun as a record.
     fn end_line(&mut self, out: &mut IoBufMut) -> Result<(), Failure>
-        requires { length self.old.begun.items + 22 ≤ out.old.spare }
+        requires short { length self.old.begun.items ≤ most_bytes }
+        requires room { length self.old.begun.items + 24 ≤ out.old.spare }
         ensures { OnOk result (IsEnded out.old out.new self.old self.new) }
     {
         put_record(out, self.number, self.begun.as_slice());
@@ -72,7 +70,7 @@ impl Lines {
 
     // Puts the lines of a piece, the first after the line that was begun. Ends at one that is too long.
     fn take_lines(&mut self, piece: &[u8], out: &mut IoBufMut) -> Result<bool, Failure>
-        requires { length self.old.begun.items + 23 * length piece.now + 22 ≤ out.old.spare }
+        requires { length self.old.begun.items + 25 * length piece.now + 24 ≤ out.old.spare }
         ensures { IfOk result (TakesLines piece.now out.old.filled out.new.filled self.old self.new) }
     {
         let mut rest = piece;
@@ -92,7 +90,8 @@ impl Lines {
 
     // Puts the last line, which nothing ends.
     fn finish(&mut self, out: &mut IoBufMut) -> Result<(), Failure>
-        requires { length self.old.begun.items + 22 ≤ out.old.spare }
+        requires short { length self.old.begun.items ≤ most_bytes }
+        requires room { length self.old.begun.items + 24 ≤ out.old.spare }
         ensures { OnOk result (IsFinished out.old.filled out.new.filled self.old self.new) }
     {
         if self.begun.is_empty() {

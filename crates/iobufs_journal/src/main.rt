@@ -25,7 +25,7 @@ use std::process::ExitCode;
 
 const NOTE: &'static str = "\
 A line has at most 1048564 bytes.
-Status: 0 done and whole, 1 a journal that isn't whole, 2 wrong words, 3 something failed";
+Status: 0 done and whole, 1 a journal that isn't whole, 2 wrong words, 3 something failed,\n4 a journal of an older format";
 
 // The words of a command on files.
 fn words_of<'a>(alloc: Global, name: &'a str, about: &'a str) -> Result<Command<'a>, AllocError> {

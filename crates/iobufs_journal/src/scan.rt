@@ -1,10 +1,10 @@
 // A journal that is read from its front, piece by piece.
 ghost use Rattle.std.specs.Prelude.{◌≡◌, ◌+◌, ◌<◌, ◌≤◌, ◌++◌, [], ◌∷◌, IfOk, IfSome, OnOk, vec_len};
 ghost use Rattle.std.specs.Io.KnownBytes.{Appends, Consumes, IsAtEnd};
-ghost use Rattle.iobufs_journal.specs.Scan.{IsFilled, IsPrinted};
+ghost use Rattle.iobufs_journal.specs.Scan.{IsFilled, IsPrinted, settled};
 
 use crate::failure::{Failure, named, too_large};
-use crate::journal::{Ending, JournalEnd, MOST, front_record};
+use crate::journal::{Ending, HEAD, JournalEnd, MOST_LINE, front_record};
 use iobufs_core::buf::IoBuf;
 use std::alloc::Global;
 use std::io::{ErrorKind, Read, Write};
@@ -64,6 +64,16 @@ fn fill<R: Read>(alloc: Global, window: &mut IoBuf, from: &mut R) -> Result<bool
     Ok(true)
 }
 
+// Whether more bytes after those that are held leave the end as it is.
+fn is_settled(end: JournalEnd, held: usize) -> bool
+    ensures { result ≡ settled end held }
+{
+    match end {
+        JournalEnd::Whole | JournalEnd::Torn => false,
+        JournalEnd::Damaged | JournalEnd::Old => held >= HEAD,
+    }
+}
+
 // A body and the end of its line.
 fn print_line<W: Write>(body: &[u8], to: &mut W) -> Result<(), Failure>
     ensures { OnOk result (Appends (W.contents to.old) (W.contents to.new) (body.now ++ 10 ∷ [])) }
@@ -80,18 +90,17 @@ pub fn print<R: Read, W: Write>(alloc: Global, from: &mut R, to: &mut W) -> Resu
 {
     let (mut window, mut found, mut taken) = (IoBuf::default(), 0u64, 0u64);
     for _ in 0..u64::MAX {
-        match front_record(alloc, &window, found, MOST)? {
+        match front_record(&window, found, MOST_LINE)? {
             Ok(first) => {
                 print_line(first.body.as_ref(), to)?;
                 taken = added(taken, (window.len() - first.rest.len()) as u64)?;
                 found = added(found, 1)?;
                 window = first.rest;
             }
-            Err(JournalEnd::Damaged) => {
-                let end = JournalEnd::Damaged;
-                return Ok(Ending { found, taken, end });
-            }
             Err(end) => {
+                if is_settled(end, window.len()) {
+                    return Ok(Ending { found, taken, end });
+                }
                 if !fill(alloc, &mut window, from)? {
                     return Ok(Ending { found, taken, end });
                 }

@@ -1,17 +1,19 @@
-use Rattle.std.proofs.Common.{arith}
-use Rattle.std.proofs.lemmas.Bool.Decides.{nat_tests}
+use Rattle.std.proofs.Common.{arith, refl, ◌+◌}
 use Rattle.iobufs_journal.proofs.FrontLaws.{found_at, found_short, none_at}
 use Rattle.iobufs_journal.proofs.journal.front_record.Goals as goal
 
-pub returns-in-Some-clause-found : goal.returns-in-Some-clause-found
-returns-in-Some-clause-found c = found_at c.args.most c.args.number c.args.text.now c.in-Ok.rest c.read_cfg.new.buf c.in-Ok-read_cfg.framed c.in-Some.body
-    c.in-Ok.ensures.cases c.in-Ok-read_cfg.ensures.answer c.in-Ok-read_cfg.ensures.rest (rw c.in-Some.is at c.in_ok-body-in-Ok-read_cfg.ensures.body)
+pub returns-then-not-is_summed-clause-none : goal.returns-then-not-is_summed-clause-none
+returns-then-not-is_summed-clause-none c =
+    (rw c.as_ref-then-not-is_summed.ensures at c.unread.ensures) c.args.most
+    (none_at c.args.most c.args.number c.in-Ok.len (20 + c.in-Ok.len + 4) c.args.text.now.bytes c.requires (rw c.as_ref.ensures at c.in-Ok.ensures.found)
+    (omega arith) (λ is. let bad = c.if-not-is_summed.ensures.1 (rw c.as_ref-2.ensures is) in cc))
 
-pub returns-in-Some-clause-short : goal.returns-in-Some-clause-short
-returns-in-Some-clause-short c = found_short c.args.most c.args.number c.in-Ok.rest c.in-Ok-read_cfg.framed c.in-Some.body c.in-Ok-read_cfg.ensures.answer
-    (rw c.in-Some.is at c.in_ok-body-in-Ok-read_cfg.ensures.body)
+pub returns-clause-found : goal.returns-clause-found
+returns-clause-found c =
+    found_at c.args.most c.args.number c.in-Ok.len (20 + c.in-Ok.len + 4) c.args.text.now c.in_ok-body.body c.in_ok-rest.rest
+    (rw c.as_ref.ensures at c.in-Ok.ensures.found) (omega arith) (rw c.as_ref-2.ensures at (c.if-not-is_summed.ensures.0 refl)) c.in_ok-body.ensures.ok
+    (rw c.len.ensures.value at c.in_ok-rest.ensures.ok)
 
-pub returns-in-Ok-read_cfg-clause-none : goal.returns-in-Ok-read_cfg-clause-none
-returns-in-Ok-read_cfg-clause-none c = none_at c.args.most c.args.number c.args.text.now c.in-Ok.rest c.read_cfg.new.buf c.in-Ok-read_cfg.framed
-    c.in-Ok.ensures.cases c.in-Ok-read_cfg.ensures.answer c.in-Ok-read_cfg.ensures.rest (rw c.in-None.is at c.in_ok-body-in-Ok-read_cfg.ensures.none)
-    (let test = c.is_empty.ensures in let more = c.if-is_empty.false in grind (arith, nat_tests, test, more))
+pub returns-clause-short : goal.returns-clause-short
+returns-clause-short c =
+    found_short c.args.most c.args.number c.in-Ok.len c.args.text.now c.in_ok-body.body (rw c.as_ref.ensures at c.in-Ok.ensures.found) c.in_ok-body.ensures.ok
