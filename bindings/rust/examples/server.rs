@@ -10,11 +10,11 @@ const MOST: usize = 1 << 20;
 
 /// Sends each frame of a connection back, until the client shuts its side down.
 fn serve(stream: TcpStream) -> Result<usize, Box<dyn Error + Send + Sync>> {
-    let mut from = FrameReader::new(stream.try_clone()?, 0..=MOST);
-    let mut to = FrameWriter::new(stream);
+    let mut from = FrameReader::new(stream.try_clone()?, ..=MOST);
+    let mut to = FrameWriter::new(stream, ..=MOST);
     let mut count = 0;
     while let Some(body) = from.next()? {
-        to.put(body);
+        to.put(body)?;
         to.send()?;
         count += 1;
     }
@@ -32,10 +32,10 @@ fn main() -> Result<(), Box<dyn Error + Send + Sync>> {
         IoBufs::from([IoBuf::from(b"two "), IoBuf::from(b"chunks")]),
         IoBufs::from(vec![b'x'; 100_000]),
     ];
-    let mut from = FrameReader::new(stream.try_clone()?, 0..=MOST);
-    let mut to = FrameWriter::new(stream.try_clone()?);
+    let mut from = FrameReader::new(stream.try_clone()?, ..=MOST);
+    let mut to = FrameWriter::new(stream.try_clone()?, ..=MOST);
     for body in &bodies {
-        to.put(body.clone());
+        to.put(body.clone())?;
         to.send()?;
         let back = from.next()?.ok_or("the server closed the connection")?;
         assert_eq!(*body, IoBufs::from(back));

@@ -266,6 +266,7 @@ impl<T: Read> Decode for T {}
 /// Encoding into one buffer.
 pub trait Encode: EncodeSize + Write {
     /// The written value, in a buffer of exactly its size.
+    #[track_caller]
     fn encode(&self) -> IoBufMut {
         let mut buf = IoBufMut::with_capacity(self.encode_size());
         self.write(&mut buf);
@@ -279,6 +280,7 @@ impl<T: EncodeSize + Write> Encode for T {}
 /// Encoding into an `IoBufs`.
 pub trait EncodeExt: EncodeSize + Write {
     /// The written value, whose views are not copied.
+    #[track_caller]
     fn encode_iobufs(&self) -> IoBufs {
         let mut builder = Builder::new(self.encode_inline_size());
         self.write_bufs(&mut builder);
@@ -531,6 +533,7 @@ impl Read for usize {
 }
 
 impl EncodeSize for IoBuf {
+    #[track_caller]
     fn encode_size(&self) -> usize {
         let size = self.encode_inline_size().checked_add(self.len());
         size.expect("length overflow")

@@ -73,6 +73,7 @@ kinds! {
     IobufsMut, 23, iobufsmut_size, iobufsmut_init;
     Builder, 15, iobufs_builder_size, iobufs_builder_init;
     Frames, 8, iobufs_frames_size, iobufs_frames_init;
+    Received, 15, iobufs_received_size, iobufs_received_init;
 }
 
 impl<K: Kind> Memory<K> {
@@ -131,7 +132,7 @@ pub const INVALID_VARINT: u8 = 6;
 pub const INVALID_LENGTH: u8 = 7;
 
 // SAFETY: the signatures are those of the header, with a handle for a pointer to one. Calls that let two buffers share bytes, or
-// drop an owner's, are declared in `owner`.
+// drop an owner's, are declared in `owner`, except for those of a receive block: its bytes are the library's.
 unsafe extern "C" {
     safe fn iobuf_align() -> usize;
     pub safe fn iobuf_drop(src: &mut At<Iobuf>);
@@ -217,6 +218,15 @@ unsafe extern "C" {
     pub safe fn iobufs_frames_drop(frames: &mut At<Frames>);
     pub safe fn iobufs_frames_len(frames: &mut Look<Frames>) -> usize;
     pub safe fn iobufs_frames_set_prefix(frames: &mut At<Frames>, kind: u8) -> u8;
+    fn iobufs_frames_head(prefix: u8, n: usize, out: *mut u8, room: usize, len: &mut usize) -> u8;
+
+    pub safe fn iobufs_received_drop(received: &mut At<Received>);
+    pub safe fn iobufs_received_new(prefix: u8, out: &mut At<Received>) -> u8;
+    pub safe fn iobufs_received_len(received: &mut Look<Received>) -> usize;
+    safe fn iobufs_frames_space(received: &mut At<Received>, out: &mut *const u8, n: &mut usize) -> u8;
+    pub safe fn iobufs_frames_filled(received: &mut At<Received>, n: usize) -> u8;
+    pub safe fn iobufs_received_next(received: &mut At<Received>, lo: usize, hi: usize, out: &mut At<Iobuf>, wrong: &mut usize) -> u8;
+
     pub safe fn iobufs_length_size(n: usize) -> usize;
 }
 
@@ -315,6 +325,30 @@ impl<'a> At<'a, IobufMut> {
         // SAFETY: duty 5: as in `chunk`; these bytes may be written over too, and `'a` borrows the buffer for itself.
         unsafe { slice::from_raw_parts_mut(at.cast_mut(), n) }
     }
+}
+
+impl<'a> At<'a, Received> {
+    /// The space, of at least one byte if the status, which is returned too, is `OK`.
+    #[inline]
+    pub fn space(mut self) -> (&'a mut [u8], u8) {
+        let (mut at, mut n) = (NO_BYTES, 0);
+        let status = iobufs_frames_space(&mut self, &mut at, &mut n);
+        // SAFETY: duty 5: as in `chunk_mut`. The bytes are initialized: zeros, or what the block held before. Unless the status is
+        // `OK`, there are none.
+        (unsafe { slice::from_raw_parts_mut(at.cast_mut(), n) }, status)
+    }
+}
+
+/// The most bytes that a length has.
+pub const HEAD: usize = 10;
+
+/// A length as a prefix writes it, and how many bytes it has, if it can be written so.
+#[inline]
+pub fn head(prefix: u8, n: usize) -> Option<([u8; HEAD], usize)> {
+    let (mut bytes, mut len) = ([0; HEAD], 0);
+    // SAFETY: duty 4: the array's pointer isn't null, it outlives the call, and its bytes may be written.
+    let status = unsafe { iobufs_frames_head(prefix, n, bytes.as_mut_ptr(), HEAD, &mut len) };
+    (status == OK).then_some((bytes, len))
 }
 
 /// A chunk, as `struct iovec` and `IoSlice` have it.

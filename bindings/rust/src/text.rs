@@ -4,7 +4,7 @@ use crate::owner::Chunked;
 use crate::part::IoBufMut;
 use crate::sys::{self, BATCH, Batch};
 use crate::view::IoBuf;
-use crate::{Error, allocated, bounds, done, equals_bytes, gets, length_size, limits, made, read};
+use crate::{Error, allocated, bounds, done, equals_bytes, gets, limits, made, read};
 use std::cmp::Ordering;
 use std::hash::{Hash, Hasher};
 use std::io::IoSlice;
@@ -407,22 +407,19 @@ pub enum Prefix {
     U32Le = 5,
     /// Eight bytes, the lowest first.
     U64Le = 6,
+    /// One byte.
+    U8 = 7,
+    /// Three bytes, the highest first.
+    U24Be = 8,
+    /// Three bytes, the lowest first.
+    U24Le = 9,
 }
 
 impl Prefix {
     /// The length `n` as it is written; `None` if it doesn't fit.
     pub fn written(self, n: usize) -> Option<IoBufMut> {
-        let mut out = IoBufMut::with_capacity(length_size(n).max(size_of::<u64>()));
-        match self {
-            Prefix::Varint => out.put_length(n),
-            Prefix::U16Be => out.put_slice(&u16::try_from(n).ok()?.to_be_bytes()),
-            Prefix::U32Be => out.put_slice(&u32::try_from(n).ok()?.to_be_bytes()),
-            Prefix::U64Be => out.put_slice(&(n as u64).to_be_bytes()),
-            Prefix::U16Le => out.put_slice(&u16::try_from(n).ok()?.to_le_bytes()),
-            Prefix::U32Le => out.put_slice(&u32::try_from(n).ok()?.to_le_bytes()),
-            Prefix::U64Le => out.put_slice(&(n as u64).to_le_bytes()),
-        }
-        Some(out)
+        let (bytes, len) = sys::head(self as u8, n)?;
+        Some(IoBufMut::from(&bytes[..len]))
     }
 }
 

@@ -1,7 +1,9 @@
 //! Frames over readers and writers, which move few bytes at a time, are interrupted, fail, lie, panic, and are counted.
 use iobufs::{Error, FrameError, FrameReader, FrameWriter, Frames, IoBuf, IoBufs, Prefix};
 use std::cell::Cell;
+use std::error::Error as _;
 use std::io::{self, ErrorKind, IoSlice, Read, Write};
+use std::ops::Bound;
 use std::panic::{AssertUnwindSafe, catch_unwind};
 
 /// What a call of a stream does in place of moving bytes.
@@ -159,53 +161,66 @@ fn reads_with_faults() {
     }
 }
 
-/// The sources of errors, which are never those of an interruption.
+/// The errors of a reader, and as errors of std.
 #[test]
 fn errors_of_reads() {
-    let mut from = FrameReader::new(Narrow::with(b"\x03abc", 2, 2, Fault::Fails), 0..=8);
-    assert!(matches!(from.next(), Err(FrameError::Io(error)) if error.kind() == ErrorKind::Other));
-    assert_eq!(from.next().unwrap().unwrap(), b"abc");
-    let mut from = FrameReader::new(&b"\x09"[..], 0..=8);
-    assert!(matches!(from.next(), Err(FrameError::Bad(Error::InvalidLength(9)))));
-    assert!(matches!(FrameReader::new(&b"\x09"[..], 0..=9).next(), Err(FrameError::Cut)));
+    type Case = (Narrow, fn(&FrameError) -> bool, &'static str, ErrorKind);
+    let cases: [Case; 4] = [
+        (Narrow::with(b"\x03abc", 2, 2, Fault::Fails), |it| matches!(it, FrameError::Io(_)), "fails", ErrorKind::Other),
+        (Narrow::new(b"\x09", 2), |it| matches!(it, FrameError::Bad(Error::InvalidLength(9))), "InvalidLength(9)", ErrorKind::InvalidData),
+        (Narrow::new(b"\x80\0", 2), |it| matches!(it, FrameError::Bad(Error::InvalidVarint)), "InvalidVarint", ErrorKind::InvalidData),
+        (Narrow::new(b"\x08", 2), |it| matches!(it, FrameError::Cut), "", ErrorKind::UnexpectedEof),
+    ];
+    for (stream, is, source, kind) in cases {
+        let mut from = FrameReader::new(stream, ..9);
+        let error = from.next().unwrap_err();
+        assert!(is(&error), "{error:?}");
+        assert_eq!(error.source().map_or(String::new(), |it| it.to_string()), source);
+        let (told, error) = (error.to_string(), io::Error::from(error));
+        assert_eq!((error.kind(), error.to_string()), (kind, told));
+        assert!(!from.get_ref().calls.is_empty());
+    }
 }
 
-/// Counts its reads, of at most `most` bytes.
+/// Counts its reads, of at most `most` bytes, and their bytes.
 struct Counted<'a> {
     bytes: &'a [u8],
     most: usize,
     reads: &'a Cell<usize>,
+    came: &'a Cell<usize>,
 }
 
 impl Read for Counted<'_> {
     fn read(&mut self, dst: &mut [u8]) -> io::Result<usize> {
         self.reads.set(self.reads.get() + 1);
         let n = dst.len().min(self.most);
-        self.bytes.read(&mut dst[..n])
+        let n = self.bytes.read(&mut dst[..n])?;
+        self.came.set(self.came.get() + n);
+        Ok(n)
     }
 }
 
-// Frames that come by one read are taken without a further read; then one finds the end.
+// A frame is taken without a read, if its bytes came; a read fills the space. After the last frame one finds the end.
 #[test]
 fn reads_are_counted() {
     let bytes = b"\x02ab\0\x01c".repeat(1000);
-    for (most, reads) in [(usize::MAX, 2), (2500, 4), (100, 61)] {
-        let counter = Cell::new(0);
-        let mut from = FrameReader::new(Counted { bytes: &bytes, most, reads: &counter }, 0..=2);
-        let mut taken = 0;
+    for (most, all) in [(usize::MAX, 3), (2500, 4), (100, 62), (1, 6001)] {
+        let (reads, came, mut taken) = (Cell::new(0), Cell::new(0), 0);
+        let mut from = FrameReader::new(Counted { bytes: &bytes, most, reads: &reads, came: &came }, ..=2);
         for i in 0..3000 {
-            let body = from.next().unwrap().unwrap();
-            assert_eq!(body, [&b"ab"[..], b"", b"c"][i % 3]);
-            taken += 1 + body.len();
-            assert_eq!(counter.get(), taken.div_ceil(most), "{i} by {most}");
+            let (before, size) = (reads.get(), [3, 1, 2][i % 3]);
+            let is_held = came.get() - taken >= size;
+            assert_eq!(from.next().unwrap().unwrap(), [&b"ab"[..], b"", b"c"][i % 3]);
+            taken += size;
+            assert_eq!(reads.get() == before, is_held, "{i} by {most}");
         }
         assert!(from.next().unwrap().is_none());
-        assert_eq!(counter.get(), reads);
+        assert_eq!(reads.get(), all, "by {most}");
     }
     let long = [&b"\xc0\xb8\x02"[..], &[7; 40_000]].concat();
-    let counter = Cell::new(0);
-    let mut from = FrameReader::new(Counted { bytes: &long, most: usize::MAX, reads: &counter }, 0..=40_000);
-    assert!(from.next().unwrap().unwrap() == [7; 40_000] && counter.get() <= 6, "{counter:?}");
+    let (reads, came) = (Cell::new(0), Cell::new(0));
+    let mut from = FrameReader::new(Counted { bytes: &long, most: usize::MAX, reads: &reads, came: &came }, ..=40_000);
+    assert!(from.next().unwrap().unwrap() == [7; 40_000] && reads.get() <= 6, "{reads:?}");
 }
 
 // Bodies that come by one read are where it put them.
@@ -226,27 +241,27 @@ fn body() -> IoBufs {
 const SENT: &[u8] = b"\x09abcdefghi\0";
 
 fn put_both(to: &mut FrameWriter<Narrow>) {
-    to.put(body());
-    to.put(IoBuf::default());
+    to.put(body()).unwrap();
+    to.put(IoBuf::default()).unwrap();
     assert!(!to.is_sent());
 }
 
 #[test]
 fn frames_are_sent() {
     for (most, calls) in [(1, "1 1 1 1 1 1 1 1 1 1 1 |"), (3, "3 3 3 2 |"), (7, "7 4 |"), (100, "11 |")] {
-        let mut to = FrameWriter::new(Narrow::new(b"", most));
+        let mut to = FrameWriter::new(Narrow::new(b"", most), ..);
         put_both(&mut to);
         to.send().unwrap();
         assert!(to.is_sent());
         let to = to.into_inner();
         assert_eq!((&to.bytes[..], &to.calls()[..]), (SENT, calls), "by {most}");
     }
-    let mut to = FrameWriter::new(Narrow::new(b"", 0));
+    let mut to = FrameWriter::new(Narrow::new(b"", 0), ..);
     put_both(&mut to);
     assert_eq!(to.send().unwrap_err().kind(), ErrorKind::WriteZero);
     assert!(!to.is_sent());
     assert_eq!(to.into_inner().calls(), "0");
-    let mut to = FrameWriter::new(Narrow::new(b"", 9));
+    let mut to = FrameWriter::new(Narrow::new(b"", 9), ..);
     to.send().unwrap();
     assert_eq!(to.into_inner().calls(), "|");
 }
@@ -257,7 +272,7 @@ fn writes_with_faults() {
     let ends = |most: usize| SENT.len().div_ceil(most) + 1;
     for fault in [Fault::Interrupted, Fault::Fails, Fault::Panics] {
         for (most, at) in [1, 3, 100].into_iter().flat_map(|most| (1..=ends(most)).map(move |at| (most, at))) {
-            let mut to = FrameWriter::new(Narrow::with(b"", most, at, fault));
+            let mut to = FrameWriter::new(Narrow::with(b"", most, at, fault), ..);
             put_both(&mut to);
             let sent = catch_unwind(AssertUnwindSafe(|| to.send()));
             let of_flush = at == ends(most);
@@ -268,7 +283,7 @@ fn writes_with_faults() {
                 _ => assert!(sent.unwrap().is_ok()),
             }
             assert_eq!(to.is_sent(), of_flush || fault == Fault::Interrupted, "{fault:?} by {most} at {at}");
-            to.put(b"more");
+            to.put(b"more").unwrap();
             to.send().unwrap();
             let to = to.into_inner();
             assert_eq!(to.bytes, [SENT, b"\x04more"].concat(), "{fault:?} by {most} at {at}");
@@ -279,12 +294,14 @@ fn writes_with_faults() {
     }
 }
 
-// A writer that says that it took more than it was given panics, as std's `write_all` does, and nothing is lost.
+// A writer that says that it took more than it was given took nothing: nothing is lost.
 #[test]
 fn writes_that_lie() {
-    let mut to = FrameWriter::new(Narrow::with(b"", 100, 1, Fault::Lies));
+    let mut to = FrameWriter::new(Narrow::with(b"", 100, 1, Fault::Lies), ..);
     put_both(&mut to);
-    assert!(catch_unwind(AssertUnwindSafe(|| to.send())).is_err());
+    let error = to.send().unwrap_err();
+    assert_eq!((error.kind(), &error.to_string()[..]), (ErrorKind::Other, "a writer says that it took more than it was given"));
+    assert!(!to.is_sent());
     to.send().unwrap();
     assert_eq!(to.into_inner().bytes, SENT);
 }
@@ -293,13 +310,13 @@ fn writes_that_lie() {
 #[test]
 fn chunks_are_sent_as_they_are() {
     let chunks: Vec<IoBuf> = (0..10).map(|i| IoBuf::from(vec![i; 100])).collect();
-    let mut to = FrameWriter::new(Narrow::new(b"", usize::MAX));
-    to.put(IoBufs::from(chunks.clone()));
+    let mut to = FrameWriter::new(Narrow::new(b"", usize::MAX), ..);
+    to.put(IoBufs::from(chunks.clone())).unwrap();
     to.send().unwrap();
     let wanted: Vec<*const u8> = chunks.iter().map(IoBuf::as_ptr).collect();
     assert_eq!((&to.into_inner().chunks[1..]), &wanted[..]);
-    let mut to = FrameWriter::new(Narrow::new(b"", usize::MAX));
-    (0..100).for_each(|_| to.put(chunks[0].clone()));
+    let mut to = FrameWriter::new(Narrow::new(b"", usize::MAX), ..);
+    (0..100).for_each(|_| to.put(chunks[0].clone()).unwrap());
     to.send().unwrap();
     let to = to.into_inner();
     assert_eq!((to.bytes.len(), to.calls.len() <= 5), (10_100, true), "{}", to.calls());
@@ -307,7 +324,7 @@ fn chunks_are_sent_as_they_are() {
 
 #[test]
 fn frames_of_each_prefix() {
-    let cases: [(Prefix, &[u8]); 7] = [
+    let cases: [(Prefix, &[u8]); 10] = [
         (Prefix::Varint, b"\x03abc\0"),
         (Prefix::U16Be, b"\0\x03abc\0\0"),
         (Prefix::U32Be, b"\0\0\0\x03abc\0\0\0\0"),
@@ -315,11 +332,14 @@ fn frames_of_each_prefix() {
         (Prefix::U16Le, b"\x03\0abc\0\0"),
         (Prefix::U32Le, b"\x03\0\0\0abc\0\0\0\0"),
         (Prefix::U64Le, b"\x03\0\0\0\0\0\0\0abc\0\0\0\0\0\0\0\0"),
+        (Prefix::U8, b"\x03abc\0"),
+        (Prefix::U24Be, b"\0\0\x03abc\0\0\0"),
+        (Prefix::U24Le, b"\x03\0\0abc\0\0\0"),
     ];
     for (prefix, bytes) in cases {
-        let mut to = FrameWriter::with_prefix(Narrow::new(b"", 3), prefix);
-        to.put(IoBuf::from(b"abc"));
-        to.put(IoBuf::default());
+        let mut to = FrameWriter::with_prefix(Narrow::new(b"", 3), prefix, ..);
+        to.put(IoBuf::from(b"abc")).unwrap();
+        to.put(IoBuf::default()).unwrap();
         to.send().unwrap();
         assert_eq!(to.into_inner().bytes, bytes, "{prefix:?}");
         let mut from = FrameReader::with_prefix(Narrow::new(bytes, 3), prefix, 0..=8);
@@ -328,17 +348,69 @@ fn frames_of_each_prefix() {
         let mut frames = Frames::new(prefix);
         frames.feed(IoBuf::copy_from_slice(bytes));
         assert_eq!(frames.next(..=2), Err(Error::InvalidLength(3)), "{prefix:?}");
-        let mut to = FrameWriter::with_prefix(Vec::new(), prefix);
-        to.put(IoBufs::from([vec![7; 2000].into(), vec![7; 3000].into()]));
+        let mut to = FrameWriter::with_prefix(Vec::new(), prefix, ..);
+        to.put(IoBufs::from([vec![7; 100].into(), vec![7; 150].into()])).unwrap();
         to.send().unwrap();
         let long = to.into_inner();
-        let mut from = FrameReader::with_prefix(&long[..], prefix, 0..=5000);
-        assert!(from.next().unwrap().unwrap() == [7; 5000] && from.next().unwrap().is_none(), "{prefix:?}");
+        let mut from = FrameReader::with_prefix(&long[..], prefix, 0..=250);
+        assert!(from.next().unwrap().unwrap() == [7; 250] && from.next().unwrap().is_none(), "{prefix:?}");
     }
 }
 
+/// Lengths of bodies that aren't put, in this range and before this prefix; and that are.
 #[test]
-#[should_panic(expected = "the body is too long for its prefix")]
-fn a_body_above_its_prefix() {
-    FrameWriter::with_prefix(Vec::new(), Prefix::U16Be).put(vec![0; 1 << 16]);
+fn bodies_outside_the_range() {
+    type Case = (Prefix, (Bound<usize>, Bound<usize>), &'static [usize], &'static [usize]);
+    let cases: [Case; 6] = [
+        (Prefix::Varint, (Bound::Unbounded, Bound::Included(8)), &[9, 1000], &[0, 8]),
+        (Prefix::Varint, (Bound::Included(3), Bound::Excluded(5)), &[0, 2, 5], &[3, 4]),
+        (Prefix::Varint, (Bound::Excluded(3), Bound::Unbounded), &[3], &[4]),
+        (Prefix::U8, (Bound::Unbounded, Bound::Unbounded), &[256], &[255]),
+        (Prefix::U16Be, (Bound::Unbounded, Bound::Unbounded), &[1 << 16], &[(1 << 16) - 1]),
+        (Prefix::U24Le, (Bound::Unbounded, Bound::Unbounded), &[1 << 24], &[(1 << 24) - 1]),
+    ];
+    for (prefix, range, outside, inside) in cases {
+        let mut to = FrameWriter::with_prefix(Vec::new(), prefix, range);
+        for &n in outside {
+            assert_eq!(to.put(vec![7; n]), Err(Error::InvalidLength(n)), "{prefix:?} {range:?}");
+            assert!(to.is_sent());
+        }
+        inside.iter().for_each(|&n| to.put(vec![7; n]).unwrap());
+        to.send().unwrap();
+        assert_eq!(to.put(vec![7; outside[0]]), Err(Error::InvalidLength(outside[0])));
+        let bytes = to.into_inner();
+        let mut from = FrameReader::with_prefix(&bytes[..], prefix, range);
+        inside.iter().for_each(|&n| assert!(from.next().unwrap().unwrap()[..] == vec![7; n]));
+        assert!(from.next().unwrap().is_none() && from.into_inner().is_empty());
+    }
+}
+
+/// An owner of bytes, whose drop panics.
+struct Grenade([u8; 4]);
+
+impl AsRef<[u8]> for Grenade {
+    fn as_ref(&self) -> &[u8] {
+        &self.0
+    }
+}
+
+impl Drop for Grenade {
+    fn drop(&mut self) {
+        panic!("an owner panics");
+    }
+}
+
+// The drop of a body's owner may panic, after its last byte was sent. No byte is lost or written twice.
+#[test]
+fn owners_that_panic() {
+    for most in [1, 4, 5, 6, 100] {
+        let mut to = FrameWriter::new(Narrow::new(b"", most), ..);
+        let owned = IoBufs::from([IoBuf::from_owner(Grenade(*b"boom")), IoBuf::from(b"-end")]);
+        to.put(owned).unwrap();
+        to.put(IoBuf::from_owner(Grenade(*b"bang"))).unwrap();
+        to.put(b"last").unwrap();
+        let panics = std::iter::from_fn(|| catch_unwind(AssertUnwindSafe(|| to.send().unwrap())).err()).count();
+        assert_eq!((panics, to.is_sent()), (2, true), "by {most}");
+        assert_eq!(to.get_ref().bytes, b"\x08boom-end\x04bang\x04last", "by {most}");
+    }
 }
