@@ -218,13 +218,17 @@ def promises():
         yield "|" + ", ".join(f"`{name}`" for name in re.findall(r"^  pub (\w+)", fields, flags=re.M)) + f"|{said}|"
 
 
+LANGUAGES = {".rt": "rust", ".c": "c"}
+
+
 def code(name):
     """The lines of a source or a proof between `// [docs: NAME]` and `// [docs end]` (there `-- ..`)."""
-    for file in [*sorted(CRATES.glob("*/src/**/*.rt")), *sorted(CRATES.glob("*/proofs/**/*.antt"))]:
+    globs = ["crates/*/src/**/*.rt", "crates/*/proofs/**/*.antt", "bindings/c/examples/*.c"]
+    for file in [file for it in globs for file in sorted(ROOT.glob(it))]:
         found = re.search(rf"^ *(?://|--) \[docs: {name}\]\n(.*?)^ *(?://|--) \[docs end\]", file.read_text(), flags=re.M | re.S)
         if found:
             path = file.relative_to(ROOT)
-            return f"[{path}](PATH{path}):\n\n```{'rust' if file.suffix == '.rt' else ''}\n{found[1].strip()}\n```"
+            return f"[{path}](PATH{path}):\n\n```{LANGUAGES.get(file.suffix, '')}\n{found[1].strip()}\n```"
     raise LookupError(f"no source has `// [docs: {name}]`")
 
 

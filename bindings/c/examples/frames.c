@@ -7,43 +7,57 @@
 #include <stdio.h>
 #include <unistd.h>
 
-enum { MOST = 1 << 20, AT_ONCE = 1 << 16, SHOWN = 32 };
+enum { MOST = 1 << 20, SHOWN = 32 };
 
-/* Says why the program ends, and drops what is held. */
-static int stop(struct iobufs_frames_at *frames, int status, const char *why) {
-    iobufs_frames_drop(frames);
-    if (why) fprintf(stderr, "frames: %s\n", why);
+// [docs: read_frame_c]
+/* Takes the next frame of a descriptor. IOBUFS_END_OF_BUFFER if it ends, or can't be read: then errno isn't 0. */
+static iobufs_status read_frame(int fd, struct iobufs_received_at *block, struct iobuf_at *body) {
+    iobufs_status status;
+    size_t wrong, space;
+    uint8_t *at;
+    while ((status = iobufs_received_next(block, 0, MOST, body, &wrong)) == IOBUFS_END_OF_BUFFER) {
+        status = iobufs_frames_space(block, &at, &space);
+        if (status != IOBUFS_OK) return status;
+        errno = 0;
+        ssize_t n = read(fd, at, space);
+        if (n < 0 && errno == EINTR) continue;
+        if (n <= 0) return IOBUFS_END_OF_BUFFER;
+        status = iobufs_frames_filled(block, (size_t)n);
+        if (status != IOBUFS_OK) return status;
+    }
+    return status;
+}
+// [docs end]
+
+static void print_frame(const struct iobuf_at *body) {
+    const uint8_t *at = NULL;
+    size_t n = iobuf_chunk(body, &at);
+    printf("%zu %.*s%s\n", n, (int)(n < SHOWN ? n : SHOWN), n ? (const char *)at : "", n > SHOWN ? ".." : "");
+}
+
+/* Says why the program ends, and returns its status. */
+static int stop(int status, const char *why) {
+    fprintf(stderr, "frames: %s\n", why);
     return status;
 }
 
-/* Prints each whole frame that is held. IOBUFS_END_OF_BUFFER if more bytes are needed. */
-static iobufs_status print_frames(struct iobufs_frames_at *frames) {
-    struct iobuf_at body = IOBUF_INIT;
-    iobufs_status status;
-    size_t wrong;
-    while ((status = iobufs_frames_next(frames, 0, MOST, &body, &wrong)) == IOBUFS_OK) {
-        const uint8_t *at = NULL;
-        size_t n = iobuf_chunk(&body, &at);
-        printf("%zu %.*s%s\n", n, (int)(n < SHOWN ? n : SHOWN), n ? (const char *)at : "", n > SHOWN ? ".." : "");
-    }
-    iobuf_drop(&body);
-    return status;
+/* The program's status, after the last frame. */
+static int end(iobufs_status status, size_t left) {
+    if (status == IOBUFS_END_OF_BUFFER && errno) return stop(3, "cannot read");
+    if (status == IOBUFS_END_OF_BUFFER) return left ? stop(1, "the input ends inside a frame") : 0;
+    return stop(status == IOBUFS_MEMORY ? 3 : 2, iobufs_strerror(status));
 }
 
 int main(void) {
-    struct iobufs_frames_at frames = IOBUFS_FRAMES_INIT;
-    static uint8_t bytes[AT_ONCE];
-    for (;;) {
-        iobufs_status status = print_frames(&frames);
-        if (status != IOBUFS_END_OF_BUFFER) return stop(&frames, status == IOBUFS_MEMORY ? 3 : 2, iobufs_strerror(status));
-        ssize_t n = read(STDIN_FILENO, bytes, sizeof bytes);
-        if (n < 0 && errno == EINTR) continue;
-        if (n < 0) return stop(&frames, 3, "cannot read");
-        if (n == 0) return iobufs_frames_len(&frames) ? stop(&frames, 1, "the input ends inside a frame") : stop(&frames, 0, NULL);
-        struct iobuf_at chunk = IOBUF_INIT;
-        status = iobuf_copy_from_slice(bytes, (size_t)n, &chunk);
-        if (status == IOBUFS_OK) status = iobufs_frames_feed(&frames, &chunk);
-        iobuf_drop(&chunk);
-        if (status != IOBUFS_OK) return stop(&frames, 3, iobufs_strerror(status));
+    struct iobufs_received_at block = IOBUFS_RECEIVED_INIT;
+    struct iobuf_at body = IOBUF_INIT;
+    iobufs_status status = iobufs_received_new(IOBUFS_VARINT, &block);
+    while (status == IOBUFS_OK) {
+        status = read_frame(STDIN_FILENO, &block, &body);
+        if (status == IOBUFS_OK) print_frame(&body);
     }
+    int ended = end(status, iobufs_received_len(&block));
+    iobufs_received_drop(&block);
+    iobuf_drop(&body);
+    return ended;
 }
