@@ -2,7 +2,7 @@
  * iobufs: the byte buffers of commonware-runtime (src/iobuf), proved in Rattle, for C99 and C++.
  *
  * A buffer is memory of the caller: a `struct iobuf`, `struct iobufs`, .. of the size and the alignment below.
- * `.._init` makes a buffer of such memory, and a place (`struct iobuf_at`, ..) names it to every other call:
+ * `.._init` makes a buffer of such memory, and a handle (`struct iobuf_at`, ..) names it to every other call:
  *
  *     struct iobuf memory;
  *     struct iobuf_at view = { &memory };
@@ -13,15 +13,15 @@
  * A call that can fail returns a status (`iobufs_status`, named by `iobufs_strerror`), and the compiler warns if it isn't looked
  * at. A call that cannot fail returns its answer or nothing. Ranges, offsets and space are tested: if they don't fit, the
  * status says so, and unless the comment says otherwise nothing has changed. A buffer that is moved into another leaves its
- * own place empty; an empty place may be used, and dropped, again. What an `out` place held is dropped.
+ * own handle empty; an empty handle may be used, and dropped, again. What an `out` handle held is dropped.
  *
  * The caller's duties, which nothing tests:
- *  1. A place names memory that an `.._init` made a buffer of. Memory is freed only after a `.._drop` (or
+ *  1. A handle names memory that an `.._init` made a buffer of. Memory is freed only after a `.._drop` (or
  *     what the buffer holds is leaked). It may be moved (memcpy), and the buffer with it; never two copies may be used.
- *  2. The places and other pointers of one call don't overlap: `iobuf_clone(&a, &a)` is not allowed.
+ *  2. The handles and other pointers of one call don't overlap: `iobuf_clone(&a, &a)` is not allowed.
  *  3. One call at a time uses a buffer. Another thread may use it after what orders the two (a lock, a thread's start or
  *     join, a SEQ_CST atomic); buffers that share a block may be used by several threads at once. Calls that only look
- *     (at a const place, and `.._chunk` of a writable buffer) may be several at once on one buffer: that is tested, not
+ *     (at a const handle, and `.._chunk` of a writable buffer) may be several at once on one buffer: that is tested, not
  *     proved.
  *  4. Pointers to bytes are not NULL, also for 0 bytes, and outlive the call. The bytes of `iobuf_from_static` live, unchanged,
  *     until the last buffer made of them is dropped.
@@ -109,7 +109,7 @@ struct iobufs_frames_at { struct iobufs_frames *at; };
 struct iobufs_received_at { struct iobufs_received *at; };
 
 /* `struct iobuf_at view = IOBUF_INIT;` makes an empty buffer, whose memory lives as long as the block around it (C alone):
- * one line in place of the memory, the place and the call of `.._init`. */
+ * one line in place of the memory, the handle and the call of `.._init`. */
 #ifndef __cplusplus
 #define IOBUF_INIT iobuf_made(&(struct iobuf){{0}})
 #define IOBUFMUT_INIT iobufmut_made(&(struct iobufmut){{0}})
@@ -184,7 +184,7 @@ IOBUFS_CHECKED iobufs_status iobuf_try_into_mut(struct iobuf_at *src, struct iob
 size_t iobufmut_size(void);
 /* The library's alignment of a `struct iobufmut`. */
 size_t iobufmut_align(void);
-/* Makes a place with no buffer of memory. No memory. */
+/* Makes a handle with no buffer of memory. No memory. */
 void iobufmut_init(struct iobufmut *at);
 /* Drops the buffer; none is left. (Drop) */
 void iobufmut_drop(struct iobufmut_at *part);
@@ -253,65 +253,65 @@ size_t iobufs_align(void);
 /* Makes memory an empty iobufs. No memory. (IoBufs::default) */
 void iobufs_init(struct iobufs *at);
 /* Drops the bytes; it is empty then. (Drop) */
-void iobufs_drop(struct iobufs_at *text);
+void iobufs_drop(struct iobufs_at *bufs);
 /* An iobufs of one view, which is left empty. No memory. (From<IoBuf>) */
 void iobufs_from_view(struct iobuf_at *src, struct iobufs_at *out);
 /* An iobufs of a writable buffer; none is left. Memory none today; IOBUFS_MEMORY drops the buffer. (From<IoBufMut>) */
 IOBUFS_CHECKED iobufs_status iobufs_from_mut(struct iobufmut_at *part, struct iobufs_at *out);
 /* The same bytes once more, in their storage; memory for the deque of chunks. (Clone) */
-IOBUFS_CHECKED iobufs_status iobufs_clone(const struct iobufs_at *text, struct iobufs_at *out);
+IOBUFS_CHECKED iobufs_status iobufs_clone(const struct iobufs_at *bufs, struct iobufs_at *out);
 /* The number of bytes. (IoBufs::len) */
-size_t iobufs_len(const struct iobufs_at *text);
+size_t iobufs_len(const struct iobufs_at *bufs);
 /* Whether there are none. (IoBufs::is_empty) */
-bool iobufs_is_empty(const struct iobufs_at *text);
+bool iobufs_is_empty(const struct iobufs_at *bufs);
 /* Whether both hold the same bytes, for every chunking. (==) */
-bool iobufs_eq(const struct iobufs_at *text, const struct iobufs_at *other);
+bool iobufs_eq(const struct iobufs_at *bufs, const struct iobufs_at *other);
 /* Whether all bytes are in one chunk. (is_single) */
-bool iobufs_is_single(const struct iobufs_at *text);
+bool iobufs_is_single(const struct iobufs_at *bufs);
 /* The number of chunks that hold bytes. (chunk_count) */
-size_t iobufs_chunk_count(const struct iobufs_at *text);
+size_t iobufs_chunk_count(const struct iobufs_at *bufs);
 /* Writes a pointer to the first chunk, if there are bytes, and returns its length. (Buf::chunk) */
-size_t iobufs_chunk(const struct iobufs_at *text, const uint8_t **out);
+size_t iobufs_chunk(const struct iobufs_at *bufs, const uint8_t **out);
 /* Writes a pointer to chunk i, counted from 0, and returns its length; 0 if there is none. (chunk_at) */
-size_t iobufs_chunk_at(const struct iobufs_at *text, size_t i, const uint8_t **out);
+size_t iobufs_chunk_at(const struct iobufs_at *bufs, size_t i, const uint8_t **out);
 /* Fills a list of n for writev with the first chunks, and returns how many it filled. No memory.
  * iobufs_advance then takes the count that writev returns. (Buf::chunks_vectored) */
-size_t iobufs_chunks(const struct iobufs_at *text, struct iobufs_chunk *out, size_t n);
+size_t iobufs_chunks(const struct iobufs_at *bufs, struct iobufs_chunk *out, size_t n);
 /* Fills a list of n with the chunks from chunk first on, counted from 0, and returns how many it filled; 0 if there are
  * none. So a loop takes many chunks at a time. No memory. (own) */
-size_t iobufs_chunks_from(const struct iobufs_at *text, size_t first, struct iobufs_chunk *out, size_t n);
+size_t iobufs_chunks_from(const struct iobufs_at *bufs, size_t first, struct iobufs_chunk *out, size_t n);
 /* Writes the byte at offset i, and returns whether there is one. (own) */
-bool iobufs_byte_at(const struct iobufs_at *text, size_t i, uint8_t *out);
+bool iobufs_byte_at(const struct iobufs_at *bufs, size_t i, uint8_t *out);
 /* Writes the index of the chunk that contains an offset, and the distance from its start; IOBUFS_OUT_OF_RANGE at the end.
  * No memory. (own) */
-IOBUFS_CHECKED iobufs_status iobufs_locate(const struct iobufs_at *text, size_t at, size_t *index, size_t *offset);
-/* Adds a view at the end, and leaves its place empty; at times memory for the deque of chunks. IOBUFS_TOO_LONG if the
+IOBUFS_CHECKED iobufs_status iobufs_locate(const struct iobufs_at *bufs, size_t at, size_t *index, size_t *offset);
+/* Adds a view at the end, and leaves its handle empty; at times memory for the deque of chunks. IOBUFS_TOO_LONG if the
  * length would pass SIZE_MAX. After an error both are unchanged. (append) */
-IOBUFS_CHECKED iobufs_status iobufs_append(struct iobufs_at *text, struct iobuf_at *piece);
-/* Adds a view at the start, and leaves its place empty; at times memory; IOBUFS_TOO_LONG as above. (prepend) */
-IOBUFS_CHECKED iobufs_status iobufs_prepend(struct iobufs_at *text, struct iobuf_at *piece);
+IOBUFS_CHECKED iobufs_status iobufs_append(struct iobufs_at *bufs, struct iobuf_at *view);
+/* Adds a view at the start, and leaves its handle empty; at times memory; IOBUFS_TOO_LONG as above. (prepend) */
+IOBUFS_CHECKED iobufs_status iobufs_prepend(struct iobufs_at *bufs, struct iobuf_at *view);
 /* Takes the first `at` bytes; IOBUFS_OUT_OF_RANGE if there are fewer; at times memory. (IoBufs::split_to) */
-IOBUFS_CHECKED iobufs_status iobufs_split_to(struct iobufs_at *text, size_t at, struct iobufs_at *out);
+IOBUFS_CHECKED iobufs_status iobufs_split_to(struct iobufs_at *bufs, size_t at, struct iobufs_at *out);
 /* The bytes from offset lo to hi, in their storage; IOBUFS_OUT_OF_RANGE if lo is above hi, or hi above the length; memory. It costs
  * the chunks of that range alone. (own) */
-IOBUFS_CHECKED iobufs_status iobufs_slice(const struct iobufs_at *text, size_t lo, size_t hi, struct iobufs_at *out);
+IOBUFS_CHECKED iobufs_status iobufs_slice(const struct iobufs_at *bufs, size_t lo, size_t hi, struct iobufs_at *out);
 /* Drops the first n bytes; IOBUFS_OUT_OF_RANGE if there are fewer. No memory. (Buf::advance) */
-IOBUFS_CHECKED iobufs_status iobufs_advance(struct iobufs_at *text, size_t n);
+IOBUFS_CHECKED iobufs_status iobufs_advance(struct iobufs_at *bufs, size_t n);
 /* Keeps at most the first n bytes; memory, unless n is 0 or there are no more. After an error nothing has changed. (own) */
-IOBUFS_CHECKED iobufs_status iobufs_truncate(struct iobufs_at *text, size_t n);
+IOBUFS_CHECKED iobufs_status iobufs_truncate(struct iobufs_at *bufs, size_t n);
 /* Copies the first n bytes out and drops them; IOBUFS_END_OF_BUFFER if there are fewer. (Buf::copy_to_slice) */
-IOBUFS_CHECKED iobufs_status iobufs_copy_to_slice(struct iobufs_at *text, uint8_t *dst, size_t n);
+IOBUFS_CHECKED iobufs_status iobufs_copy_to_slice(struct iobufs_at *bufs, uint8_t *dst, size_t n);
 /* Takes the first n bytes as one view: shared within a chunk, a copy (memory) across chunks; IOBUFS_END_OF_BUFFER
  * if there are fewer. (take_owned, Buf::copy_to_bytes) */
-IOBUFS_CHECKED iobufs_status iobufs_take(struct iobufs_at *text, size_t n, struct iobuf_at *out);
+IOBUFS_CHECKED iobufs_status iobufs_take(struct iobufs_at *bufs, size_t n, struct iobuf_at *out);
 /* Takes the n bytes after the first `skip`, which are dropped too, as one view, as iobufs_take does. (own) */
-IOBUFS_CHECKED iobufs_status iobufs_take_after(struct iobufs_at *text, size_t skip, size_t n, struct iobuf_at *out);
+IOBUFS_CHECKED iobufs_status iobufs_take_after(struct iobufs_at *bufs, size_t skip, size_t n, struct iobuf_at *out);
 /* All bytes as one view, with a copy (memory) of several chunks; IOBUFS_BAD_LAYOUT if they have more than SSIZE_MAX bytes.
  * It is left empty, also after an error: clone it first to keep it. (coalesce) */
-IOBUFS_CHECKED iobufs_status iobufs_coalesce(struct iobufs_at *text, struct iobuf_at *out);
+IOBUFS_CHECKED iobufs_status iobufs_coalesce(struct iobufs_at *bufs, struct iobuf_at *out);
 /* The only chunk as a view; it is left empty. IOBUFS_DECLINED if there are more, and it stays. No memory.
  * (try_into_single) */
-IOBUFS_CHECKED iobufs_status iobufs_try_into_single(struct iobufs_at *text, struct iobuf_at *out);
+IOBUFS_CHECKED iobufs_status iobufs_try_into_single(struct iobufs_at *bufs, struct iobuf_at *out);
 
 /* ---- iobufsmut (IoBufsMut): several writable buffers as one. None reads as one part of capacity 0 ---- */
 
@@ -319,15 +319,15 @@ IOBUFS_CHECKED iobufs_status iobufs_try_into_single(struct iobufs_at *text, stru
 size_t iobufsmut_size(void);
 /* The library's alignment of a `struct iobufsmut`. */
 size_t iobufsmut_align(void);
-/* Makes a place with no parts of memory. No memory. */
+/* Makes a handle with no parts of memory. No memory. */
 void iobufsmut_init(struct iobufsmut *at);
 /* Drops the buffers; none are left. (Drop) */
 void iobufsmut_drop(struct iobufsmut_at *parts);
 /* The one part of a buffer; none is left. No memory. (From<IoBufMut>) */
 void iobufsmut_from_mut(struct iobufmut_at *part, struct iobufsmut_at *out);
-/* The buffers of n places in order, without those that can hold no byte; none are left there. Memory; on
+/* The buffers of n handles in order, without those that can hold no byte; none are left there. Memory; on
  * IOBUFS_MEMORY or IOBUFS_TOO_LONG the buffers may be dropped. (FromIterator) */
-IOBUFS_CHECKED iobufs_status iobufsmut_from_parts(struct iobufmut_at *places, size_t n, struct iobufsmut_at *out);
+IOBUFS_CHECKED iobufs_status iobufsmut_from_parts(struct iobufmut_at *buffers, size_t n, struct iobufsmut_at *out);
 /* The number of readable bytes. (len) */
 size_t iobufsmut_len(const struct iobufsmut_at *parts);
 /* Whether there are none. (is_empty) */
@@ -391,7 +391,7 @@ IOBUFS_CHECKED iobufs_status iobufsmut_try_into_single(struct iobufsmut_at *part
 size_t iobufs_builder_size(void);
 /* The library's alignment of a `struct iobufs_builder`. */
 size_t iobufs_builder_align(void);
-/* Makes a place with no builder of memory. No memory. */
+/* Makes a handle with no builder of memory. No memory. */
 void iobufs_builder_init(struct iobufs_builder *at);
 /* Drops the builder; none is left. (Drop) */
 void iobufs_builder_drop(struct iobufs_builder_at *builder);
@@ -413,9 +413,9 @@ IOBUFS_CHECKED iobufs_status iobufs_builder_put_u32(struct iobufs_builder_at *bu
 IOBUFS_CHECKED iobufs_status iobufs_builder_put_u64(struct iobufs_builder_at *builder, uint64_t n);
 /* Appends a varint length; IOBUFS_OUT_OF_RANGE if it doesn't fit. No memory. (usize::write) */
 IOBUFS_CHECKED iobufs_status iobufs_builder_put_length(struct iobufs_builder_at *builder, size_t n);
-/* Pushes a view, not copied, and leaves its place empty; memory for the deque. IOBUFS_DECLINED if there is no builder,
+/* Pushes a view, not copied, and leaves its handle empty; memory for the deque. IOBUFS_DECLINED if there is no builder,
  * IOBUFS_TOO_LONG if the bytes would pass SIZE_MAX. After an error both are unchanged. (Builder::push) */
-IOBUFS_CHECKED iobufs_status iobufs_builder_push(struct iobufs_builder_at *builder, struct iobuf_at *piece);
+IOBUFS_CHECKED iobufs_status iobufs_builder_push(struct iobufs_builder_at *builder, struct iobuf_at *view);
 /* All that was put and pushed as an iobufs; no builder is left, also after IOBUFS_MEMORY. Memory none today.
  * (Builder::finish) */
 IOBUFS_CHECKED iobufs_status iobufs_builder_finish(struct iobufs_builder_at *builder, struct iobufs_at *out);
@@ -427,13 +427,13 @@ size_t iobufs_length_size(size_t n);
 /* Reads the length at the front, from lo to hi, and drops it. IOBUFS_END_OF_BUFFER if it may continue after the end,
  * IOBUFS_INVALID_VARINT, or IOBUFS_INVALID_LENGTH, which writes the length that is outside; after each the bytes are
  * unchanged. No memory. (usize::read_cfg) */
-IOBUFS_CHECKED iobufs_status iobufs_read_length(struct iobufs_at *text, size_t lo, size_t hi, size_t *out);
+IOBUFS_CHECKED iobufs_status iobufs_read_length(struct iobufs_at *bufs, size_t lo, size_t hi, size_t *out);
 /* Reads the length at the front of a view, as iobufs_read_length does. (Read) */
 IOBUFS_CHECKED iobufs_status iobuf_read_length(struct iobuf_at *src, size_t lo, size_t hi, size_t *out);
 /* Reads a length from lo to hi and the bytes after it, as one view: shared within a chunk, a copy (memory) across chunks.
  * The statuses of iobufs_read_length, and IOBUFS_END_OF_BUFFER if fewer bytes follow; after each both are unchanged.
  * (IoBuf::read_cfg) */
-IOBUFS_CHECKED iobufs_status iobufs_read_view(struct iobufs_at *text, size_t lo, size_t hi, struct iobuf_at *out);
+IOBUFS_CHECKED iobufs_status iobufs_read_view(struct iobufs_at *bufs, size_t lo, size_t hi, struct iobuf_at *out);
 /* Reads a length and the bytes after it from a view, in its storage, as iobufs_read_view does. Memory none today.
  * (IoBuf::read_cfg) */
 IOBUFS_CHECKED iobufs_status iobuf_read_view(struct iobuf_at *src, size_t lo, size_t hi, struct iobuf_at *out);
@@ -451,13 +451,13 @@ IOBUFS_CHECKED iobufs_status iobuf_get_u32(struct iobuf_at *src, uint32_t *out);
 IOBUFS_CHECKED iobufs_status iobuf_get_u64(struct iobuf_at *src, uint64_t *out);
 /* Reads the byte at the front, and drops it; IOBUFS_END_OF_BUFFER if there is none; then both are unchanged. No memory.
  * (u8::read_cfg, Buf::get_u8) */
-IOBUFS_CHECKED iobufs_status iobufs_get_u8(struct iobufs_at *text, uint8_t *out);
+IOBUFS_CHECKED iobufs_status iobufs_get_u8(struct iobufs_at *bufs, uint8_t *out);
 /* Reads a big-endian number of two bytes, as iobufs_get_u8 reads a byte. (u16::read_cfg, Buf::get_u16) */
-IOBUFS_CHECKED iobufs_status iobufs_get_u16(struct iobufs_at *text, uint16_t *out);
+IOBUFS_CHECKED iobufs_status iobufs_get_u16(struct iobufs_at *bufs, uint16_t *out);
 /* Reads a big-endian number of four bytes, as iobufs_get_u8 reads a byte. (u32::read_cfg, Buf::get_u32) */
-IOBUFS_CHECKED iobufs_status iobufs_get_u32(struct iobufs_at *text, uint32_t *out);
+IOBUFS_CHECKED iobufs_status iobufs_get_u32(struct iobufs_at *bufs, uint32_t *out);
 /* Reads a big-endian number of eight bytes, as iobufs_get_u8 reads a byte. (u64::read_cfg, Buf::get_u64) */
-IOBUFS_CHECKED iobufs_status iobufs_get_u64(struct iobufs_at *text, uint64_t *out);
+IOBUFS_CHECKED iobufs_status iobufs_get_u64(struct iobufs_at *bufs, uint64_t *out);
 
 /* ---- iobufs_frames (Frames): frames, each a length and a body, of bytes that come in chunks ---- */
 
@@ -475,9 +475,9 @@ IOBUFS_CHECKED iobufs_status iobufs_frames_set_prefix(struct iobufs_frames_at *f
 size_t iobufs_frames_len(const struct iobufs_frames_at *frames);
 /* The bytes that were fed and not taken, in their storage; memory for the deque. (own) */
 IOBUFS_CHECKED iobufs_status iobufs_frames_rest(const struct iobufs_frames_at *frames, struct iobufs_at *out);
-/* Adds a view at the end, and leaves its place empty; at times memory. IOBUFS_TOO_LONG if that would pass SIZE_MAX. After
+/* Adds a view at the end, and leaves its handle empty; at times memory. IOBUFS_TOO_LONG if that would pass SIZE_MAX. After
  * an error both are unchanged. (own) */
-IOBUFS_CHECKED iobufs_status iobufs_frames_feed(struct iobufs_frames_at *frames, struct iobuf_at *piece);
+IOBUFS_CHECKED iobufs_status iobufs_frames_feed(struct iobufs_frames_at *frames, struct iobuf_at *view);
 /* Takes the first frame, whose length is from lo to hi: shared within a chunk, a copy (memory) across chunks.
  * IOBUFS_END_OF_BUFFER if it is not whole yet, IOBUFS_INVALID_VARINT or IOBUFS_INVALID_LENGTH if no further bytes make it
  * whole; after each both are unchanged. Writes the length that is outside to `wrong`. A loop of iobufs_frames_feed and this call is `Frames::run`. (own) */
@@ -495,7 +495,7 @@ IOBUFS_CHECKED iobufs_status iobufs_frames_head(uint8_t prefix, size_t n, uint8_
 size_t iobufs_received_size(void);
 /* The library's alignment of a `struct iobufs_received`. */
 size_t iobufs_received_align(void);
-/* Makes a place with no receive block of memory. No memory. */
+/* Makes a handle with no receive block of memory. No memory. */
 void iobufs_received_init(struct iobufs_received *at);
 /* Drops what came and was not taken; no receive block is left. (Drop) */
 void iobufs_received_drop(struct iobufs_received_at *received);
@@ -527,7 +527,7 @@ static inline uint64_t iobufs_swap64(uint64_t n) {
     return (uint64_t)iobufs_swap32((uint32_t)n) << 32 | iobufs_swap32((uint32_t)(n >> 32));
 }
 
-/* ---- places of memory that is made a buffer at once ---- */
+/* ---- handles of memory that is made a buffer at once ---- */
 
 static inline struct iobuf_at iobuf_made(struct iobuf *memory) {
     struct iobuf_at at = { memory };
