@@ -102,6 +102,17 @@ impl Drop for Block {
 
 /// Takes frames from a reader: lengths, each followed by a body. A read fills the space of one block, and a body shares that
 /// block: it isn't copied, and keeps the whole block. (own)
+///
+/// ```
+/// use iobufs::{FrameReader, FrameWriter};
+/// let mut to = FrameWriter::new(Vec::new(), ..=1024);
+/// to.put("hello")?;
+/// to.send()?;
+/// let mut from = FrameReader::new(&to.get_ref()[..], ..=1024);
+/// assert_eq!(from.next()?.unwrap(), "hello");
+/// assert!(from.next()?.is_none());
+/// # Ok::<(), Box<dyn std::error::Error>>(())
+/// ```
 pub struct FrameReader<R> {
     from: R,
     held: Block,

@@ -167,8 +167,8 @@ fn errors_of_reads() {
     type Case = (Narrow, fn(&FrameError) -> bool, &'static str, ErrorKind);
     let cases: [Case; 4] = [
         (Narrow::with(b"\x03abc", 2, 2, Fault::Fails), |it| matches!(it, FrameError::Io(_)), "fails", ErrorKind::Other),
-        (Narrow::new(b"\x09", 2), |it| matches!(it, FrameError::Bad(Error::InvalidLength(9))), "InvalidLength(9)", ErrorKind::InvalidData),
-        (Narrow::new(b"\x80\0", 2), |it| matches!(it, FrameError::Bad(Error::InvalidVarint)), "InvalidVarint", ErrorKind::InvalidData),
+        (Narrow::new(b"\x09", 2), |it| matches!(it, FrameError::Bad(Error::InvalidLength(9))), "the length 9 is outside the range", ErrorKind::InvalidData),
+        (Narrow::new(b"\x80\0", 2), |it| matches!(it, FrameError::Bad(Error::InvalidVarint)), "the bytes are no varint", ErrorKind::InvalidData),
         (Narrow::new(b"\x08", 2), |it| matches!(it, FrameError::Cut), "", ErrorKind::UnexpectedEof),
     ];
     for (stream, is, source, kind) in cases {
