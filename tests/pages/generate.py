@@ -18,6 +18,7 @@ API = {
     "RangeCfg, lengths, find_end": "iobufs_core/src/codec/base.rt iobufs_core/src/codec/length.rt iobufs/src/bufs/search.rt",
     "Frames, Prefix": "iobufs_frames/src/lib.rt iobufs_frames/src/lengths.rt",
     "FrameReader, FrameWriter": "iobufs_streams/src/reader.rt iobufs_streams/src/writer.rt iobufs_streams/src/echo.rt",
+    "FrameStream, FrameSink": "iobufs_async/src/stream.rt iobufs_async/src/sink.rt",
     "Look, ByParts, IntoParts": "iobufs_values/src/look.rt iobufs_values/src/parts.rt",
     "Machine": "iobufs_owner/src/owner.rt iobufs_owner/src/owner/reserve.rt",
     "Table": "iobufs_run/src/table.rt",

@@ -2,7 +2,12 @@
 --     ReceivedBytes    how the lengths are written, the bytes that were not taken, and how many more fit after them
 --     none_received    none of them, and no space
 --     HasReceived      bytes came after those that are held, into the space
+--     block_row        a block of the crate `bytes`, for the clause on one that is lent
 use Rattle.std.specs.Prelude.{◌≡◌, ℕ, ◌+◌, List, [], ◌++◌, length}
+use Rattle.std.specs.Borrow.{RattleType}
+use Rattle.std.specs.contracts.alloc.Global as global
+use Rattle.std.specs.contracts.impls.GlobalAllocator.TheImpl.{ghosts}
+use Rattle.bytes.specs.contracts.unique.BytesMut as bytes_mut
 use Rattle.iobufs_frames.specs.declared.lengths.Prefix.{Prefix}
 
 -- how the lengths are written, the bytes that were not taken, and how many more fit after them
@@ -22,3 +27,7 @@ pub record HasReceived (n : ℕ) (old new : ReceivedBytes) : Type 0 where
   pub bytes : new.bytes ≡ old.bytes ++ more
   pub space : new.space + n ≡ old.space
   pub prefix : new.prefix ≡ old.prefix
+
+-- a block of the crate `bytes`, for the clause on one that is lent
+abbrev pub block_row : RattleType
+block_row = bytes_mut.the_row global.the_row ghosts

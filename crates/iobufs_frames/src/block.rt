@@ -1,10 +1,12 @@
 //! Bytes that are received into one block, and the frames at their front.
 ghost use Rattle.std.specs.Prelude.{◌≡◌, ◌↔◌, ℕ, ◌^◌, ◌<◌, ◌≤◌, List, [], ◌++◌, length, take, drop, IsTrue, IfOk, IfErr, IfNone, IfSome, IsOk, OnOk, OnErr};
+ghost use Rattle.std.specs.Borrow.{Lends, sem};
 ghost use Rattle.std.specs.Io.KnownBytes.{Consumes, IsAtEnd, Keeps};
 ghost use Rattle.iobufs_core.specs.View.{view_of_bytes};
 ghost use Rattle.iobufs_frames.specs.Frames.{HasFrame, IsNext};
 ghost use Rattle.iobufs_frames.specs.Prefixes.{HasNoLengthAt, IsOpenAt, IsSeenAt};
-ghost use Rattle.iobufs_frames.specs.Receiving.{HasReceived, none_received};
+ghost use Rattle.iobufs_frames.specs.Receiving.{HasReceived, block_row, none_received};
+ghost use Rattle.iobufs_frames.specs.contracts.block.Received.{the_row};
 
 use crate::lengths::{Length, Prefix, frame_size};
 use crate::shown::Shown;
@@ -230,6 +232,17 @@ impl Received {
         ensures { HasReceived n self.old self.new }
     {
         self.block.advance_mut(n);
+    }
+
+    /// Borrows the block, to read into its space in another way. The length at the front is decoded again afterwards.
+    pub fn block_mut(&mut self) -> &mut BytesMut
+        ensures* writes_back { sem 𝓛 (Lends the_row block_row self.entry result
+            (λ b. record { prefix = self.old.prefix; bytes = b.items; space = b.spare })) }
+        ensures bytes { result.now.items ≡ self.old.bytes }
+        ensures space { result.now.spare ≡ self.old.space }
+    {
+        self.known = None;
+        &mut self.block
     }
 
     /// Reads once, into the space.

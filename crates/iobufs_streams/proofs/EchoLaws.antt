@@ -324,22 +324,22 @@ stopped {prefix} {to} {range} {a} {b} {old} {now} {held} {holds} is =
     (frames_begun prefix to range a b old now held holds is.echoes, begun prefix to range a b old now held holds is.echoes)
 
 -- if it stops inside a frame, some bytes of that one too
-pub stopped_inside : {prefix now_prefix to now_to : Prefix} {range now_range : RangeCfg} {a b c : Option (List ℕ)} {old now new : List ℕ}
-    {held mid : Option (List ℕ)} (holds : Option (List ℕ)) (found : Option View) (body : View)
+pub stopped_inside : {prefix now_prefix to now_to : Prefix} {range now_range : RangeCfg} {a b : Option (List ℕ)} {old now new : List ℕ}
+    {held mid : Option (List ℕ)} (c holds : Option (List ℕ)) (found : Option View) (body : View)
     → IsEchoing prefix now_prefix to now_to range now_range a b old now held mid → found ≡ Some body
     → TakesFrame now_prefix now_range b c now new (Ok found) → HasSent mid holds (frame_written now_to body.bytes)
     → IfSome a (λ text. SendsFrames prefix to range (old ++ text) held holds) × (prefix ≡ to → IfSome a (λ text. HasSent held holds (old ++ text)))
-stopped_inside {prefix} {now_prefix} {to} {now_to} {range} {now_range} {a} {b} {c} {old} {now} {new} {held} {mid} holds found body is some took put = (
+stopped_inside {prefix} {now_prefix} {to} {now_to} {range} {now_range} {a} {b} {old} {now} {new} {held} {mid} c holds found body is some took put = (
   frames_begun_more prefix now_prefix to now_to range now_range a b c old now new held mid holds found body is.same is.echoes some took put,
   begun_more prefix now_prefix to now_to range now_range a b c old now new held mid holds found body is.same is.echoes some took put,
 )
 
 -- if the input ends between two frames, all were sent
-pub ended : {prefix now_prefix to now_to : Prefix} {range now_range : RangeCfg} {a b c : Option (List ℕ)} {old now new : List ℕ} {held holds : Option (List ℕ)}
-    (found : Option View) → IsEchoing prefix now_prefix to now_to range now_range a b old now held holds → found ≡ None
+pub ended : {prefix now_prefix to now_to : Prefix} {range now_range : RangeCfg} {a b : Option (List ℕ)} {old now new : List ℕ} {held holds : Option (List ℕ)}
+    (c : Option (List ℕ)) (found : Option View) → IsEchoing prefix now_prefix to now_to range now_range a b old now held holds → found ≡ None
     → TakesFrame now_prefix now_range b c now new (Ok found)
     → IfSome a (λ text. SendsAllFrames prefix to range (old ++ text) held holds) × (prefix ≡ to → IfSome a (λ text. Appends held holds (old ++ text)))
-ended {prefix} {now_prefix} {to} {now_to} {range} {now_range} {a} {b} {c} {old} {now} {new} {held} {holds} found is none took = (
+ended {prefix} {now_prefix} {to} {now_to} {range} {now_range} {a} {b} {old} {now} {new} {held} {holds} c found is none took = (
   frames_echoed prefix now_prefix to now_to range now_range a b c old now new held holds found is.same is.echoes none took,
   echoed prefix now_prefix to now_to range now_range a b c old now new held holds found is.same is.echoes none took,
 )

@@ -8,7 +8,8 @@
 --     IsHeldFront          what taking a frame returns of the held bytes, and what is left of them
 --     IsEnd                what is returned of bytes that are no whole frame, if no more come
 --     IsFront              what taking a frame returns if a reader has no more to give for it, and what is left
---     TakesFrame           bytes were read, and a frame was taken
+--     IsFrameTaken,        bytes were read, and a frame was taken; so of a reader whose bytes are known, or not
+--     TakesFrame
 --     IsFirstOf            the result by the frames of the stream: the first went
 --     HasSent              a writer was sent a prefix of some bytes
 --     SendsFrames,         a writer was sent a prefix of the frames of some bytes, written with another prefix; or
@@ -80,22 +81,26 @@ IsEnd bytes (Err Cut) = 0 < length bytes
 IsEnd bytes (Err error) = ⊥
 
 -- The result of taking a frame from all bytes that were held and read for it. There is none only at the end of the
--- stream; one that was begun there is cut.
-abbrev pub IsFront : Prefix → RangeCfg → Option (List ℕ) → List ℕ → Result (Option View) FrameError → List ℕ → Type 0
-IsFront prefix range has bytes (Ok (Some body)) left = CanFollow prefix range body.bytes × (bytes ≡ frame_written prefix body.bytes ++ left)
-IsFront prefix range has bytes (Ok None) left = (bytes ≡ []) × (left ≡ []) × IsAtEnd has
-IsFront prefix range has bytes (Err Cut) left = (left ≡ bytes) × (0 < length bytes) × LacksFrame prefix range bytes end.Open × IsAtEnd has
-IsFront prefix range has bytes (Err (Bad error)) left = (left ≡ bytes) × LacksFrame prefix range bytes (end.Bad error)
-IsFront prefix range has bytes (Err TooLong) left = (left ≡ bytes) × (2 ^ 64 ≤ length bytes + 1)
-IsFront prefix range has bytes (Err error) left = left ≡ bytes
+-- stream, where `ended` holds; one that was begun there is cut.
+abbrev pub IsFront : Prefix → RangeCfg → Type 0 → List ℕ → Result (Option View) FrameError → List ℕ → Type 0
+IsFront prefix range ended bytes (Ok (Some body)) left = CanFollow prefix range body.bytes × (bytes ≡ frame_written prefix body.bytes ++ left)
+IsFront prefix range ended bytes (Ok None) left = (bytes ≡ []) × (left ≡ []) × ended
+IsFront prefix range ended bytes (Err Cut) left = (left ≡ bytes) × (0 < length bytes) × LacksFrame prefix range bytes end.Open × ended
+IsFront prefix range ended bytes (Err (Bad error)) left = (left ≡ bytes) × LacksFrame prefix range bytes (end.Bad error)
+IsFront prefix range ended bytes (Err TooLong) left = (left ≡ bytes) × (2 ^ 64 ≤ length bytes + 1)
+IsFront prefix range ended bytes (Err error) left = left ≡ bytes
 
--- bytes were read, none more than a frame needs, and the frame at the front was taken
-pub record TakesFrame (prefix : Prefix) (range : RangeCfg) (had has : Option (List ℕ)) (old new : List ℕ) (result : Result
+-- bytes were read, of which `given` holds, none more than a frame needs, and the frame at the front was taken
+pub record IsFrameTaken (prefix : Prefix) (range : RangeCfg) (given : List ℕ → Type 0) (ended : Type 0) (old new : List ℕ) (result : Result
     (Option View) FrameError) : Type 0 where
   pub read : List ℕ
-  pub took : Consumes had has read
+  pub took : given read
   pub needed : IsNeeded prefix range old read
-  pub front : IsFront prefix range has (old ++ read) result new
+  pub front : IsFront prefix range ended (old ++ read) result new
+
+-- so of a reader with these bytes left before and after
+abbrev pub TakesFrame : Prefix → RangeCfg → Option (List ℕ) → Option (List ℕ) → List ℕ → List ℕ → Result (Option View) FrameError → Type 0
+TakesFrame prefix range had has old new result = IsFrameTaken prefix range (Consumes had has) (IsAtEnd has) old new result
 
 -- The first frame of the whole stream is taken, and the others are left; if there is none, the end determines the
 -- result. Any other error leaves all of them.

@@ -1,36 +1,13 @@
-//! Buffers as std's readers and writers.
-ghost use Rattle.std.specs.Prelude.{◌≡◌, ◌++◌, min, length, take, drop, Some, None, Ok, IsOk, IfOk};
-ghost use Rattle.std.specs.Io.{ReadsAtMost, WritesAtMost};
-ghost use Rattle.std.specs.Io.KnownBytes.{Keeps, ReadConsumes, WriteAppends};
+//! Writable buffers as std's writers.
+ghost use Rattle.std.specs.Prelude.{◌≡◌, min, length, take, None, Ok, IsOk, IfOk};
+ghost use Rattle.std.specs.Io.{WritesAtMost};
+ghost use Rattle.std.specs.Io.KnownBytes.{Keeps, WriteAppends};
 
-use iobufs_core::codec::{Buf, BufMut};
-use std::io::{self, Read, Write};
+use iobufs_core::codec::BufMut;
+use std::io::{self, Write};
 
-/// Makes any buffer one of std's readers (`bytes::Buf::reader`).
-#[derive(Drop)]
-pub struct Reader<B> {
-    /// The remaining bytes.
-    pub buf: B,
-}
-
-impl<B: Buf> Read for Reader<B> {
-    ghost remaining = { λ r. Some (B.text r.buf) };
-
-    /// Returns as many bytes as there are and fit. Cannot fail.
-    fn read(&mut self, dst: &mut [u8]) -> io::Result<usize>
-        ensures bound { ReadsAtMost result dst.new }
-        ensures bytes { ReadConsumes (Some (B.text self.old.buf)) (Some (B.text self.new.buf)) result dst.new }
-        ensures count { result ≡ Ok (min (length dst.old) (length (B.text self.old.buf))) }
-        ensures copied { IfOk result (λ n. dst.new ≡ take n (B.text self.old.buf) ++ drop n dst.old) }
-        ensures rest { IfOk result (λ n. self.new.buf ≡ B.advanced self.old.buf n) }
-    {
-        let n = dst.len().min(self.buf.remaining());
-        self.buf.copy_to_slice(&mut dst[..n]);
-        Ok(n)
-    }
-}
-
-/// Makes any writable buffer one of std's writers (`bytes::BufMut::writer`).
+/// Makes any writable buffer one of std's writers (`bytes::BufMut::writer`). An `IoBufsMut` needs it: it is no
+/// `bytes::BufMut`.
 #[derive(Drop)]
 pub struct Writer<B> {
     /// The remaining space, and what was written.

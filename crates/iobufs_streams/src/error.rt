@@ -1,4 +1,7 @@
 //! Why no frame is taken from a stream.
+ghost use Rattle.std.specs.Prelude.{◌≡◌};
+ghost use Rattle.iobufs_streams.specs.declared.error.FrameError.TheVariants.{Io};
+
 use iobufs_core::codec::Error;
 use std::io;
 
@@ -20,4 +23,12 @@ pub enum FrameError {
     /// More than `usize::MAX` bytes are held and are no whole frame, or the writer's lengths can't express a body's.
     #[error("the frame is too long")]
     TooLong,
+}
+
+impl From<io::Error> for FrameError {
+    ghost from_gives = { λ error fault. fault ≡ Io error };
+
+    fn from(error: io::Error) -> FrameError {
+        FrameError::Io(error)
+    }
 }

@@ -1,7 +1,7 @@
 //! Frames over std's readers and writers.
 //!
 //! - `reader`: whole frames out of whatever a read gives. `writer`: frames as lists of chunks, whatever a write takes.
-//!   `echo`: both. `adapters`: buffers as readers and writers.
+//!   `echo`: both. `adapters`: writable buffers as writers.
 //! - `specs/`: `Streams`, what of a stream went and what is left.
 #![tactic(auto)]
 
@@ -12,7 +12,7 @@ pub mod reader;
 pub mod unsent;
 pub mod writer;
 
-pub use adapters::{Reader, Writer};
+pub use adapters::Writer;
 pub use error::FrameError;
 pub use reader::FrameReader;
 pub use writer::{FrameWriter, framed};

@@ -25,9 +25,9 @@ fn fault_of(error: Error) -> FrameError
     }
 }
 
-// Takes the first frame, if it is held whole.
+/// Takes the first frame if it is held whole; `None` if it isn't. Unless a frame is taken, all bytes stay held.
 #[inline(always)]
-fn take_held(held: &mut Received, range: &RangeCfg) -> Result<Option<IoBuf>, FrameError>
+pub fn take_held(held: &mut Received, range: &RangeCfg) -> Result<Option<IoBuf>, FrameError>
     ensures prefix { held_prefix held.new ≡ held_prefix held.old }
     ensures front { IsHeldFront (held_prefix held.old) range.now (held_bytes held.old) result (held_bytes held.new) }
     ensures body { IfOk result (λ found. IfSome found (λ body. body ≡ view_of_bytes body.bytes)) }
@@ -36,8 +36,8 @@ fn take_held(held: &mut Received, range: &RangeCfg) -> Result<Option<IoBuf>, Fra
     held.next(range).map_err(fault_of)
 }
 
-// Takes the first frame. If none is held whole, makes space for a read.
-fn take_or_widen(held: &mut Received, range: &RangeCfg) -> Result<Option<IoBuf>, FrameError>
+/// Takes the first frame if it is held whole. If none is, makes space for a read. Fails as `FrameReader::next` does.
+pub fn take_or_widen(held: &mut Received, range: &RangeCfg) -> Result<Option<IoBuf>, FrameError>
     ensures prefix { held_prefix held.new ≡ held_prefix held.old }
     ensures front { IsHeldFront (held_prefix held.old) range.now (held_bytes held.old) result (held_bytes held.new) }
     ensures body { IfOk result (λ found. IfSome found (λ body. body ≡ view_of_bytes body.bytes)) }
@@ -74,8 +74,8 @@ fn fill<R: Read>(held: &mut Received, from: &mut R) -> io::Result<bool>
     Err(io::Error::from(ErrorKind::TimedOut))
 }
 
-// The result at the end of the input.
-fn end(held: &Received) -> Result<Option<IoBuf>, FrameError>
+/// Returns the result at the end of the input: `None` if no byte is held, or `FrameError::Cut`.
+pub fn end(held: &Received) -> Result<Option<IoBuf>, FrameError>
     ensures { IsEnd (held_bytes held.now) result }
 {
     if held.len() == 0 {
@@ -125,7 +125,7 @@ pub struct FrameReader<R> {
     pub held: Received,
 }
 
-impl<R: Read + Drop> FrameReader<R> {
+impl<R: Drop> FrameReader<R> {
     /// Makes a reader of frames with varint lengths, and allocates space for one read. Fails with `AllocError`.
     pub fn new(alloc: Global, from: R, range: RangeCfg) -> Result<FrameReader<R>, AllocError>
         ensures from { IfOk result (λ reader. reader.from ≡ from) }
@@ -153,25 +153,6 @@ impl<R: Read + Drop> FrameReader<R> {
         Ok(FrameReader { from, range, held })
     }
 
-    /// Takes the next frame; `None` at the end of the input. It starts no read while a whole frame is held. After an
-    /// error no byte is lost: all that was read is held, and `next` may be called again.
-    pub fn next(&mut self, alloc: Global) -> Result<Option<IoBuf>, FrameError>
-        ensures next { TakesFrame (held_prefix self.old.held) self.old.range (R.remaining self.old.from) (R.remaining self.new.from) (held_bytes self.old.held)
-            (held_bytes self.new.held) result }
-        ensures body { IfOk result (λ found. IfSome found (λ body. body ≡ view_of_bytes body.bytes)) }
-        ensures ready { HasFrame (held_prefix self.old.held) self.old.range (held_bytes self.old.held) → self.new.from ≡ self.old.from }
-        ensures first { IfSome (R.remaining self.old.from) (λ old. IfSome (R.remaining self.new.from) (λ new.
-            (frames : List (List ℕ)) (stop : End) (rest : List ℕ)
-            → IsFramed (held_prefix self.old.held) self.old.range (held_bytes self.old.held ++ old) frames stop rest
-            → IsFirstOf (held_prefix self.old.held) self.old.range frames stop rest result (held_bytes self.new.held ++ new))) }
-        ensures spelled { IfErr result (λ error. error ≡ FrameError.Bad Error.InvalidVarint → held_prefix self.old.held ≡ Prefix.Spelled) }
-        ensures prefix { held_prefix self.new.held ≡ held_prefix self.old.held }
-        ensures range { self.new.range ≡ self.old.range }
-    {
-        let _ = alloc;
-        take(&mut self.held, &mut self.from, &self.range)
-    }
-
     /// Takes the next frame if it is held whole; `None` if it isn't. It reads nothing.
     #[inline(always)]
     pub fn next_held(&mut self) -> Result<Option<IoBuf>, FrameError>
@@ -189,5 +170,26 @@ impl<R: Read + Drop> FrameReader<R> {
         ensures { IsTrue result ↔ HasFrame (held_prefix self.now.held) self.now.range (held_bytes self.now.held) }
     {
         self.held.has_frame(&self.range)
+    }
+}
+
+impl<R: Read + Drop> FrameReader<R> {
+    /// Takes the next frame; `None` at the end of the input. It starts no read while a whole frame is held. After an
+    /// error no byte is lost: all that was read is held, and `next` may be called again.
+    pub fn next(&mut self, alloc: Global) -> Result<Option<IoBuf>, FrameError>
+        ensures next { TakesFrame (held_prefix self.old.held) self.old.range (R.remaining self.old.from) (R.remaining self.new.from) (held_bytes self.old.held)
+            (held_bytes self.new.held) result }
+        ensures body { IfOk result (λ found. IfSome found (λ body. body ≡ view_of_bytes body.bytes)) }
+        ensures ready { HasFrame (held_prefix self.old.held) self.old.range (held_bytes self.old.held) → self.new.from ≡ self.old.from }
+        ensures first { IfSome (R.remaining self.old.from) (λ old. IfSome (R.remaining self.new.from) (λ new.
+            (frames : List (List ℕ)) (stop : End) (rest : List ℕ)
+            → IsFramed (held_prefix self.old.held) self.old.range (held_bytes self.old.held ++ old) frames stop rest
+            → IsFirstOf (held_prefix self.old.held) self.old.range frames stop rest result (held_bytes self.new.held ++ new))) }
+        ensures spelled { IfErr result (λ error. error ≡ FrameError.Bad Error.InvalidVarint → held_prefix self.old.held ≡ Prefix.Spelled) }
+        ensures prefix { held_prefix self.new.held ≡ held_prefix self.old.held }
+        ensures range { self.new.range ≡ self.old.range }
+    {
+        let _ = alloc;
+        take(&mut self.held, &mut self.from, &self.range)
     }
 }

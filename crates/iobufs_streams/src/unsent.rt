@@ -1,9 +1,11 @@
 //! The bytes of a frame that are not sent.
 ghost use Rattle.std.specs.Prelude.{◌≡◌, ◌+◌, ◌<◌, ◌≤◌, ◌^◌, ◌++◌, [], length, nat_eq, drop, slice_get};
-ghost use Rattle.iobufs_core.specs.Chunks.{IsChunkOf};
+ghost use Rattle.bytes.specs.Unread.{IsChunkOf};
+ghost use Rattle.iobufs_core.specs.Chunks.{IsChunkOf as IsOurChunkOf};
 
+use bytes::Buf;
 use iobufs::bufs::IoBufs;
-use iobufs_core::codec::Buf;
+use iobufs_core::codec;
 use iobufs_frames::Head;
 use std::marker::Model;
 
@@ -34,7 +36,7 @@ fn drop_front(body: &mut IoBufs, n: usize)
     if n == body.len() {
         *body = IoBufs::default();
     } else {
-        body.advance(n);
+        codec::Buf::advance(body, n);
     }
 }
 
@@ -69,32 +71,40 @@ impl Unsent {
         if i < head.len() {
             return Some(head[i]);
         }
-        self.body.byte_at(i - head.len())
+        codec::Buf::byte_at(&self.body, i - head.len())
+    }
+}
+
+impl Buf for Unsent {
+    ghost unread = { λ u. u.bytes };
+
+    fn remaining(&self) -> usize {
+        self.len()
     }
 
-    // The first chunk.
-    pub(crate) fn chunk(&self) -> &[u8]
-        ensures { IsChunkOf result.now self.now.bytes }
+    #[tactic(auto, using(iobufs_core::proofs::TraitLaws::chunk_of_bytes))]
+    fn chunk(&self) -> &[u8]
+        ensures chunk { IsChunkOf result.now self.now.bytes }
+        ensures first { IsOurChunkOf result.now self.now.bytes }
     {
         let head = self.head.as_slice();
         if head.is_empty() {
-            self.body.chunk()
+            codec::Buf::chunk(&self.body)
         } else {
             head
         }
     }
 
-    // Drops the first bytes.
-    pub(crate) fn advance(&mut self, n: usize)
-        requires { n ≤ length self.old.bytes }
-        ensures { self.new.bytes ≡ drop n self.old.bytes }
+    fn advance(&mut self, cnt: usize)
+        requires { cnt ≤ length self.old.bytes }
+        ensures { self.new.bytes ≡ drop cnt self.old.bytes }
     {
         let ahead = self.head.len();
-        if n <= ahead {
-            self.head.advance(n);
+        if cnt <= ahead {
+            self.head.advance(cnt);
             return;
         }
         self.head.advance(ahead);
-        drop_front(&mut self.body, n - ahead);
+        drop_front(&mut self.body, cnt - ahead);
     }
 }

@@ -12,6 +12,7 @@ ghost use Rattle.iobufs_frames.specs.Prefixes.{prefix_limit, prefix_view};
 ghost use Rattle.iobufs_frames.specs.declared.lengths.Prefix.TheVariants.{Spelled};
 
 use crate::unsent::Unsent;
+use bytes::Buf;
 use iobufs::bufs::IoBufs;
 use iobufs_core::codec::{BufError, Refused};
 use iobufs_frames::{Head, Prefix, framed_with};
@@ -74,7 +75,7 @@ pub struct FrameWriter<W> {
     pub is_flushed: bool,
 }
 
-impl<W: Write + Drop> FrameWriter<W> {
+impl<W: Drop> FrameWriter<W> {
     /// Makes a writer of frames with varint lengths. Set `most` to limit the bodies.
     pub fn new(to: W) -> FrameWriter<W>
         ensures to { result.to ≡ to }
@@ -143,7 +144,9 @@ impl<W: Write + Drop> FrameWriter<W> {
         self.rest = Unsent::new(head, body);
         Ok(())
     }
+}
 
+impl<W: Write + Drop> FrameWriter<W> {
     /// Sends the rest of the frame, in as many writes as the writer needs. After an error no byte is lost or sent
     /// twice: the rest is in `rest`, and `send` may be called again. An error is the writer's (never
     /// `ErrorKind::Interrupted`), or `ErrorKind::WriteZero` if it takes none.

@@ -5,7 +5,7 @@ use iobufs::bufs::IoBufs;
 use iobufs_core::buf::IoBufMut;
 use iobufs_core::codec::{Buf, BufError, Error, RangeCfg};
 use iobufs_frames::{ByteOrder, Prefix, Width};
-use iobufs_streams::adapters::{Reader, Writer};
+use iobufs_streams::adapters::Writer;
 use iobufs_streams::echo::echo;
 use iobufs_streams::error::FrameError;
 use iobufs_streams::reader::FrameReader;
@@ -488,9 +488,7 @@ fn held_frames_are_taken(rt: HostRuntime) -> Result<(), Fail> {
 
 #[test]
 fn a_text_is_read_by_std(rt: HostRuntime) -> Result<(), Fail> {
-    let mut reader = Reader {
-        buf: text(rt.alloc(), &[b"ab", b"cde"])?,
-    };
+    let mut reader = bytes::Buf::reader(text(rt.alloc(), &[b"ab", b"cde"])?);
     let mut four = [0; 4];
     assert_same!(rt; (reader.read(&mut four).ok(), four), (Some(4), *b"abcd"));
     let mut rest = Vec::new(rt.alloc());

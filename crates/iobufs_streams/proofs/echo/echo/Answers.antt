@@ -13,14 +13,14 @@ pub returns-in_err-send_frame-in-Ok-Some-clause-frames : goal.returns-in_err-sen
 returns-in_err-send_frame-in-Ok-Some-clause-frames g c =
     let to = c.next_flushed.new.to in
     let idle = idles to.prefix (g.W.Write.contents to.to) c.loop.invariant.is c.next_flushed.ensures.prefix c.next_flushed.ensures.kept in
-    (stopped_inside (g.W.Write.contents c.send_frame.new.to.to) c.in-Ok-Some.field-0 c.in-Ok-Some.body idle c.in-Ok-Some.field-0-is
+    (stopped_inside (g.R.Read.remaining c.next_flushed.new.from.from) (g.W.Write.contents c.send_frame.new.to.to) c.in-Ok-Some.field-0 c.in-Ok-Some.body idle c.in-Ok-Some.field-0-is
     c.in-Ok-Some.ensures.next c.send_frame.ensures.sent).0
 
 pub returns-in_err-send_frame-in-Ok-Some-clause-begun : goal.returns-in_err-send_frame-in-Ok-Some-clause-begun
 returns-in_err-send_frame-in-Ok-Some-clause-begun g c =
     let to = c.next_flushed.new.to in
     let idle = idles to.prefix (g.W.Write.contents to.to) c.loop.invariant.is c.next_flushed.ensures.prefix c.next_flushed.ensures.kept in
-    (stopped_inside (g.W.Write.contents c.send_frame.new.to.to) c.in-Ok-Some.field-0 c.in-Ok-Some.body idle c.in-Ok-Some.field-0-is
+    (stopped_inside (g.R.Read.remaining c.next_flushed.new.from.from) (g.W.Write.contents c.send_frame.new.to.to) c.in-Ok-Some.field-0 c.in-Ok-Some.body idle c.in-Ok-Some.field-0-is
     c.in-Ok-Some.ensures.next c.send_frame.ensures.sent).1
 
 pub returns-in-Ok-None : goal.returns-in-Ok-None
@@ -28,7 +28,7 @@ returns-in-Ok-None g c =
     let to = c.next_flushed.new.to in
     let idle = idles to.prefix (g.W.Write.contents to.to) c.loop.invariant.is c.next_flushed.ensures.prefix c.next_flushed.ensures.kept in
     let (frames, begun) = stopped idle in
-    let (all_frames, all) = ended c.in-Ok-None.field-0 idle c.in-Ok-None.field-0-is c.in-Ok-None.ensures.next in
+    let (all_frames, all) = ended (g.R.Read.remaining c.next_flushed.new.from.from) c.in-Ok-None.field-0 idle c.in-Ok-None.field-0-is c.in-Ok-None.ensures.next in
     record { frames = frames; all_frames = all_frames; all = all; begun = begun }
 
 pub returns-in-Err : goal.returns-in-Err

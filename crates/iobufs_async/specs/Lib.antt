@@ -1,0 +1,3 @@
+pub mod Polls
+pub mod Sinks
+pub mod Steps
