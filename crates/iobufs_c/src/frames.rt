@@ -20,7 +20,7 @@ use std::alloc::Global;
 use std::marker::{Model, Send};
 use std::mem;
 
-/// The place of a text that is fed at its end, and of which frames are taken from the front.
+/// The handle of frames: bytes are fed at the end, and frames are taken from the front.
 #[repr(C)]
 pub struct FramesAt {
     at: *mut u8,
@@ -41,7 +41,7 @@ unsafe impl Send for FramesAt {}
 impl FramesAt {
     ghost use Rattle.iobufs_c.specs.contracts.frames.FramesAt.{the_row};
 
-    /// The frames at the place.
+    /// Borrows the frames of the handle.
     pub(crate) fn get(&mut self) -> &mut Frames
         ensures* writes_back { sem 𝓛 (Lends the_row frames_row self.entry result (λ v. record { at = self.old.at; value = v })) }
         ensures value { result.now ≡ self.old.value }
@@ -56,7 +56,7 @@ fn empty() -> Frames
     Frames::default()
 }
 
-/// How many bytes frames take.
+/// Returns the size of frames in bytes.
 #[unsafe(no_mangle)]
 pub extern "C" fn iobufs_frames_size() -> usize
     ensures value { result ≡ 64 }
@@ -64,7 +64,7 @@ pub extern "C" fn iobufs_frames_size() -> usize
     mem::size_of::<Frames>()
 }
 
-/// To what frames are aligned.
+/// Returns the alignment of frames.
 #[unsafe(no_mangle)]
 pub extern "C" fn iobufs_frames_align() -> usize
     ensures value { result ≡ 8 }
@@ -81,7 +81,7 @@ pub unsafe extern "C" fn iobufs_frames_init(at: *mut u8)
     (at as *mut Frames).write(empty());
 }
 
-/// Gives what was fed up.
+/// Drops what was fed.
 #[unsafe(no_mangle)]
 pub extern "C" fn iobufs_frames_drop(frames: &mut FramesAt)
     ensures at { frames.new.at ≡ frames.old.at }
@@ -90,7 +90,7 @@ pub extern "C" fn iobufs_frames_drop(frames: &mut FramesAt)
     *frames.get() = empty();
 }
 
-/// How many bytes were fed and not taken.
+/// Returns how many bytes were fed and not taken.
 #[unsafe(no_mangle)]
 pub extern "C" fn iobufs_frames_len(frames: &mut FramesAt) -> usize
     ensures same { (frames.new.at ≡ frames.old.at) × (frames.new.value ≡ frames.old.value) }
@@ -99,7 +99,8 @@ pub extern "C" fn iobufs_frames_len(frames: &mut FramesAt) -> usize
     frames.get().rest().len()
 }
 
-/// Writes the bytes that were fed and not taken, as a text that shares their storage.
+/// Clones the bytes that were fed and not taken, in their storage. Returns `Status::Memory` if an allocation fails; then
+/// `out` is unchanged.
 #[unsafe(no_mangle)]
 pub extern "C" fn iobufs_frames_rest(frames: &mut FramesAt, out: &mut TextAt) -> u8
     ensures same { (frames.new.at ≡ frames.old.at) × (frames.new.value ≡ frames.old.value) }
@@ -116,7 +117,8 @@ pub extern "C" fn iobufs_frames_rest(frames: &mut FramesAt, out: &mut TextAt) ->
     }
 }
 
-/// Puts a view after what was fed, and leaves its place empty. Where that is refused, both are as before.
+/// Feeds a view at the end, and leaves its handle empty. Returns `Status::TooLong` or `Status::Memory` if that fails; then
+/// both are unchanged.
 #[unsafe(no_mangle)]
 pub extern "C" fn iobufs_frames_feed(alloc: Global, frames: &mut FramesAt, piece: &mut ViewAt) -> u8
     ensures at { (frames.new.at ≡ frames.old.at) × (piece.new.at ≡ piece.old.at) }
@@ -199,9 +201,9 @@ pub extern "C" fn iobufs_frames_head(prefix: u8, n: usize, out: &mut [u8], len: 
     Status::Done.code()
 }
 
-/// Takes the first frame, whose length is from `lo` to `hi`. `Status::EndOfBuffer` if it is not whole yet,
-/// `Status::InvalidVarint` or `Status::InvalidLength` if no further bytes can make it whole; of an invalid length,
-/// `wrong` is it. Unless a frame is taken, frames and place are as before.
+/// Takes the first frame, whose length is from `lo` to `hi`. Returns `Status::EndOfBuffer` if it is not whole yet,
+/// `Status::InvalidVarint` or `Status::InvalidLength` if no further bytes can make it whole, or `Status::Memory`; an
+/// invalid length is written to `wrong`. Unless a frame is taken, both handles are unchanged.
 #[unsafe(no_mangle)]
 pub extern "C" fn iobufs_frames_next(
     alloc: Global,

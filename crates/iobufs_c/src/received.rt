@@ -54,7 +54,7 @@ fn none() -> Option<Received>
     None
 }
 
-/// How many bytes a receive block's handle needs.
+/// Returns the size of a receive block in bytes.
 #[unsafe(no_mangle)]
 pub extern "C" fn iobufs_received_size() -> usize
     ensures value { result ≡ 120 }
@@ -62,7 +62,7 @@ pub extern "C" fn iobufs_received_size() -> usize
     mem::size_of::<Option<Received>>()
 }
 
-/// To what a receive block is aligned.
+/// Returns the alignment of a receive block.
 #[unsafe(no_mangle)]
 pub extern "C" fn iobufs_received_align() -> usize
     ensures value { result ≡ 8 }
@@ -117,7 +117,8 @@ pub extern "C" fn iobufs_received_len(received: &mut ReceivedAt) -> usize
 }
 
 /// Makes space for a read, of at least one byte, and writes its address and how many bytes it has. They are zeros, or what
-/// the block held before. Returns `Status::Declined` if there is no receive block. Unless it is done, `n` is unchanged.
+/// the block held before. Returns `Status::Memory` if an allocation fails, or `Status::Declined` if there is no receive
+/// block; then `n` is unchanged.
 #[unsafe(no_mangle)]
 pub extern "C" fn iobufs_frames_space(
     received: &mut ReceivedAt,
@@ -163,8 +164,8 @@ pub extern "C" fn iobufs_frames_filled(received: &mut ReceivedAt, n: usize) -> u
 }
 
 /// Takes the first frame, whose length is from `lo` to `hi`. Returns `Status::EndOfBuffer` if it is not whole yet,
-/// `Status::InvalidVarint` or `Status::InvalidLength` if no further bytes can make it whole; of an invalid length,
-/// `wrong` is it. Unless a frame is taken, both handles are unchanged. The body isn't copied.
+/// `Status::InvalidVarint` or `Status::InvalidLength` if no further bytes can make it whole, or `Status::Memory`; an invalid
+/// length is written to `wrong`. Unless a frame is taken, both handles are unchanged. The body isn't copied.
 #[unsafe(no_mangle)]
 pub extern "C" fn iobufs_received_next(
     received: &mut ReceivedAt,
