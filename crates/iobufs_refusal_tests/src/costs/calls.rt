@@ -9,7 +9,7 @@ use iobufs_core::buf::{IoBuf, IoBufMut};
 use iobufs_core::codec::{
     Buf, BufError, BufMut, BufsMut, Encode, Error, OwnedBytes, Peek, RangeCfg, Read, Refused,
 };
-use iobufs_frames::{ByteOrder, Frames, Prefix, Received, Width, framed_with};
+use iobufs_frames::{ByteOrder, Frames, Head, Prefix, Received, Width, framed_with};
 use std::alloc::Global;
 use std::ops::Bound::{Excluded, Included};
 use std::{io, mem};
@@ -418,6 +418,15 @@ fn prefix_of(len: usize) -> Prefix {
     }
 }
 
+// The prefix of a body's length, and the length.
+fn head_of(len: usize) -> Result<(Prefix, Head), BufError> {
+    let prefix = prefix_of(len);
+    if !prefix.fits(len) {
+        return Err(BufError::TooLong);
+    }
+    Ok((prefix, prefix.head(len)))
+}
+
 // A body, framed, without the length before it.
 fn framed(alloc: Global, text: IoBufs) -> Result<Given, BufError> {
     let prefix = prefix_of(text.len());
@@ -429,12 +438,9 @@ fn framed(alloc: Global, text: IoBufs) -> Result<Given, BufError> {
 
 // The body of a frame that comes in chunks.
 fn fed(alloc: Global, bytes: &'static [u8], len: usize) -> Result<IoBuf, BufError> {
-    let prefix = prefix_of(bytes.len());
+    let (prefix, head) = head_of(bytes.len())?;
     let mut frames = Frames::new(prefix);
-    frames.feed(
-        alloc,
-        IoBuf::copy_from_slice(alloc, prefix.head(bytes.len()).as_slice())?,
-    )?;
+    frames.feed(alloc, IoBuf::copy_from_slice(alloc, head.as_slice())?)?;
     for view in cut(alloc, bytes, len)? {
         frames.feed(alloc, view)?;
     }
@@ -443,8 +449,7 @@ fn fed(alloc: Global, bytes: &'static [u8], len: usize) -> Result<IoBuf, BufErro
 
 // The body of a frame that is read.
 fn received(alloc: Global, bytes: &'static [u8]) -> Result<IoBuf, BufError> {
-    let prefix = prefix_of(bytes.len());
-    let head = prefix.head(bytes.len());
+    let (prefix, head) = head_of(bytes.len())?;
     let mut from = io::Read::chain(head.as_slice(), bytes);
     let mut received = Received::new(alloc, prefix);
     for _ in 0..64 {

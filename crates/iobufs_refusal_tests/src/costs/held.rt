@@ -24,43 +24,32 @@ const CASES: [Case; 7] = rows! {
     "bodies_above_a_block", 30, 70000, 1000, true;
 };
 
-// Frames, each of these bytes, from an offset in the first.
+// Bytes that were not read, and how many a read gives at most.
 #[derive(Drop)]
 struct Source {
-    frame: Vec<u8>,
-    at: usize,
-    count: usize,
+    rest: &'static [u8],
     most: usize,
 }
 
 impl Read for Source {
     fn read(&mut self, buf: &mut [u8]) -> io::Result<usize> {
-        let mut done = 0;
-        let most = buf.len().min(self.most);
-        for _ in 0..most {
-            if self.count == 0 || self.at >= self.frame.len() {
-                return Ok(done);
-            }
-            buf[done] = self.frame[self.at];
-            done += 1;
-            self.at += 1;
-            if self.at == self.frame.len() {
-                self.at = 0;
-                self.count -= 1;
-            }
-        }
-        Ok(done)
+        let mut part = self.rest.get(..self.most).unwrap_or(self.rest);
+        let n = part.read(buf)?;
+        self.rest = self.rest.get(n..).unwrap_or_default();
+        Ok(n)
     }
 }
 
 fn source_of(alloc: Global, case: &Case) -> Result<Source, BufError> {
     let (_, count, len, most, _) = *case;
-    let mut frame = Vec::from_slice(alloc, Prefix::Spelled.head(len).as_slice())?;
-    frame.resize(frame.len().saturating_add(len), 7)?;
+    let head = Prefix::Spelled.head(len);
+    let mut bytes = Vec::new(alloc);
+    for _ in 0..count {
+        bytes.extend_from_slice(head.as_slice())?;
+        bytes.resize(bytes.len().saturating_add(len), 7)?;
+    }
     Ok(Source {
-        frame,
-        at: 0,
-        count,
+        rest: bytes.leak(),
         most,
     })
 }
@@ -109,7 +98,7 @@ fn receive(rt: &(impl Print + Abort + AllocGlobal), case: &Case) -> Result<(), F
     }
     println!(rt; "{} {most}", case.0)?;
     assert!(rt;
-        from.count == 0 && received.len() == 0,
+        from.rest.is_empty() && received.len() == 0,
         "{}: bytes are left",
         case.0
     );
