@@ -1,12 +1,12 @@
 -- Reads of an async reader that wait for a frame.
-use Rattle.std.specs.Prelude.{◌≡◌, ℕ, ◌≤◌, Option, None, Some, Result, Ok, Err, List, [], ◌++◌, length, refl}
+use Rattle.std.specs.Prelude.{◌≡◌, ℕ, ◌≤◌, Option, None, Some, Result, Ok, Err, List, [], ◌++◌}
 use Rattle.std.specs.Option.{option_transpose}
 use Rattle.std.specs.Result.{result_transpose}
 use Rattle.std.specs.declared.io.Error.{Error as IoError}
-use Rattle.std.proofs.Common.{ap, sym, subst, arith, inl, inr, ◌∙◌, append-nil, append_assoc}
+use Rattle.std.proofs.Common.{ap, sym, subst, arith, inl, inr, ◌∙◌, append-nil}
 use Rattle.futures.specs.declared.task.Poll.{Poll}
 use Rattle.futures.specs.declared.task.Poll.TheVariants.{Ready, Pending}
-use Rattle.tokio.specs.Io.Moved.{AppendsRead, Passes, PassesInOrder}
+use Rattle.tokio.specs.Io.Moved.{Passes, PassesInOrder}
 use Rattle.iobufs_core.specs.View.{View}
 use Rattle.iobufs_core.specs.declared.codec.base.RangeCfg.{RangeCfg}
 use Rattle.iobufs_frames.specs.Frames.{IsFramed, LacksFrame}

@@ -1,2 +1,3 @@
 mod Again
 mod InOrderLaws
+mod WebLaws

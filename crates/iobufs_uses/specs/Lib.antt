@@ -1,2 +1,5 @@
+pub mod Decoding
+pub mod DecodingLaws
 pub mod InOrder
 pub mod Send
+pub mod Web

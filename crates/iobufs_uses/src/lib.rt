@@ -2,15 +2,19 @@
 //!
 //! - `frame`: a frame codec. `send`: a sender of chunk lists. `store`: parts filled from a reader. `pool`, a caller of the
 //!   machine: the memory of freed blocks.
+//! - `web`: bodies of HTTP messages. `polled`: a sender to an async writer. `decoder`: frames of a `tokio_util` stream.
 //! - `note`, `request`: messages, and an enum, read by their parts. `alike`: code that is generic in the value and in the
 //!   reader.
 //! - The contracts are in the words of the layer and its `CallerFacts`.
 #![tactic(auto)]
 
 pub mod alike;
+pub mod decoder;
 pub mod frame;
 pub mod note;
+pub mod polled;
 pub mod pool;
 pub mod request;
 pub mod send;
 pub mod store;
+pub mod web;

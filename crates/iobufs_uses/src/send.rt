@@ -13,7 +13,7 @@ use std::alloc::Global;
 use std::io::{self, ErrorKind, IoSlice, Write};
 
 // The first chunks of a text, at most `most` of them.
-fn batch(alloc: Global, text: &IoBufs, most: usize) -> io::Result<Vec<IoSlice<'_>>>
+pub(crate) fn batch(alloc: Global, text: &IoBufs, most: usize) -> io::Result<Vec<IoSlice<'_>>>
     ensures { IfOk result (λ slices. map io_slice_bytes slices.items ≡ take most (text_chunks text.now)) }
 {
     let Ok(chunks) = text.chunks_vectored(alloc, most) else {
