@@ -1,7 +1,6 @@
 -- Why no record is at the front, and which one is.
 --     head_is, is_head               bytes that are told to begin with a head do so, and the converse
 --     no_start, no_head, no_body     too few bytes, no head, and no body that has its sum after it are no record
---     torn_body                      a head with too few bytes after it is torn
 --     record_at                      a head with a body and its sum is a record
 --     is_head_at, said_here          bytes that agree with a head are told to begin with it; the length that was read
 --     found_at, found_short, none_at    slices of a view are a record, its body is short enough, and no record is there
@@ -15,7 +14,7 @@ use Rattle.iobufs_core.proofs.CallerFacts.{bytes-view_between}
 use Rattle.iobufs_core.specs.View.{View, view_slice}
 use Rattle.iobufs_journal.specs.Crc.{crc32}
 use Rattle.iobufs_journal.specs.Journal.{IsInHead, IsTornAt, IsUnread, front, head, record_written, summed, version}
-use Rattle.iobufs_journal.specs.JournalLaws.{HasHead, IsHead, IsSummed, after_head, cut_head, front_at, head_at, is_summed, length-head, length-record, said, summed_is, version_at}
+use Rattle.iobufs_journal.specs.JournalLaws.{HasHead, IsHead, IsSummed, after_head, cut_head, front_at, head_at, is_summed, long_head, long_record, said, summed_is, version_at}
 use Rattle.std.specs.declared.ops.Bound.TheVariants.{Included, Excluded}
 
 -- bytes that are told to begin with a head do so
@@ -38,17 +37,6 @@ is_head number n bytes x e = record {
   number_is = sym (drop-take 4 8 bytes) ∙ ap (drop 4) (front_at number n bytes x e) ∙ drop-append_seam version (to_be_bytes w64 number);
   sum_is = is_summed (take 20 bytes) (front number ++ to_be_bytes w32 n) (head_at number n bytes x e);
 }
-
-long_record : (number : ℕ) (bytes body more : List ℕ) → bytes ≡ record_written number body ++ more → length bytes ≡ 24 + length body + length more
-long_record number bytes body more e = omega (
-  arith,
-  ap (λ (w : List ℕ). length w) e,
-  length-append (record_written number body) more,
-  length-record number body,
-)
-
-long_head : (number n : ℕ) (bytes rest : List ℕ) → bytes ≡ head number n ++ rest → length bytes ≡ 20 + length rest
-long_head number n bytes rest e = omega (arith, ap (λ (w : List ℕ). length w) e, length-append (head number n) rest, length-head number n)
 
 -- fewer bytes than a head that don't begin as one are no record
 pub no_start : (most number : ℕ) (bytes : List ℕ) → 0 < length bytes → length bytes < 20 → (IsInHead bytes → ⊥) → IsUnread most number bytes
@@ -105,17 +93,6 @@ no_body most number n bytes large has never =
           never body (ap (take (n + 4)) rest ∙ ap (λ k. take k (summed body ++ more)) long ∙ take-append_seam (summed body) more);
     }
 
--- a head with too few bytes after it is torn
-pub torn_body : (most number n : ℕ) (bytes : List ℕ) → n ≤ most → take 20 bytes ≡ head number n → 20 ≤ length bytes → length bytes < 24 + n
-    → IsTornAt most number bytes
-torn_body most number n bytes inside at enough few = inr (record {
-  n = n;
-  rest = drop 20 bytes;
-  inside = inside;
-  whole = cut_head number n bytes at;
-  few = omega (arith, enough, few, length-drop 20 bytes);
-})
-
 -- the body after a head
 pub body_long : (most number n : ℕ) (bytes : List ℕ) → HasHead most number n bytes → length (take n (drop 20 bytes)) ≡ n
 body_long most number n bytes has =
@@ -139,6 +116,7 @@ record_at most number n bytes has sum =
     ∙ ap (λ w. head number n ++ (summed body ++ w)) after ∙ sym (append_assoc (head number n) (summed body) (drop (24 + n) bytes))
     ∙ ap (λ k. (head number k ++ summed body) ++ drop (24 + n) bytes) (sym (body_long most number n bytes has))
 
+-- bytes that agree with a head are told to begin with one
 pub is_head_at : (number n : ℕ) (bytes : List ℕ) → take 20 bytes ≡ head number n → IsHead number bytes
 is_head_at number n bytes at = is_head number n bytes (drop 20 bytes) (cut_head number n bytes at)
 
@@ -174,6 +152,7 @@ found_at most number n all text body rest has sum is slice after =
     ∙ ap (λ w. record_written number w ++ drop (24 + n) text.bytes) (sym (body_is most number n text body has slice))
     ∙ ap (λ w. record_written number body.bytes ++ w) (sym left)
 
+-- its body is short enough
 pub found_short : (most number n : ℕ) (text body : View) → HasHead most number n text.bytes → body ≡ view_slice text (Included 20) (Excluded (20 + n))
     → length body.bytes ≤ most
 found_short most number n text body has slice =

@@ -11,10 +11,10 @@ use Rattle.std.proofs.lemmas.Bool.Decides.{nat_tests}
 use Rattle.std.proofs.lemmas.List.{length-drop, length-take-le, take-append-le}
 use Rattle.iobufs_core.proofs.LengthFacts.{less}
 use Rattle.iobufs_journal.specs.Journal.{AreAlike, AreShort, HasNoRecord, HasOneJournal, IsJournal, IsOld, IsUnread, head, record_written, records_written, summed, version, whole_of}
-use Rattle.iobufs_journal.specs.JournalLaws.{HasHead, begun, cut_head, is_summed, length-record, one_record, said, short_on, summed_is, torn_or_whole, written_on}
+use Rattle.iobufs_journal.specs.JournalLaws.{HasHead, begun, cut_head, is_summed, length-record, long_record, one_record, said, short_on, summed_is, torn_body, torn_or_whole, written_on}
 use Rattle.iobufs_journal.specs.declared.journal.JournalEnd.{JournalEnd}
 use Rattle.iobufs_journal.specs.declared.journal.JournalEnd.TheVariants.{Whole, Torn, Damaged, Old}
-use Rattle.iobufs_journal.proofs.FrontLaws.{body_long, no_body, no_head, no_start, record_at, torn_body}
+use Rattle.iobufs_journal.proofs.FrontLaws.{body_long, no_body, no_head, no_start, record_at}
 
 -- ---- one end
 
@@ -42,13 +42,8 @@ one_end most number bytes Old Old p q = refl
 -- where a record is at the front, no reason holds that none is
 stands : (most number : ℕ) (text body behind : List ℕ) (end : JournalEnd) → most < 2 ^ 32 → length body ≤ most → text ≡ record_written number body ++ behind
     → HasNoRecord most number text end → ⊥
-stands most number text body behind Whole large short e none = omega (
-  arith,
-  ap (λ (w : List ℕ). length w) e,
-  length-append (record_written number body) behind,
-  length-record number body,
-  ap (λ (w : List ℕ). length w) none,
-)
+stands most number text body behind Whole large short e none =
+    omega (arith, long_record number text body behind e, ap (λ (w : List ℕ). length w) none)
 stands most number text body behind Torn large short e (some, torn) = torn_or_whole most number text body behind large short e torn
 stands most number text body behind Damaged large short e none = none.0.no_record body behind short e
 stands most number text body behind Old large short e none = none.0.no_record body behind short e

@@ -3,8 +3,7 @@
 --     version, front                     what each head begins with; that and a number
 --     summed, head                       bytes with their CRC-32; a front and a length with theirs
 --     record_written, records_written    a head, and a body with its CRC-32; several, numbered from one on
---     IsTornAt                           the bytes end inside a head (`IsInHead`), or inside the body that follows a head
---                                        (`IsInBody`)
+--     IsTornAt, IsInHead, IsInBody       the bytes end inside a head, or inside the body that follows a head
 --     IsUnread, IsOld                    neither a torn record nor a whole one is at the front; the bytes begin as a journal
 --                                        of the first format does
 --     HasNoRecord                        why no record is at the front: the bytes are at their end, torn, damaged, or of

@@ -3,8 +3,9 @@
 --     HasHead                                and with so many bytes of a body and its sum after it
 --     length-head, length-record             how long they are
 --     summed_is, is_summed                   such bytes are summed, and the converse
---     begun                                  a record that is cut off is torn
---     says, cut_head                         the length that a head says; bytes that agree with one begin with it
+--     long_record, long_head                 how long bytes are that begin with a record, or with a head
+--     torn_body, begun                       a head with too few bytes after it is torn, and a record that is cut off
+--     said, cut_head                         the length that a head says; bytes that agree with one begin with it
 --     one_record                             two records at the front are one
 --     stays_unread                           no more bytes make a record of what isn't one
 --     short_on, written_on, written_more     records after each other are short, and numbered on
@@ -64,6 +65,18 @@ is_summed bytes body e =
 
 -- ---- heads
 
+-- how long bytes are that begin with a record, or with a head
+pub long_record : (number : ℕ) (bytes body more : List ℕ) → bytes ≡ record_written number body ++ more → length bytes ≡ 24 + length body + length more
+long_record number bytes body more e = omega (
+  arith,
+  ap (λ (w : List ℕ). length w) e,
+  length-append (record_written number body) more,
+  length-record number body,
+)
+
+pub long_head : (number n : ℕ) (bytes rest : List ℕ) → bytes ≡ head number n ++ rest → length bytes ≡ 20 + length rest
+long_head number n bytes rest e = omega (arith, ap (λ (w : List ℕ). length w) e, length-append (head number n) rest, length-head number n)
+
 -- the bytes of a head and what is after it, part by part
 parts : (number n : ℕ) (x : List ℕ)
     → head number n ++ x ≡ front number ++ (to_be_bytes w32 n ++ (to_be_bytes w32 (crc32 (front number ++ to_be_bytes w32 n)) ++ x))
@@ -72,19 +85,17 @@ parts number n x =
     let sum = to_be_bytes w32 (crc32 (front number ++ len)) in
     append_assoc (front number ++ len) sum x ∙ append_assoc (front number) len (sum ++ x)
 
--- the length that a head says
-pub says : (number n : ℕ) (x : List ℕ) → n < 2 ^ 32 → from_be_bytes w32 (take 4 (drop 12 (head number n ++ x))) ≡ n
-says number n x small =
-    let len = to_be_bytes w32 n in
-    let more = to_be_bytes w32 (crc32 (front number ++ len)) ++ x in
-    ap (λ w. from_be_bytes w32 (take 4 (drop 12 w))) (parts number n x) ∙ ap (λ w. from_be_bytes w32 (take 4 w)) (drop-append_seam (front number) (len ++ more))
-    ∙ ap (from_be_bytes w32) (take-append_seam len more) ∙ from_be_bytes-to_be_bytes_4 n small
-
 pub head_at : (number n : ℕ) (bytes x : List ℕ) → bytes ≡ head number n ++ x → take 20 bytes ≡ head number n
 head_at number n bytes x e = ap (take 20) e ∙ ap (λ k. take k (head number n ++ x)) (sym (length-head number n)) ∙ take-append_seam (head number n) x
 
+-- the length that a head says
 pub said : (number n : ℕ) (bytes x : List ℕ) → bytes ≡ head number n ++ x → n < 2 ^ 32 → n ≡ from_be_bytes w32 (take 4 (drop 12 bytes))
-said number n bytes x e small = sym (ap (λ w. from_be_bytes w32 (take 4 (drop 12 w))) e ∙ says number n x small)
+said number n bytes x e small =
+    let len = to_be_bytes w32 n in
+    let more = to_be_bytes w32 (crc32 (front number ++ len)) ++ x in
+    sym (ap (λ w. from_be_bytes w32 (take 4 (drop 12 w))) (e ∙ parts number n x)
+    ∙ ap (λ w. from_be_bytes w32 (take 4 w)) (drop-append_seam (front number) (len ++ more)) ∙ ap (from_be_bytes w32) (take-append_seam len more)
+    ∙ from_be_bytes-to_be_bytes_4 n small)
 
 -- bytes that agree with a head as far as it goes begin with it
 pub cut_head : (number n : ℕ) (bytes : List ℕ) → take 20 bytes ≡ head number n → bytes ≡ head number n ++ drop 20 bytes
@@ -98,6 +109,17 @@ front_at number n bytes x e =
 pub version_at : (number n : ℕ) (bytes x : List ℕ) → bytes ≡ head number n ++ x → take 4 bytes ≡ version
 version_at number n bytes x e =
     sym (take-take 4 12 bytes (omega arith)) ∙ ap (take 4) (front_at number n bytes x e) ∙ take-append_seam version (to_be_bytes w64 number)
+
+-- a head with too few bytes after it is torn
+pub torn_body : (most number n : ℕ) (bytes : List ℕ) → n ≤ most → take 20 bytes ≡ head number n → 20 ≤ length bytes → length bytes < 24 + n
+    → IsTornAt most number bytes
+torn_body most number n bytes inside at enough few = inr (record {
+  n = n;
+  rest = drop 20 bytes;
+  inside = inside;
+  whole = cut_head number n bytes at;
+  few = omega (arith, enough, few, length-drop 20 bytes);
+})
 
 -- a record that is cut off is torn
 pub begun : (most number n : ℕ) (bytes more x : List ℕ) → bytes ++ more ≡ head number n ++ x → n ≤ most → length bytes < 24 + n → IsTornAt most number bytes
@@ -116,14 +138,7 @@ begun most number n bytes more x e inside few = elim (less (length bytes) 20) [
         ],
       )
   | inr enough ↦
-      let at : take 20 bytes ≡ head number n = sym (take-append-le 20 bytes more enough) ∙ head_at number n (bytes ++ more) x e in
-      inr (record {
-        n = n;
-        rest = drop 20 bytes;
-        inside = inside;
-        whole = cut_head number n bytes at;
-        few = omega (arith, enough, few, length-drop 20 bytes);
-      })
+      torn_body most number n bytes inside (sym (take-append-le 20 bytes more enough) ∙ head_at number n (bytes ++ more) x e) enough few
 ]
 
 -- ---- records
@@ -135,30 +150,13 @@ after_head number body more = append_assoc (head number (length body)) (summed b
 -- a torn record and a whole one are two
 pub torn_or_whole : (most number : ℕ) (bytes body more : List ℕ) → most < 2 ^ 32 → length body ≤ most → bytes ≡ record_written number body ++ more
     → IsTornAt most number bytes → ⊥
-torn_or_whole most number bytes body more large short e (inl (few, same)) = omega (
-  arith,
-  few,
-  ap (λ (w : List ℕ). length w) e,
-  length-append (record_written number body) more,
-  length-record number body,
-)
+torn_or_whole most number bytes body more large short e (inl (few, same)) = omega (arith, few, long_record number bytes body more e)
 torn_or_whole most number bytes body more large short e (inr torn) =
     let inside = torn.inside in
     let few = torn.few in
     let n : torn.n ≡ from_be_bytes w32 (take 4 (drop 12 bytes)) = said number torn.n bytes torn.rest torn.whole (omega (arith, inside, large)) in
     let m = said number (length body) bytes (summed body ++ more) (e ∙ after_head number body more) (omega (arith, short, large)) in
-    omega (
-      arith,
-      few,
-      n,
-      m,
-      ap (λ (w : List ℕ). length w) torn.whole,
-      length-append (head number torn.n) torn.rest,
-      length-head number torn.n,
-      ap (λ (w : List ℕ). length w) e,
-      length-append (record_written number body) more,
-      length-record number body,
-    )
+    omega (arith, few, n, m, long_head number torn.n bytes torn.rest torn.whole, long_record number bytes body more e)
 
 -- two records at the front of the same bytes are one
 pub one_record : (number : ℕ) (a b x y : List ℕ) → length a < 2 ^ 32 → length b < 2 ^ 32 → record_written number a ++ x ≡ record_written number b ++ y
@@ -187,14 +185,8 @@ stays_unread most number bytes more none = record {
         none.not_torn (inl (shorter, agree bytes more same))
     | inr torn ↦
         let few = torn.few in
-        none.not_torn (begun most number torn.n bytes more torn.rest torn.whole torn.inside (omega (
-          arith,
-          few,
-          ap (λ (w : List ℕ). length w) torn.whole,
-          length-append (head number torn.n) torn.rest,
-          length-head number torn.n,
-          length-append bytes more,
-        )))
+        none.not_torn (begun most number torn.n bytes more torn.rest torn.whole torn.inside
+        (omega (arith, few, long_head number torn.n (bytes ++ more) torn.rest torn.whole, length-append bytes more)))
   ];
   no_record = λ body after short is. elim (less (length bytes) (24 + length body)) [
     | inl few ↦ none.not_torn (begun most number (length body) bytes more (summed body ++ after) (is ∙ after_head number body after) short few)

@@ -3,4 +3,5 @@ pub mod Ending
 pub mod Journal
 pub mod JournalLaws
 pub mod Lines
+pub mod Plan
 pub mod Scan

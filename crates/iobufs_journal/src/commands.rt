@@ -1,9 +1,10 @@
-// The commands, over any file. `ending` and `lines` decide; this does it.
+// The commands, over any file. `ending`, `plan` and `lines` decide; this does it.
 use crate::disk::Disk;
 use crate::ending::{self, Plan, planned};
 use crate::failure::{Failure, named};
-use crate::journal::{Ending, JournalEnd};
+use crate::journal::Ending;
 use crate::lines;
+use crate::plan::{FileState, Next, Told, after_lines, cuts, told_of};
 use crate::scan::print;
 use std::alloc::Global;
 use std::io::{self, Read, Take, Write};
@@ -14,9 +15,13 @@ fn front<D: Disk>(disk: &mut D) -> Result<Take<&mut D>, Failure> {
     Ok(Read::by_ref(disk).take(len))
 }
 
+// Fails if the journal isn't at its name, or has another length.
 fn find<D: Disk>(disk: &mut D) -> Result<(), Failure> {
-    let is_named = named("cannot find it", disk.is_named())?;
-    is_named.then_some(()).ok_or(Failure::Renamed)
+    match named("cannot find it", disk.look())? {
+        FileState::Same => Ok(()),
+        FileState::Renamed => Err(Failure::Renamed),
+        FileState::Changed => Err(Failure::Changed),
+    }
 }
 
 // How a journal ends that no other program writes to.
@@ -29,23 +34,28 @@ fn claimed<D: Disk>(alloc: Global, disk: &mut D) -> Result<Ending, Failure> {
 
 // Cuts off what follows the records, and returns how many bytes.
 fn cut<D: Disk>(disk: &mut D, ending: Ending) -> Result<u64, Failure> {
+    if named("cannot find it", disk.look())? == FileState::Changed {
+        return Err(Failure::Changed);
+    }
     let len = named("cannot measure it", disk.rewind())?;
     named("cannot cut it", disk.cut(ending.taken))?;
     named("cannot sync it", disk.flush())?;
     Ok(len.saturating_sub(ending.taken))
 }
 
-// The number of a journal's records once its torn end, if it has one, is cut off, and whether they are synced.
-fn cut_back<D: Disk>(alloc: Global, disk: &mut D) -> Result<(u64, bool), Failure> {
+// How a journal ends after an append that failed, and whether its records are synced. A torn end is cut off first if `next`
+// says so.
+fn undone<D: Disk>(alloc: Global, disk: &mut D, next: Next) -> Result<(Ending, bool), Failure> {
     let ending = print(alloc, &mut front(disk)?, &mut io::sink())?;
-    if planned(ending.end, true, false) == Plan::Cut {
+    if cuts(next, ending.end) {
         cut(disk, ending)?;
-        return Ok((ending.found, true));
+        return Ok((ending, true));
     }
-    Ok((ending.found, disk.flush().is_ok()))
+    Ok((ending, disk.flush().is_ok()))
 }
 
-/// Appends the lines of a reader as records to a journal that is whole. If it fails then, it tells how many it appended.
+/// Appends the lines of a reader as records to a journal that is whole. If it fails then, it tells how many it appended, or how
+/// the journal ends if another program changed it.
 pub fn append<D: Disk, R: Read, W: Write>(
     alloc: Global,
     name: &str,
@@ -57,25 +67,35 @@ pub fn append<D: Disk, R: Read, W: Write>(
     if planned(ending.end, false, false) != Plan::Keep {
         return Err(Failure::NotWhole(ending));
     }
-    let failure = match lines::append(alloc, ending.found, from, disk) {
-        Ok((_, true)) => Failure::LongLine,
-        Ok(_) => match find(disk) {
-            Ok(()) => return Ok(0),
-            Err(failure) => failure,
-        },
-        Err(failure) => failure,
+    let sent = match lines::append(alloc, ending.found, from, disk) {
+        Ok((_, true)) => Err(Failure::LongLine),
+        Ok(_) => Ok(()),
+        Err(failure) => Err(failure),
     };
-    let _ = match cut_back(alloc, disk) {
-        Ok((found, is_synced)) => {
-            let lines = found.saturating_sub(ending.found);
-            let is_safe = is_synced && !matches!(failure, Failure::Unsynced(_));
-            let but = if is_safe {
-                ""
-            } else {
-                ", but a crash may lose some"
-            };
-            writeln!(told, "{name}: {lines} lines were appended{but}")
-        }
+    let found = find(disk);
+    let next = after_lines(
+        sent.is_ok(),
+        found.is_ok(),
+        matches!(found, Err(Failure::Changed)),
+    );
+    let Err(failure) = sent.and(found) else {
+        return Ok(0);
+    };
+    let is_unsynced = matches!(failure, Failure::Unsynced(_));
+    let _ = match undone(alloc, disk, next) {
+        Ok((now, is_synced)) => match told_of(
+            next,
+            ending.found,
+            now.found,
+            is_synced && !is_unsynced,
+        ) {
+            Told::Ending => writeln!(told, "{name}: {now}"),
+            Told::Lines(lines) => writeln!(told, "{name}: {lines} lines were appended"),
+            Told::Unsafe(lines) => writeln!(
+                told,
+                "{name}: {lines} lines were appended, but a crash may lose some"
+            ),
+        },
         Err(_) => writeln!(told, "{name}: it may be torn: see check and repair"),
     };
     Err(failure)
@@ -85,8 +105,10 @@ pub fn append<D: Disk, R: Read, W: Write>(
 pub fn replay<D: Disk, W: Write>(alloc: Global, disk: &mut D, to: &mut W) -> Result<u8, Failure> {
     let ending = print(alloc, &mut front(disk)?, to)?;
     named("cannot print", to.flush())?;
-    let is_whole = ending.end == JournalEnd::Whole;
-    is_whole.then_some(0).ok_or(Failure::NotWhole(ending))
+    match planned(ending.end, false, false) {
+        Plan::Keep => Ok(0),
+        Plan::Cut | Plan::Refuse => Err(Failure::NotWhole(ending)),
+    }
 }
 
 /// Prints how a journal ends, and returns the status.

@@ -1,9 +1,9 @@
 // How a journal ends, and what a command does then.
 ghost use Rattle.std.specs.Prelude.{◌≡◌, IfOk, IfSome};
-ghost use Rattle.iobufs_journal.specs.Ending.{IsChecked, plan_of, status_of};
+ghost use Rattle.iobufs_journal.specs.Ending.{IsChecked, plan_of};
 
 use crate::failure::{Failure, named};
-use crate::journal::JournalEnd;
+use crate::journal::{JournalEnd, status};
 use crate::scan::print;
 use std::alloc::Global;
 use std::io::{self, Read, Write};
@@ -29,17 +29,6 @@ pub fn planned(end: JournalEnd, is_repair: bool, is_forced: bool) -> Plan
         JournalEnd::Torn if is_repair => Plan::Cut,
         JournalEnd::Damaged if is_repair && is_forced => Plan::Cut,
         JournalEnd::Torn | JournalEnd::Damaged | JournalEnd::Old => Plan::Refuse,
-    }
-}
-
-/// Returns the exit status of a program that read a journal: 0 if it is whole, 4 if its format is older, else 1.
-pub fn status(end: JournalEnd) -> u8
-    ensures { result ≡ status_of end }
-{
-    match end {
-        JournalEnd::Whole => 0,
-        JournalEnd::Torn | JournalEnd::Damaged => 1,
-        JournalEnd::Old => 4,
     }
 }
 

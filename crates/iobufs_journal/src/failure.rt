@@ -1,8 +1,8 @@
 // Why a command doesn't do all.
 ghost use Rattle.std.specs.Prelude.{◌≡◌, IfOk, Ok};
+ghost use Rattle.iobufs_journal.specs.Plan.{failure_status};
 
-use crate::ending::status;
-use crate::journal::Ending;
+use crate::journal::{Ending, status};
 use iobufs_core::codec::BufError;
 use std::alloc::AllocError;
 use std::io::{self, ErrorKind};
@@ -17,6 +17,9 @@ pub enum Failure {
     /// The journal isn't at its name any more.
     #[error("it was removed or renamed")]
     Renamed,
+    /// Another program wrote to the journal, or cut it.
+    #[error("another program changed it")]
+    Changed,
     /// The journal isn't whole.
     #[error("{0}")]
     NotWhole(Ending),
@@ -39,7 +42,9 @@ pub enum Failure {
 
 impl Failure {
     /// Returns the exit status: that of a journal that isn't whole, else 3.
-    pub fn status(&self) -> u8 {
+    pub fn status(&self) -> u8
+        ensures { result ≡ failure_status self.now }
+    {
         match self {
             Failure::NotWhole(ending) => status(ending.end),
             _ => 3,

@@ -3,7 +3,7 @@
 ghost use Rattle.std.specs.Prelude.{◌≡◌, ℕ, ◌+◌, ◌^◌, ◌<◌, ◌≤◌, ◌++◌, length, take, drop, IfErr, IfOk, IsOkUnless, IsTrue, Some, ◌↔◌};
 ghost use Rattle.std.specs.Int.{w32, to_be_bytes};
 ghost use Rattle.iobufs_core.specs.Part.{part_put};
-ghost use Rattle.iobufs_journal.specs.Ending.{end_words, ending_text};
+ghost use Rattle.iobufs_journal.specs.Ending.{end_words, ending_text, status_of};
 ghost use Rattle.iobufs_journal.specs.Journal.{HasNoRecord, IsInHead, IsOld, IsUnread, record_written};
 ghost use Rattle.iobufs_journal.specs.JournalLaws.{HasHead, IsHead, IsSummed};
 
@@ -53,6 +53,17 @@ pub struct Found {
     pub body: IoBuf,
     /// The bytes after it.
     pub rest: IoBuf,
+}
+
+/// Returns the exit status of a program that read a journal: 0 if it is whole, 4 if its format is older, else 1.
+pub fn status(end: JournalEnd) -> u8
+    ensures { result ≡ status_of end }
+{
+    match end {
+        JournalEnd::Whole => 0,
+        JournalEnd::Torn | JournalEnd::Damaged => 1,
+        JournalEnd::Old => 4,
+    }
 }
 
 // The printed words for a journal's end.

@@ -9,6 +9,7 @@ mod failure;
 mod journal;
 mod laws;
 mod lines;
+mod plan;
 mod scan;
 
 use clap::error::ErrorKind;
@@ -68,8 +69,7 @@ fn obey(
     how.read(true).write(is_repair).append(is_append);
     how.create(is_append).mode(0o600);
     let (is_synced, is_forced) = (given.get_flag("sync"), given.get_flag("force"));
-    let opened = HostFile::open(rt, name, &how, is_repair || is_synced);
-    let mut disk = named("cannot open it", opened)?;
+    let mut disk = HostFile::open(rt, name, &how, is_repair || is_synced)?;
     let mut printed = named("cannot print", BufWriter::new(alloc, rt.stdout()))?;
     match command {
         "append" => commands::append(alloc, name, &mut disk, &mut rt.stdin(), &mut rt.stderr()),

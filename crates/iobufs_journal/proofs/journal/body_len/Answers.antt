@@ -1,7 +1,8 @@
 use Rattle.std.proofs.Common.{arith, refl, ◌≡◌, ℕ, take}
 use Rattle.std.proofs.lemmas.Bool.Decides.{nat_tests}
 use Rattle.iobufs_journal.specs.Journal.{head}
-use Rattle.iobufs_journal.proofs.FrontLaws.{head_is, is_head_at, no_head, no_start, said_here, torn_body}
+use Rattle.iobufs_journal.specs.JournalLaws.{torn_body}
+use Rattle.iobufs_journal.proofs.FrontLaws.{head_is, is_head_at, no_head, no_start, said_here}
 use Rattle.iobufs_journal.proofs.journal.body_len.Goals as goal
 
 pub returns-then-bytes-lt-HEAD-clause-none : goal.returns-then-bytes-lt-HEAD-clause-none
