@@ -54,6 +54,18 @@ fn undone<D: Disk>(alloc: Global, disk: &mut D, next: Next) -> Result<(Ending, b
     Ok((ending, disk.flush().is_ok()))
 }
 
+// Prints what a failed append tells.
+fn tell<W: Write>(name: &str, now: Ending, what: Told, to: &mut W) -> io::Result<()> {
+    match what {
+        Told::Ending => writeln!(to, "{name}: {now}"),
+        Told::Lines(n) => writeln!(to, "{name}: {n} lines were appended"),
+        Told::Unsafe(n) => writeln!(
+            to,
+            "{name}: {n} lines were appended, but a crash may lose some"
+        ),
+    }
+}
+
 /// Appends the lines of a reader as records to a journal that is whole. If it fails then, it tells how many it appended, or how
 /// the journal ends if another program changed it.
 pub fn append<D: Disk, R: Read, W: Write>(
@@ -83,19 +95,11 @@ pub fn append<D: Disk, R: Read, W: Write>(
     };
     let is_unsynced = matches!(failure, Failure::Unsynced(_));
     let _ = match undone(alloc, disk, next) {
-        Ok((now, is_synced)) => match told_of(
-            next,
-            ending.found,
-            now.found,
-            is_synced && !is_unsynced,
-        ) {
-            Told::Ending => writeln!(told, "{name}: {now}"),
-            Told::Lines(lines) => writeln!(told, "{name}: {lines} lines were appended"),
-            Told::Unsafe(lines) => writeln!(
-                told,
-                "{name}: {lines} lines were appended, but a crash may lose some"
-            ),
-        },
+        Ok((now, is_synced)) => {
+            let are_safe = is_synced && !is_unsynced;
+            let what = told_of(next, ending.found, now.found, are_safe);
+            tell(name, now, what, told)
+        }
         Err(_) => writeln!(told, "{name}: it may be torn: see check and repair"),
     };
     Err(failure)

@@ -48,9 +48,17 @@ fn sync_folder(rt: &HostRuntime, name: &str, is_new: bool) -> io::Result<()> {
 fn is_stream(rt: &HostRuntime, path: &str, file: &Metadata) -> io::Result<bool> {
     match fs::metadata(rt, path) {
         Ok(stream) => Ok(stream.dev() == file.dev() && stream.ino() == file.ino()),
-        Err(error) if error.kind() == ErrorKind::NotFound => Ok(false),
+        Err(error) if is_hidden(&error) => Ok(false),
         Err(error) => Err(error),
     }
+}
+
+// Whether the system doesn't show what was asked for.
+fn is_hidden(error: &io::Error) -> bool {
+    matches!(
+        error.kind(),
+        ErrorKind::NotFound | ErrorKind::PermissionDenied
+    )
 }
 
 fn test_kind(found: &Metadata) -> io::Result<()> {
