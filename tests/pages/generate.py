@@ -154,7 +154,8 @@ def own():
 
 
 def edits(crate):
-    return list((ROOT / "tests/mutants" / crate).glob("*.edit"))
+    file = ROOT / "tests/mutants" / f"{crate}.edits"
+    return file.read_text().split("\n\n") if file.is_file() else []
 
 
 def matrix():
@@ -168,7 +169,7 @@ def matrix():
         totals = [a + b for a, b in zip(totals, row)]
         yield f"|`{crate}`|{layer(crate)}|" + "|".join(map(str, row)) + "|"
     yield "|all||" + "|".join(map(str, totals)) + "|"
-    named = sum("\nnamed: yes" in "\n" + edit.read_text() for crate in uses() for edit in edits(crate))
+    named = sum("\nnamed: yes" in edit for crate in uses() for edit in edits(crate))
     requests = [line.split() for line in (ROOT / "tests/requests").read_text().splitlines()]
     swept = sum(int(number) for it in requests for number in it[:3])
     yield f"\n{totals[4]} mutants, {named} of them named. Allocations that `tests/refuse` fails in turn: {swept} of {len(requests)} stored sessions."
