@@ -23,7 +23,7 @@
  *     join, a SEQ_CST atomic); buffers that share a block may be used by several threads at once. Calls that only look
  *     (at a const handle, and `.._chunk` of a writable buffer) may be several at once on one buffer: that is tested, not
  *     proved.
- *  4. Pointers to bytes are not NULL, also for 0 bytes, and outlive the call. The bytes of `iobuf_from_static` live, unchanged,
+ *  4. No pointer is NULL, also for 0 bytes; those to bytes outlive the call. The bytes of `iobuf_from_static` live, unchanged,
  *     until the last buffer made of them is dropped.
  *  5. The pointer of `.._chunk` and its like may be read until the next call that changes or drops that buffer. Only the
  *     bytes of a writable buffer (`iobufmut`, `iobufsmut`) may be overwritten there, and the space that
