@@ -15,12 +15,12 @@ use std::ops::{Bound, RangeBounds};
 pub struct RangeCfg<T>(Bound<T>, Bound<T>);
 
 impl<T: Copy> RangeCfg<T> {
-    /// Those of a range.
+    /// Admits the lengths of a range.
     pub fn new(range: impl RangeBounds<T>) -> Self {
         RangeCfg(range.start_bound().cloned(), range.end_bound().cloned())
     }
 
-    /// This one alone.
+    /// Admits this length alone.
     pub fn exact(n: T) -> Self {
         RangeCfg(Bound::Included(n), Bound::Included(n))
     }
@@ -73,7 +73,7 @@ pub trait Source: Buf {
 /// What every source has without the feature `bytes`. With it, this is that crate's trait of the same name.
 #[cfg(not(feature = "bytes"))]
 pub trait Buf {
-    /// How many bytes are left.
+    /// Returns how many bytes are left.
     fn remaining(&self) -> usize;
     /// Fills a destination with the first bytes, which are dropped. Panics if there are fewer.
     fn copy_to_slice(&mut self, dst: &mut [u8]);
@@ -127,7 +127,7 @@ pub trait Sink: BufMut {
 /// What every destination has without the feature `bytes`. With it, this is that crate's trait of the same name.
 #[cfg(not(feature = "bytes"))]
 pub trait BufMut {
-    /// How many bytes may still be put.
+    /// Returns how many bytes may still be put.
     fn remaining_mut(&self) -> usize;
     /// Puts bytes.
     fn put_slice(&mut self, src: &[u8]);
@@ -187,10 +187,10 @@ impl BufsMut for Builder {
 
 /// How many bytes a value is written as.
 pub trait EncodeSize {
-    /// All of them. Panics if they are more than `usize::MAX`.
+    /// Returns the number of bytes. Panics if they are more than `usize::MAX`.
     fn encode_size(&self) -> usize;
 
-    /// Those that `write_bufs` doesn't push.
+    /// Returns how many of them `write_bufs` doesn't push.
     fn encode_inline_size(&self) -> usize {
         self.encode_size()
     }
@@ -250,7 +250,7 @@ impl Input for IoBufsMut {
 
 /// Decoding of a whole buffer.
 pub trait Decode: Read {
-    /// The value that is all of the buffer; `Error::ExtraData` if bytes are left after it.
+    /// Reads the value that is all of the buffer. Returns `Error::ExtraData` if bytes are left after it.
     fn decode_cfg(buf: impl Input, cfg: &Self::Cfg) -> Result<Self, Error> {
         let mut buf = buf.into();
         let value = Self::read_cfg(&mut buf, cfg)?;
@@ -265,7 +265,7 @@ impl<T: Read> Decode for T {}
 
 /// Encoding into one buffer.
 pub trait Encode: EncodeSize + Write {
-    /// The written value, in a buffer of exactly its size.
+    /// Writes the value into a buffer of exactly its size.
     #[track_caller]
     fn encode(&self) -> IoBufMut {
         let mut buf = IoBufMut::with_capacity(self.encode_size());
@@ -279,7 +279,7 @@ impl<T: EncodeSize + Write> Encode for T {}
 
 /// Encoding into an `IoBufs`.
 pub trait EncodeExt: EncodeSize + Write {
-    /// The written value, whose views are not copied.
+    /// Writes the value into an `IoBufs`, without copying its views.
     #[track_caller]
     fn encode_iobufs(&self) -> IoBufs {
         let mut builder = Builder::new(self.encode_inline_size());

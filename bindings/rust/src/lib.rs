@@ -148,7 +148,7 @@ impl fmt::Display for Error {
 
 impl std::error::Error for Error {}
 
-/// How many bytes a length has as a varint.
+/// Returns how many bytes a length has as a varint.
 pub fn length_size(n: usize) -> usize {
     sys::iobufs_length_size(n)
 }
@@ -208,7 +208,7 @@ fn tried<T>(status: u8, bytes: usize, made: T) -> Result<T, AllocError> {
     }
 }
 
-/// The lowest and the highest length of a range; of an empty one, none.
+/// Returns the lowest and the highest length of a range; of an empty one, none.
 fn limits(range: impl RangeBounds<usize>) -> (usize, usize) {
     let lo = match range.start_bound() {
         Bound::Included(n) => Some(*n),
@@ -223,7 +223,7 @@ fn limits(range: impl RangeBounds<usize>) -> (usize, usize) {
     lo.zip(hi).unwrap_or((1, 0))
 }
 
-/// The start and the end of a range within `len` bytes. Panics with the original's messages if it isn't.
+/// Returns the start and the end of a range within `len` bytes. Panics with the original's messages if it isn't.
 #[track_caller]
 fn bounds(range: impl RangeBounds<usize>, len: usize) -> (usize, usize) {
     let lo = match range.start_bound() {
@@ -241,7 +241,7 @@ fn bounds(range: impl RangeBounds<usize>, len: usize) -> (usize, usize) {
     (lo, hi)
 }
 
-/// The result of reading a length, a view or a frame; `length` is one that is outside the range.
+/// Returns the result of reading a length, a view or a frame; `length` is one that is outside the range.
 fn read(status: u8, length: impl FnOnce() -> usize) -> Result<(), Error> {
     match status {
         sys::OK => Ok(()),
@@ -331,7 +331,7 @@ macro_rules! derefs {
                 self.as_ref() == bytes
             }
 
-            /// The bytes, if there are some, as one chunk.
+            /// Returns the bytes, if there are some, as one chunk.
             pub(crate) fn each_chunk(&self) -> impl Iterator<Item = &[u8]> {
                 Some(self.as_ref()).filter(|bytes| !bytes.is_empty()).into_iter()
             }
@@ -343,7 +343,7 @@ pub(crate) use derefs;
 /// What writable buffers and a builder have alike: puts at the end, by these calls.
 macro_rules! puts {
     ($room:path, $bytes:path, $length:path; $($number:ty, $put:ident, $call:path;)*) => {
-        /// How many bytes may still be put (`BufMut`).
+        /// Returns how many bytes may still be put (`BufMut`).
         #[inline]
         pub fn remaining_mut(&self) -> usize {
             $room(&mut self.0.look())
@@ -401,19 +401,19 @@ pub(crate) use try_copy;
 /// What `IoBuf` and `IoBufs` have alike: reads from the front, by the calls of their names.
 macro_rules! gets {
     ($($number:ty, $get:ident, $try_get:ident;)*) => {
-        /// Whether there are no bytes.
+        /// Returns whether there are no bytes.
         #[inline]
         pub fn is_empty(&self) -> bool {
             self.len() == 0
         }
 
-        /// How many bytes are left (`Buf`).
+        /// Returns how many bytes are left (`Buf`).
         #[inline]
         pub fn remaining(&self) -> usize {
             self.len()
         }
 
-        /// Whether bytes are left (`Buf`).
+        /// Returns whether bytes are left (`Buf`).
         #[inline]
         pub fn has_remaining(&self) -> bool {
             !self.is_empty()

@@ -64,13 +64,13 @@ pub(crate) struct View {
 }
 
 impl View {
-    /// The empty view.
+    /// Makes the empty view.
     #[inline]
     pub(crate) fn new() -> Self {
         Self::of(Memory::new())
     }
 
-    /// The view in this memory, whose bytes are the library's.
+    /// Makes the view in this memory, whose bytes are the library's.
     #[inline]
     pub(crate) fn of(memory: Memory<Iobuf>) -> Self {
         View { memory, owner: ManuallyDrop::new(None) }
@@ -107,13 +107,13 @@ impl View {
         self.memory.at()
     }
 
-    /// The bytes.
+    /// Returns the bytes.
     #[inline]
     pub(crate) fn bytes(&self) -> &[u8] {
         self.look().chunk()
     }
 
-    /// Whether the bytes aren't the library's.
+    /// Returns whether the bytes aren't the library's.
     #[inline]
     pub(crate) fn is_lent(&self) -> bool {
         self.owner.is_some()
@@ -125,12 +125,12 @@ impl View {
         self.memory.made(|mut view, mut out| sys::iobuf_try_into_mut(&mut view, &mut out))
     }
 
-    /// The owner of the bytes, if it is a `T`.
+    /// Returns the owner of the bytes, if it is a `T`.
     pub(crate) fn owner<T: Any>(&self) -> Option<&T> {
         self.owner.as_ref()?.0.downcast_ref()
     }
 
-    /// Whether no other buffer keeps the owner.
+    /// Returns whether no other buffer keeps the owner.
     pub(crate) fn is_sole(&self) -> bool {
         self.owner.as_ref().is_some_and(|owner| Arc::strong_count(&owner.0) == 1)
     }
@@ -243,13 +243,13 @@ pub(crate) struct Chunked<K: Kind> {
 }
 
 impl<K: Kind> Chunked<K> {
-    /// An empty buffer.
+    /// Makes an empty buffer.
     #[inline]
     pub(crate) fn new() -> Self {
         Self::of(Memory::new())
     }
 
-    /// The buffer in this memory, whose bytes are the library's.
+    /// Makes the buffer in this memory, whose bytes are the library's.
     #[inline]
     pub(crate) fn of(memory: Memory<K>) -> Self {
         Chunked { memory, owners: None }
@@ -265,7 +265,7 @@ impl<K: Kind> Chunked<K> {
         self.memory.at()
     }
 
-    /// How many owners are kept.
+    /// Returns how many owners are kept.
     pub(crate) fn owners(&self) -> usize {
         self.owners.as_ref().map_or(0, |chunks| chunks.list.len())
     }
@@ -315,7 +315,7 @@ impl Length for Frames {
 }
 
 impl<K: Length> Chunked<K> {
-    /// The number of bytes.
+    /// Returns the number of bytes.
     #[inline]
     pub(crate) fn len(&self) -> usize {
         K::length(&mut self.look())
@@ -521,7 +521,7 @@ impl Chunks {
         None
     }
 
-    /// The owner of the last `n` bytes that were taken before the last `left`, if one chunk has them all: otherwise they were copied.
+    /// Returns the owner of the last `n` bytes that were taken before the last `left`, if one chunk has them all: otherwise they were copied.
     fn owner_of(&self, n: usize, left: usize) -> Option<Owner> {
         let end = self.end - left as i128;
         let start = end - n as i128;
@@ -542,14 +542,14 @@ impl Chunks {
         }
     }
 
-    /// The chunks of a list, the last of which are cut off at a position; none if there are none.
+    /// Returns the chunks of a list, the last of which are cut off at a position; none if there are none.
     fn of(mut list: VecDeque<Chunk>, end: i128) -> Option<Box<Chunks>> {
         let last = list.back_mut()?;
         last.end = last.end.min(end);
         Some(Box::new(Chunks { end, room: 0, list }))
     }
 
-    /// The chunks of the last `from` bytes without those of the last `to`.
+    /// Returns the chunks of the last `from` bytes without those of the last `to`.
     fn slice(&self, from: usize, to: usize) -> Option<Box<Chunks>> {
         let (start, end) = (self.end - from as i128, self.end - to as i128);
         let first = self.list.partition_point(|chunk| chunk.end <= start);

@@ -30,24 +30,24 @@ impl IoBufMut {
         self.0.at()
     }
 
-    /// A handle without a buffer, which is like one of capacity 0.
+    /// Makes a handle without a buffer, which is like one of capacity 0.
     pub(crate) fn none() -> Self {
         Self::of(Memory::new())
     }
 
-    /// The buffer in this memory.
+    /// Makes the buffer in this memory.
     #[inline]
     pub(crate) fn of(memory: Memory<sys::IobufMut>) -> Self {
         IoBufMut(memory, Scratch::default())
     }
 
-    /// An empty buffer of this capacity.
+    /// Makes an empty buffer of this capacity.
     #[track_caller]
     pub fn with_capacity(capacity: usize) -> Self {
         Self::with_alignment(capacity, NonZeroUsize::MIN)
     }
 
-    /// As above, for a caller who asks for an alignment. Addresses are not promised.
+    /// Acts as the call above, after testing the alignment. Addresses are not promised.
     #[track_caller]
     pub fn with_alignment(capacity: usize, alignment: NonZeroUsize) -> Self {
         let mut out = Self::none();
@@ -59,13 +59,13 @@ impl IoBufMut {
         out
     }
 
-    /// A buffer of so many zeros.
+    /// Makes a buffer of `len` zeros.
     #[track_caller]
     pub fn zeroed(len: usize) -> Self {
         Self::zeroed_with_alignment(len, NonZeroUsize::MIN)
     }
 
-    /// As above, for a caller who asks for an alignment. Addresses are not promised.
+    /// Acts as the call above, after testing the alignment. Addresses are not promised.
     #[track_caller]
     pub fn zeroed_with_alignment(len: usize, alignment: NonZeroUsize) -> Self {
         let mut out = Self::none();
@@ -95,19 +95,19 @@ impl IoBufMut {
         tried(out.at().copy_from(data), data.len(), out)
     }
 
-    /// The number of readable bytes.
+    /// Returns the number of readable bytes.
     #[inline]
     pub fn len(&self) -> usize {
         sys::iobufmut_len(&mut self.0.look())
     }
 
-    /// Whether no byte is readable.
+    /// Returns whether no byte is readable.
     #[inline]
     pub fn is_empty(&self) -> bool {
         self.len() == 0
     }
 
-    /// How many bytes fit, counted from the first readable one.
+    /// Returns how many bytes fit, counted from the first readable one.
     #[inline]
     pub fn capacity(&self) -> usize {
         sys::iobufmut_capacity(&mut self.0.look())
@@ -135,7 +135,7 @@ impl IoBufMut {
         self.truncate(0);
     }
 
-    /// The bytes as a view, without a copy.
+    /// Freezes the buffer to a view, without a copy.
     #[inline]
     pub fn freeze(mut self) -> IoBuf {
         let (memory, status) = self.0.made(|mut part, mut out| sys::iobufmut_freeze(&mut part, &mut out));
@@ -145,13 +145,13 @@ impl IoBufMut {
         IoBuf(View::of(memory))
     }
 
-    /// How many bytes are readable (`Buf`).
+    /// Returns how many bytes are readable (`Buf`).
     #[inline]
     pub fn remaining(&self) -> usize {
         self.len()
     }
 
-    /// The readable bytes (`Buf`).
+    /// Returns the readable bytes (`Buf`).
     #[inline]
     pub fn chunk(&self) -> &[u8] {
         self.as_ref()

@@ -24,25 +24,25 @@ impl IoBufsMut {
         IoBufsMut(Memory::new(), Scratch::default())
     }
 
-    /// The number of readable bytes.
+    /// Returns the number of readable bytes.
     #[inline]
     pub fn len(&self) -> usize {
         sys::iobufsmut_len(&mut self.0.look())
     }
 
-    /// Whether no byte is readable.
+    /// Returns whether no byte is readable.
     #[inline]
     pub fn is_empty(&self) -> bool {
         self.len() == 0
     }
 
-    /// Whether there is just one buffer.
+    /// Returns whether there is just one buffer.
     #[inline]
     pub fn is_single(&self) -> bool {
         sys::iobufsmut_is_single(&mut self.0.look())
     }
 
-    /// How many bytes fit, counted from the first readable one.
+    /// Returns how many bytes fit, counted from the first readable one.
     #[inline]
     pub fn capacity(&self) -> usize {
         sys::iobufsmut_capacity(&mut self.0.look())
@@ -61,7 +61,7 @@ impl IoBufsMut {
         done(self.0.at().copy_from(src), "source slice length must match buffer length");
     }
 
-    /// The buffers that hold bytes as the chunks of one `IoBufs`.
+    /// Freezes the buffers that hold bytes to the chunks of one `IoBufs`.
     #[inline]
     pub fn freeze(mut self) -> IoBufs {
         let (memory, status) = self.0.made(|mut parts, mut out| sys::iobufsmut_freeze(&mut parts, &mut out));
@@ -71,7 +71,7 @@ impl IoBufsMut {
         IoBufs(Chunked::of(memory))
     }
 
-    /// The buffers as one, with a copy of several.
+    /// Coalesces the buffers into one, with a copy of several.
     #[track_caller]
     pub fn coalesce(mut self) -> IoBufMut {
         let (len, mut out) = (self.len(), IoBufMut::none());
@@ -83,7 +83,7 @@ impl IoBufsMut {
         out
     }
 
-    /// The only buffer; the buffers themselves if there are more.
+    /// Returns the only buffer, or the buffers themselves if there are more.
     #[expect(clippy::result_large_err, reason = "the original hands the buffers back")]
     pub fn try_into_single(mut self) -> Result<IoBufMut, Self> {
         let mut out = IoBufMut::none();
@@ -93,13 +93,13 @@ impl IoBufsMut {
         }
     }
 
-    /// How many bytes are readable (`Buf`).
+    /// Returns how many bytes are readable (`Buf`).
     #[inline]
     pub fn remaining(&self) -> usize {
         self.len()
     }
 
-    /// The first chunk of the readable bytes (`Buf`).
+    /// Returns the first chunk of the readable bytes (`Buf`).
     #[inline]
     pub fn chunk(&self) -> &[u8] {
         self.0.look().chunk()
@@ -124,7 +124,7 @@ impl IoBufsMut {
         done(self.0.at().copy_to(dst), "Not enough bytes remaining in buffer");
     }
 
-    /// A copy of the first `n` bytes, which are dropped. Panics if there are fewer (`Buf`).
+    /// Copies the first `n` bytes, which are dropped. Panics if there are fewer (`Buf`).
     #[track_caller]
     pub fn copy_to_bytes(&mut self, n: usize) -> IoBuf {
         assert!(n <= self.len(), "IoBufsMut::copy_to_bytes: not enough data");
@@ -228,7 +228,7 @@ impl From<IoBufsMut> for IoBufs {
 pub struct Builder(Chunked<sys::Builder>, pub(crate) Scratch);
 
 impl Builder {
-    /// A builder for so many bytes that are put, and no more.
+    /// Makes a builder for `capacity` bytes that are put.
     #[track_caller]
     pub fn new(capacity: usize) -> Self {
         let mut out = Builder(Chunked::new(), Scratch::default());
@@ -237,7 +237,7 @@ impl Builder {
         out
     }
 
-    /// All that was put and pushed, in order.
+    /// Finishes the builder to all that was put and pushed, in order.
     pub fn finish(mut self) -> IoBufs {
         IoBufs(made(self.0.finish(), ""))
     }

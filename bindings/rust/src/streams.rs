@@ -130,12 +130,12 @@ impl<R> FrameReader<R> {
         FrameReader { from, held: Block::new(prefix), range: limits(range) }
     }
 
-    /// The reader.
+    /// Returns the reader.
     pub fn get_ref(&self) -> &R {
         &self.from
     }
 
-    /// The reader. What was read and not taken is dropped.
+    /// Returns the reader. What was read and not taken is dropped.
     pub fn into_inner(self) -> R {
         self.from
     }
@@ -247,17 +247,17 @@ impl<W> FrameWriter<W> {
         Ok(())
     }
 
-    /// Whether all that was put is written.
+    /// Returns whether all that was put is written.
     pub fn is_sent(&self) -> bool {
         self.unsent.is_empty()
     }
 
-    /// The writer.
+    /// Returns the writer.
     pub fn get_ref(&self) -> &W {
         &self.to
     }
 
-    /// The writer, which hasn't got what isn't sent.
+    /// Returns the writer, which hasn't got what isn't sent.
     pub fn into_inner(self) -> W {
         self.to
     }

@@ -77,7 +77,7 @@ kinds! {
 }
 
 impl<K: Kind> Memory<K> {
-    /// An empty buffer.
+    /// Makes an empty buffer.
     #[inline]
     pub fn new() -> Self {
         if !COMPARED.load(Relaxed) {
@@ -86,7 +86,7 @@ impl<K: Kind> Memory<K> {
         Self::filled(|_| ()).0
     }
 
-    /// An empty buffer that a call fills before it moves, and the call's result.
+    /// Makes an empty buffer that a call fills before it moves, and returns the call's result too.
     #[inline]
     fn filled<R>(call: impl FnOnce(At<K>) -> R) -> (Self, R) {
         let mut memory = Memory(UnsafeCell::new(MaybeUninit::uninit()));
@@ -296,7 +296,7 @@ const NO_BYTES: *const u8 = NonNull::dangling().as_ptr();
 macro_rules! chunks {
     ($($kind:ident $call:ident;)*) => {$(
         impl<'a> Look<'a, $kind> {
-            /// The first chunk.
+            /// Returns the first chunk.
             #[inline]
             pub fn chunk(mut self) -> &'a [u8] {
                 let mut at = NO_BYTES;
@@ -317,7 +317,7 @@ chunks! {
 }
 
 impl<'a> At<'a, IobufMut> {
-    /// The bytes, to be written over.
+    /// Returns the bytes, to be written over.
     #[inline]
     pub fn chunk_mut(self) -> &'a mut [u8] {
         let (mut look, mut at) = (Look(self.0, PhantomData), NO_BYTES);
@@ -328,7 +328,7 @@ impl<'a> At<'a, IobufMut> {
 }
 
 impl<'a> At<'a, Received> {
-    /// The space, of at least one byte if the status, which is returned too, is `OK`.
+    /// Returns the space, of at least one byte if the status, which is returned too, is `OK`.
     #[inline]
     pub fn space(mut self) -> (&'a mut [u8], u8) {
         let (mut at, mut n) = (NO_BYTES, 0);
@@ -342,7 +342,7 @@ impl<'a> At<'a, Received> {
 /// The most bytes that a length has.
 pub const HEAD: usize = 10;
 
-/// A length as a prefix writes it, and how many bytes it has, if it can be written so.
+/// Returns a length as a prefix writes it, and how many bytes it has, if it can be written so.
 #[inline]
 pub fn head(prefix: u8, n: usize) -> Option<([u8; HEAD], usize)> {
     let (mut bytes, mut len) = ([0; HEAD], 0);
@@ -395,7 +395,7 @@ impl<'a> Batch<'a> {
         self.list[..BATCH - self.left].iter().map(Self::bytes)
     }
 
-    /// The bytes of a chunk that is filled.
+    /// Returns the bytes of a chunk that is filled.
     #[inline]
     fn bytes(chunk: &MaybeUninit<Chunk>) -> &'a [u8] {
         // SAFETY: it is filled. Duty 5: as in `chunk`.
@@ -404,7 +404,7 @@ impl<'a> Batch<'a> {
 }
 
 impl<'a> Look<'a, Iobufs> {
-    /// The chunk of an index.
+    /// Returns the chunk of an index.
     #[inline]
     pub fn chunk_at(mut self, index: usize) -> Option<&'a [u8]> {
         let mut at = NO_BYTES;

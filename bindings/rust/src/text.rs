@@ -30,34 +30,34 @@ impl IoBufs {
         Self::default()
     }
 
-    /// A view of these bytes, which aren't copied.
+    /// Makes a view of these bytes, which aren't copied.
     pub fn from_static(bytes: &'static [u8]) -> Self {
         Self::from(bytes)
     }
 
-    /// The number of bytes.
+    /// Returns the number of bytes.
     #[inline]
     pub fn len(&self) -> usize {
         self.0.len()
     }
 
-    /// How many chunks keep an owner (`IoBuf::from_owner`). (own)
+    /// Returns how many chunks keep an owner (`IoBuf::from_owner`). (own)
     pub fn owners(&self) -> usize {
         self.0.owners()
     }
 
-    /// Whether all bytes are in one chunk.
+    /// Returns whether all bytes are in one chunk.
     #[inline]
     pub fn is_single(&self) -> bool {
         sys::iobufs_is_single(&mut self.0.look())
     }
 
-    /// The number of chunks that hold bytes.
+    /// Returns the number of chunks that hold bytes.
     pub fn chunk_count(&self) -> usize {
         sys::iobufs_chunk_count(&mut self.0.look())
     }
 
-    /// The bytes of the chunk of an index.
+    /// Returns the bytes of the chunk of an index.
     #[inline]
     pub fn chunk_at(&self, index: usize) -> Option<&[u8]> {
         self.0.look().chunk_at(index)
@@ -171,7 +171,7 @@ impl IoBufs {
         IoBufs(made(self.0.split_to(at), "split_to out of bounds"))
     }
 
-    /// All bytes in one chunk, with a copy of several.
+    /// Coalesces the chunks into one view, with a copy of several.
     #[track_caller]
     pub fn coalesce(mut self) -> IoBuf {
         let (len, (view, status)) = (self.len(), self.0.coalesce());
@@ -179,7 +179,7 @@ impl IoBufs {
         IoBuf(view)
     }
 
-    /// The only chunk; the `IoBufs` itself if there are more.
+    /// Returns the only chunk, or the `IoBufs` itself if there are more.
     pub fn try_into_single(mut self) -> Result<IoBuf, Self> {
         match self.0.try_into_single() {
             (view, sys::OK) => Ok(IoBuf(view)),
@@ -187,7 +187,7 @@ impl IoBufs {
         }
     }
 
-    /// The first chunk (`Buf`).
+    /// Returns the first chunk (`Buf`).
     #[inline]
     pub fn chunk(&self) -> &[u8] {
         self.0.look().chunk()
@@ -198,7 +198,7 @@ impl IoBufs {
         self.0.look().slices(dst)
     }
 
-    /// The first chunks, at most `N`, as they are handed to `writev`.
+    /// Returns the first chunks, at most `N`, as they are handed to `writev`.
     pub fn slices<const N: usize>(&self) -> ([IoSlice<'_>; N], usize) {
         let mut slices = [IoSlice::new(&[]); N];
         let n = self.chunks_vectored(&mut slices);
@@ -416,7 +416,7 @@ pub enum Prefix {
 }
 
 impl Prefix {
-    /// The length `n` as it is written; `None` if it doesn't fit.
+    /// Writes the length `n`. Returns `None` if it doesn't fit.
     pub fn written(self, n: usize) -> Option<IoBufMut> {
         let (bytes, len) = sys::head(self as u8, n)?;
         Some(IoBufMut::from(&bytes[..len]))
@@ -462,18 +462,18 @@ impl Frames {
         }
     }
 
-    /// How many bytes were fed and not taken.
+    /// Returns how many bytes were fed and not taken.
     #[inline]
     pub fn len(&self) -> usize {
         self.0.len()
     }
 
-    /// How many chunks keep an owner (`IoBuf::from_owner`). (own)
+    /// Returns how many chunks keep an owner (`IoBuf::from_owner`). (own)
     pub fn owners(&self) -> usize {
         self.0.owners()
     }
 
-    /// Whether all that was fed was taken.
+    /// Returns whether all that was fed was taken.
     #[inline]
     pub fn is_empty(&self) -> bool {
         self.len() == 0

@@ -22,7 +22,7 @@ pub struct Scratch {
 const LENT: usize = 1 << 16;
 
 impl Scratch {
-    /// The `n` bytes that are the buffer's next, now that `room` bytes fit.
+    /// Returns the `n` bytes that are the buffer's next, now that `room` bytes fit.
     fn next(&self, n: usize, room: usize) -> Option<&[u8]> {
         let lent = self.room.checked_sub(room).and_then(|used| self.bytes.get(used..));
         lent.unwrap_or_default().get(..n)
@@ -157,7 +157,7 @@ macro_rules! gets {
     };
 }
 
-/// The first bytes of a writable buffer, copied.
+/// Returns the first bytes of a writable buffer, copied.
 fn copied(from: &mut impl Buf, n: usize) -> Bytes {
     let mut bytes = vec![0; n];
     from.copy_to_slice(&mut bytes);

@@ -9,7 +9,7 @@ use std::hash::{Hash, Hasher};
 use std::mem;
 use std::ops::{Bound, RangeBounds};
 
-/// The kind of a bound (`enum iobufs_bound`), and its number.
+/// Returns the kind of a bound (`enum iobufs_bound`), and its number.
 fn bound(bound: Bound<&usize>) -> (u8, usize) {
     match bound {
         Bound::Included(n) => (0, *n),
@@ -31,17 +31,17 @@ fn bound(bound: Bound<&usize>) -> (u8, usize) {
 pub struct IoBuf(pub(crate) View);
 
 impl IoBuf {
-    /// An empty view.
+    /// Makes an empty view.
     pub fn new() -> Self {
         Self::default()
     }
 
-    /// A view of these bytes, which aren't copied.
+    /// Makes a view of these bytes, which aren't copied.
     pub fn from_static(bytes: &'static [u8]) -> Self {
         Self::from(bytes)
     }
 
-    /// A view of the bytes of `owner`, which aren't copied. They live until the last buffer made of it is dropped, on whatever
+    /// Makes a view of the bytes of `owner`, which aren't copied. They live until the last buffer made of it is dropped, on whatever
     /// thread that is. A view of one byte keeps the whole owner. (own)
     ///
     /// An `IoBufs`, a builder and frames drop the owner of a chunk with its last byte. `as_ref` is called once.
@@ -49,7 +49,7 @@ impl IoBuf {
         IoBuf(View::of_owner(owner))
     }
 
-    /// A copy of these bytes.
+    /// Copies these bytes.
     pub fn copy_from_slice(data: &[u8]) -> Self {
         let mut out = IoBuf::default();
         allocated(out.0.at().copy_from(data), data.len(), "");
@@ -62,18 +62,18 @@ impl IoBuf {
         tried(out.0.at().copy_from(data), data.len(), out)
     }
 
-    /// The number of bytes.
+    /// Returns the number of bytes.
     #[inline]
     pub fn len(&self) -> usize {
         sys::iobuf_len(&mut self.0.look())
     }
 
-    /// Where the bytes lie.
+    /// Returns the address of the bytes.
     pub fn as_ptr(&self) -> *const u8 {
         self.as_ref().as_ptr()
     }
 
-    /// The bytes of a range, in the same storage. Panics if it isn't within the bytes.
+    /// Returns the bytes of a range, in the same storage. Panics if it isn't within the bytes.
     #[inline]
     #[track_caller]
     pub fn slice(&self, range: impl RangeBounds<usize>) -> Self {
@@ -128,7 +128,7 @@ impl IoBuf {
         }
     }
 
-    /// A copy of the bytes, with the spare capacity that their `Vec` has after them, if no other buffer keeps it.
+    /// Copies the bytes, with the spare capacity that their `Vec` has after them, if no other buffer keeps it.
     fn copy_of_vec(&self) -> Option<IoBufMut> {
         let vec = self.0.owner::<Vec<u8>>().filter(|_| self.0.is_sole())?;
         // An empty view has no address: it gets the capacity after the `Vec`'s bytes.
@@ -140,7 +140,7 @@ impl IoBuf {
         Some(out)
     }
 
-    /// The bytes as a buffer to write: recovered as by `try_into_mut`, else copied.
+    /// Returns the bytes as a buffer to write: recovered as by `try_into_mut`, else copied.
     #[inline]
     pub(crate) fn into_mut(mut self) -> IoBufMut {
         let vec = self.0.is_lent().then(|| self.copy_of_vec()).flatten();
@@ -154,7 +154,7 @@ impl IoBuf {
         out
     }
 
-    /// The bytes (`Buf`).
+    /// Returns the bytes (`Buf`).
     #[inline]
     pub fn chunk(&self) -> &[u8] {
         self.as_ref()
