@@ -13,7 +13,7 @@ use Rattle.std.proofs.lemmas.Nat.{from_be_bytes-to_be_bytes_4}
 use Rattle.iobufs_core.proofs.CallerFacts.{bytes-view_between}
 use Rattle.iobufs_core.specs.View.{View, view_slice}
 use Rattle.iobufs_journal.specs.Crc.{crc32}
-use Rattle.iobufs_journal.specs.Journal.{IsInHead, IsTornAt, IsUnread, front, head, record_written, summed, version}
+use Rattle.iobufs_journal.specs.Journal.{IsInHead, IsUnread, front, head, record_written, summed, version}
 use Rattle.iobufs_journal.specs.JournalLaws.{HasHead, IsHead, IsSummed, after_head, cut_head, front_at, head_at, is_summed, long_head, long_record, said, summed_is, version_at}
 use Rattle.std.specs.declared.ops.Bound.TheVariants.{Included, Excluded}
 

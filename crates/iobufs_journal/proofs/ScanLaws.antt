@@ -5,7 +5,7 @@ use Rattle.std.proofs.Common.{arith, ap, sym, subst, ◌∙◌, append_assoc, ap
 use Rattle.std.proofs.KnownBytes.{Appends-nil, Appends-trans, Consumes-nil, Consumes-trans, Consumes-whole}
 use Rattle.std.proofs.lemmas.Bool.Decides.{nat_tests}
 use Rattle.std.proofs.lemmas.List.{drop-take, nil_from_length, take-append-le}
-use Rattle.iobufs_journal.specs.Journal.{AreShort, HasNoRecord, IsOld, record_written, records_written}
+use Rattle.iobufs_journal.specs.Journal.{AreShort, HasNoRecord, record_written, records_written}
 use Rattle.iobufs_journal.specs.JournalLaws.{short_on, stays_unread, written_more}
 use Rattle.iobufs_journal.specs.Lines.{most_bytes}
 use Rattle.iobufs_journal.specs.declared.journal.JournalEnd.{JournalEnd}

@@ -9,15 +9,15 @@
 --     one_record                             two records at the front are one
 --     stays_unread                           no more bytes make a record of what isn't one
 --     short_on, written_on, written_more     records after each other are short, and numbered on
-use Rattle.std.specs.Prelude.{suc, [], ◌∷◌, ◌≡◌, ℕ, ◌+◌, ◌-◌, ◌^◌, ◌<◌, ◌≤◌, ◌⊎◌, List, ◌++◌, length, take, drop}
+use Rattle.std.specs.Prelude.{suc, [], ◌∷◌, ◌≡◌, ℕ, ◌+◌, ◌-◌, ◌^◌, ◌<◌, ◌≤◌, List, ◌++◌, length, take, drop}
 use Rattle.std.specs.Int.{w32, w64, from_be_bytes, to_be_bytes}
-use Rattle.std.proofs.Common.{arith, inl, inr, ap, sym, ◌∙◌, append_assoc, append-nil, length-append, length-take, take-append-drop}
+use Rattle.std.proofs.Common.{arith, inl, inr, ap, sym, ◌∙◌, append_assoc, append-nil, length-append, take-append-drop}
 use Rattle.std.proofs.Math.Seq.{take-append_seam, drop-append_seam}
 use Rattle.std.proofs.lemmas.List.{append_cancel_left, length-drop, take-append-le, take-take, take_all}
 use Rattle.std.proofs.lemmas.Nat.{from_be_bytes-to_be_bytes_4}
 use Rattle.iobufs_core.proofs.LengthFacts.{less}
 use Rattle.iobufs_journal.specs.Crc.{crc32}
-use Rattle.iobufs_journal.specs.Journal.{AreShort, IsInBody, IsInHead, IsTornAt, IsUnread, front, head, record_written, records_written, summed, version}
+use Rattle.iobufs_journal.specs.Journal.{AreShort, IsTornAt, IsUnread, front, head, record_written, records_written, summed, version}
 
 -- how bytes with their sum are told from others
 pub record IsSummed (bytes : List ℕ) : Type 0 where

@@ -1,4 +1,4 @@
--- What an append does after its lines, and what it tells.
+-- The end of an append: its last steps, and its words.
 --     file_state_of      a file that isn't at its name was renamed; one of another length than it should have was changed
 --     next_of      an append is done if all lines are written and synced, and the file is the same; it leaves a file that
 --                  another program changed, and else cuts off its torn end

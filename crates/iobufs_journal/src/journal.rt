@@ -19,7 +19,7 @@ pub const MOST_LINE: usize = (1 << 20) - 12;
 /// How many bytes a head has.
 pub const HEAD: usize = 20;
 
-// What each head begins with.
+// The first bytes of each head.
 const VERSION: &'static [u8] = b"IOJ2";
 
 /// How a journal ends after its last whole record.

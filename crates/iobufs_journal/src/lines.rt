@@ -5,7 +5,7 @@ ghost use Rattle.iobufs_journal.specs.Lines.{HasBegun, IsAppended, IsCutShort, I
 
 use crate::failure::{Failure, too_large};
 use crate::journal::{MOST_LINE, put_record};
-use crate::scan::{added, read_piece};
+use crate::scan::{added, read_into};
 use iobufs_core::buf::IoBufMut;
 use memchr::memchr;
 use std::alloc::Global;
@@ -118,15 +118,16 @@ pub fn append<R: Read, W: Write>(
         begun: Vec::with_capacity(alloc, MOST_LINE + PIECE)?,
         number: first,
     };
+    let mut piece = [0; PIECE];
     for _ in 0..u64::MAX {
-        let piece = read_piece(alloc, from, "cannot read the input", PIECE)?;
+        let n = read_into(from, &mut piece, "cannot read the input")?;
         let mut out = IoBufMut::with_capacity(alloc, ROOM)?;
-        if piece.is_empty() {
+        if n == 0 {
             lines.finish(&mut out)?;
             put_all(out.as_ref(), to)?;
             return Ok((lines.number.saturating_sub(first), false));
         }
-        let is_long = lines.take_lines(&piece, &mut out)?;
+        let is_long = lines.take_lines(&piece[..n], &mut out)?;
         put_all(out.as_ref(), to)?;
         if is_long {
             return Ok((lines.number.saturating_sub(first), true));

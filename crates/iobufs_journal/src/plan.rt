@@ -1,10 +1,10 @@
-// What an append does after its lines, and what it tells.
+// The end of an append: its last steps, and its words.
 ghost use Rattle.std.specs.Prelude.{◌≡◌};
 ghost use Rattle.iobufs_journal.specs.Plan.{is_undone, next_of, file_state_of, words_for};
 
 use crate::journal::JournalEnd;
 
-/// What was seen of a journal's file.
+/// The state of a journal's file, as it was seen.
 #[derive(Clone, Copy, Debug, PartialEq, Eq)]
 pub enum FileState {
     /// It is at its name, and has the length that it should have.
@@ -26,7 +26,7 @@ pub fn state_by_len(is_named: bool, expected: u64, len: u64) -> FileState
     }
 }
 
-/// What an append does after its lines.
+/// The next step of an append after its lines.
 #[derive(Clone, Copy, Debug, PartialEq, Eq)]
 pub enum Next {
     /// It is done, with status 0.
@@ -57,7 +57,7 @@ pub fn cuts(next: Next, end: JournalEnd) -> bool
     next == Next::CutBack && end == JournalEnd::Torn
 }
 
-/// What a failed append tells.
+/// The words of a failed append.
 #[derive(Clone, Copy, Debug, PartialEq, Eq)]
 pub enum Told {
     /// How the journal ends.

@@ -1,5 +1,5 @@
 // A journal that is read from its front, piece by piece.
-ghost use Rattle.std.specs.Prelude.{◌≡◌, ◌+◌, ◌<◌, ◌≤◌, ◌++◌, [], ◌∷◌, IfOk, IfSome, OnOk, vec_len};
+ghost use Rattle.std.specs.Prelude.{◌≡◌, ◌+◌, ◌<◌, ◌≤◌, ◌++◌, [], ◌∷◌, IfOk, IfSome, OnOk, length, take};
 ghost use Rattle.std.specs.Io.KnownBytes.{Appends, Consumes, IsAtEnd};
 ghost use Rattle.iobufs_journal.specs.Scan.{IsFilled, IsPrinted, settled};
 
@@ -19,27 +19,22 @@ pub fn added(number: u64, more: u64) -> Result<u64, Failure>
     number.checked_add(more).ok_or_else(too_large)
 }
 
-/// Reads at most `len` bytes by one read, and tries again if a signal interrupts it. `what` names it if it fails. Returns none
-/// at the end alone.
-pub fn read_piece<R: Read>(
-    alloc: Global,
+/// Reads into `piece` by one read, and tries again if a signal interrupts it. `what` names it if it fails. Returns how many
+/// bytes came: none at the end alone.
+pub fn read_into<R: Read>(
     from: &mut R,
+    piece: &mut [u8],
     what: &'static str,
-    len: usize,
-) -> Result<Vec<u8>, Failure>
-    requires { 0 < len }
-    ensures took { IfOk result (λ piece. Consumes (R.remaining from.old) (R.remaining from.new) piece.items) }
-    ensures end { IfOk result (λ piece. vec_len piece ≡ 0 → IsAtEnd (R.remaining from.new)) }
-    ensures small { IfOk result (λ piece. vec_len piece ≤ len) }
+) -> Result<usize, Failure>
+    requires { 0 < length piece.old }
+    ensures took { IfOk result (λ n. Consumes (R.remaining from.old) (R.remaining from.new) (take n piece.new)) }
+    ensures end { IfOk result (λ n. n ≡ 0 → IsAtEnd (R.remaining from.new)) }
+    ensures inside { IfOk result (λ n. n ≤ length piece.new) }
+    ensures same { length piece.new ≡ length piece.old }
 {
-    let mut piece = Vec::new(alloc);
-    piece.resize(len, 0)?;
     for _ in 0..u64::MAX {
-        match from.read(&mut piece) {
-            Ok(n) => {
-                piece.truncate(n);
-                return Ok(piece);
-            }
+        match from.read(piece) {
+            Ok(n) => return Ok(n),
             Err(error) if error.kind() == ErrorKind::Interrupted => {}
             Err(error) => return Err(Failure::Failed(what, error)),
         }
@@ -47,19 +42,24 @@ pub fn read_piece<R: Read>(
     Err(too_large())
 }
 
-// Reads once after the bytes that are held, and says whether any came.
-fn fill<R: Read>(alloc: Global, window: &mut IoBuf, from: &mut R) -> Result<bool, Failure>
+// Reads once after the bytes that are held, and says whether any came. `piece` is room to read into.
+fn fill<R: Read>(
+    alloc: Global,
+    window: &mut IoBuf,
+    piece: &mut Vec<u8>,
+    from: &mut R,
+) -> Result<bool, Failure>
     ensures { IfOk result (λ more. IsFilled (R.remaining from.old) (R.remaining from.new) window.old.bytes window.new.bytes more) }
 {
     let held = window.len();
-    let piece = read_piece(alloc, from, "cannot read the journal", PIECE.max(held / 4))?;
-    if piece.is_empty() {
+    piece.resize(PIECE.max(held / 4), 0)?;
+    let n = read_into(from, piece.as_mut_slice(), "cannot read the journal")?;
+    if n == 0 {
         return Ok(false);
     }
-    let len = held.saturating_add(piece.len());
-    let mut bytes = Vec::with_capacity(alloc, len)?;
+    let mut bytes = Vec::with_capacity(alloc, held.saturating_add(n))?;
     bytes.extend_from_slice(window.as_ref())?;
-    bytes.extend_from_slice(&piece)?;
+    bytes.extend_from_slice(&piece[..n])?;
     *window = IoBuf::from_vec(bytes)?;
     Ok(true)
 }
@@ -89,6 +89,7 @@ pub fn print<R: Read, W: Write>(alloc: Global, from: &mut R, to: &mut W) -> Resu
         (λ ending. IfSome (R.remaining from.old) (λ text. IsPrinted text (W.contents to.old) (W.contents to.new) ending)) }
 {
     let (mut window, mut found, mut taken) = (IoBuf::default(), 0u64, 0u64);
+    let mut piece = Vec::new(alloc);
     for _ in 0..u64::MAX {
         match front_record(&window, found, MOST_LINE)? {
             Ok(first) => {
@@ -101,7 +102,7 @@ pub fn print<R: Read, W: Write>(alloc: Global, from: &mut R, to: &mut W) -> Resu
                 if is_settled(end, window.len()) {
                     return Ok(Ending { found, taken, end });
                 }
-                if !fill(alloc, &mut window, from)? {
+                if !fill(alloc, &mut window, &mut piece, from)? {
                     return Ok(Ending { found, taken, end });
                 }
             }

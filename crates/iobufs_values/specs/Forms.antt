@@ -1,6 +1,7 @@
 -- The forms of numbers, lengths, bytes, `bool` and pairs, and what follows from a form.
 --     number_form, length_form, bytes_form,    the form of each kind of value
---     array_form, bool_form, option_form
+--     array_form, unit_form, bool_form,
+--     option_form
 --     pair_form                                of two values in order
 --     form_as                                  of a value that is written and decoded as its fields
 --     found_same, found_or_memory              decoding the same bytes gives the same value, and fails for memory
@@ -50,6 +51,17 @@ one_of is other one (Codec a) (ExtraData n) p q = absurd q
 one_of is other one InvalidBool b p q = absurd p
 one_of is other one (InvalidEnum tag) b p q = absurd p
 one_of is other one (ExtraData n) b p q = absurd p
+
+-- ---- nothing
+
+pub unit_form : (Cfg : Type 0) → IsForm (Unit {0}) Cfg (λ _. []) (λ x y. x ≡ y) (λ _ _. Unit {0}) (λ _ _ _ _. Unit {0}) (λ _ _ _ _. ⊥)
+unit_form Cfg = record {
+  same_written = λ _ _ _. refl;
+  no_front = λ _ _ _ _ _ _ _ _ _. refl;
+  found_written = λ _ _ _ _ _. (tt, refl);
+  refuses = λ _ _ _ _ _ _ _ _ never. absurd never;
+  one_fault = λ _ _ _ _ _ _ _ never _. absurd never;
+}
 
 -- ---- numbers and lengths
 

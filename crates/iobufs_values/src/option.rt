@@ -1,13 +1,34 @@
-// A `bool`, and a value that is there or not, after a byte that tells it.
-ghost use Rattle.std.specs.Prelude.{◌≡◌, ⊤};
+// Nothing, a `bool`, and a value that is there or not, after a byte that tells it.
+ghost use Rattle.std.specs.Prelude.{◌≡◌, ⊥, ⊤};
 ghost use Rattle.iobufs_core.specs.Wire.{flag};
 ghost use Rattle.iobufs_values.specs.Form.{IsBoolFault, IsByteAt, IsOptionAdmitted, IsOptionFault, IsOptionFound, IsSameOption};
-ghost use Rattle.iobufs_values.specs.Forms.{bool_form, option_form};
+ghost use Rattle.iobufs_values.specs.Forms.{bool_form, option_form, unit_form};
 
 use crate::look::has_len;
 use crate::{Fault, Look};
 use iobufs_core::codec::{Buf, Peek};
 use std::alloc::Global;
+
+impl Look for () {
+    type Cfg = ();
+
+    ghost is_found = { λ _ _ _ _. Unit {0} };
+
+    ghost is_fault = { λ _ _ _ _. ⊥ };
+
+    ghost admits = { λ _ _. Unit {0} };
+
+    fn look<B: Peek>(
+        _alloc: Global,
+        _buf: &B,
+        _skip: usize,
+        _cfg: &(),
+    ) -> Result<((), usize), Fault> {
+        Ok(((), 0))
+    }
+
+    ghost form = { unit_form _ };
+}
 
 impl Look for bool {
     type Cfg = ();

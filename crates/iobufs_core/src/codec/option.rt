@@ -1,11 +1,36 @@
-// A `bool` as one byte, and a value that is there or not, after such a byte.
+// Nothing, a `bool` as one byte, and a value that is there or not, after such a byte.
 ghost use Rattle.std.specs.Prelude.{[], ◌∷◌};
 ghost use Rattle.iobufs_core.specs.Items.{put_item};
 ghost use Rattle.iobufs_core.specs.SeveralLaws.{joins-option};
 ghost use Rattle.iobufs_core.specs.Wire.{flag, option_items, option_written};
 ghost use Rattle.iobufs_core.specs.WireLaws.{joins-put};
+ghost use Rattle.std.proofs.Common.{refl};
 
 use super::{BufMut, BufsMut, EncodeSize, Error, Write};
+
+impl EncodeSize for () {
+    ghost written = { λ _. [] };
+
+    ghost items = { λ _. [] };
+
+    fn encode_size(&self) -> Option<usize> {
+        Some(0)
+    }
+
+    fn encode_inline_size(&self) -> usize {
+        0
+    }
+
+    ghost joins_items = { λ _. refl };
+}
+
+impl Write for () {
+    fn write<B: BufMut>(&self, _buf: &mut B) {}
+
+    fn write_bufs<B: BufsMut>(&self, _buf: &mut B) -> Result<(), Error> {
+        Ok(())
+    }
+}
 
 impl EncodeSize for bool {
     ghost written = { λ truth. flag truth ∷ [] };

@@ -1,6 +1,5 @@
-use Rattle.std.proofs.Common.{arith, refl, ◌≡◌, ℕ, take}
+use Rattle.std.proofs.Common.{arith, refl}
 use Rattle.std.proofs.lemmas.Bool.Decides.{nat_tests}
-use Rattle.iobufs_journal.specs.Journal.{head}
 use Rattle.iobufs_journal.specs.JournalLaws.{torn_body}
 use Rattle.iobufs_journal.proofs.FrontLaws.{head_is, is_head_at, no_head, no_start, said_here}
 use Rattle.iobufs_journal.proofs.journal.body_len.Goals as goal
