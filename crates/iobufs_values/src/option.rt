@@ -1,5 +1,5 @@
 // Nothing, a `bool`, and a value that is there or not, after a byte that tells it.
-ghost use Rattle.std.specs.Prelude.{◌≡◌, ⊥, ⊤};
+ghost use Rattle.std.specs.Prelude.{◌≡◌, ⊤};
 ghost use Rattle.iobufs_core.specs.Wire.{flag};
 ghost use Rattle.iobufs_values.specs.Form.{IsBoolFault, IsByteAt, IsOptionAdmitted, IsOptionFault, IsOptionFound, IsSameOption};
 ghost use Rattle.iobufs_values.specs.Forms.{bool_form, option_form, unit_form};
