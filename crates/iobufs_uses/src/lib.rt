@@ -3,6 +3,7 @@
 //! - `frame`: a frame codec. `send`: a sender of chunk lists. `store`: parts filled from a reader. `pool`, a caller of the
 //!   machine: the memory of freed blocks.
 //! - `web`: bodies of HTTP messages. `polled`: a sender to an async writer. `decoder`: frames of a `tokio_util` stream.
+//! - `start`: a log of entries, a crate to begin with.
 //! - `note`, `request`: messages, and an enum, read by their parts. `alike`: code that is generic in the value and in the
 //!   reader.
 //! - The contracts are in the words of the layer and its `CallerFacts`.
@@ -16,5 +17,6 @@ pub mod polled;
 pub mod pool;
 pub mod request;
 pub mod send;
+pub mod start;
 pub mod store;
 pub mod web;

@@ -1,4 +1,4 @@
-// A note of three fields, a letter that contains a note, and an entry of four fields: each is read as the tuple of its fields.
+// A note of three fields, and a letter that contains a note: each is read as the tuple of its fields.
 ghost use Rattle.std.specs.Prelude.{◌≡◌, ◌++◌, [], ◌∷◌, IfOk};
 ghost use Rattle.std.specs.Int.{w32, to_be_bytes};
 ghost use Rattle.iobufs_core.specs.Wire.{view_written};
@@ -7,7 +7,7 @@ use iobufs::EncodeExt;
 use iobufs::bufs::IoBufs;
 use iobufs_core::buf::IoBuf;
 use iobufs_core::codec::Error;
-use iobufs_values::{ByParts, IntoParts, List, Signed};
+use iobufs_values::{ByParts, List, Signed};
 use std::alloc::Global;
 
 /// A number, a byte and a body.
@@ -64,36 +64,3 @@ impl ByParts for Letter {
         }
     }
 }
-
-// [docs: entry]
-/// An entry of a log.
-#[derive(Drop)]
-pub struct Entry {
-    pub number: u64,
-    pub flags: u8,
-    pub key: IoBuf,
-    pub value: IoBuf,
-}
-
-impl ByParts for Entry {
-    type Parts = (u64, u8, IoBuf, IoBuf);
-
-    ghost parts = { λ entry. (entry.number, entry.flags, entry.key, entry.value) };
-
-    fn from_parts(all: (u64, u8, IoBuf, IoBuf)) -> Entry {
-        let (number, flags, key, value) = all;
-        Entry {
-            number,
-            flags,
-            key,
-            value,
-        }
-    }
-}
-
-impl IntoParts for Entry {
-    fn into_parts(self) -> (u64, u8, IoBuf, IoBuf) {
-        (self.number, self.flags, self.key, self.value)
-    }
-}
-// [docs end]

@@ -1,7 +1,7 @@
-// A request of one of three kinds, read and written as a value of one kind or another after the byte of its kind.
+// A request of one of four kinds, read and written as a value of one kind or another after the byte of its kind.
 ghost use Rattle.std.specs.Prelude.{◌≡◌};
 ghost use Rattle.iobufs_values.specs.declared.kinds.Either.TheVariants.{First, Second};
-ghost use Rattle.iobufs_uses.specs.declared.request.Request.TheVariants.{Get, Put, Sync};
+ghost use Rattle.iobufs_uses.specs.declared.request.Request.TheVariants.{Get, Put, Sync, Ping};
 
 use iobufs_core::buf::IoBuf;
 use iobufs_values::{ByParts, Either, IntoParts, Kind};
@@ -15,13 +15,15 @@ pub enum Request {
     Put { key: IoBuf, body: IoBuf },
     /// Store all that was put, up to this number.
     Sync(u64),
+    /// Answer.
+    Ping,
 }
 
 // [docs: request_parts]
 /// The parts of a request: each kind after its byte.
 pub type RequestParts = Either<
     Kind<0, (IoBuf, u32)>,
-    Either<Kind<1, (IoBuf, IoBuf)>, Kind<2, u64>>,
+    Either<Kind<1, (IoBuf, IoBuf)>, Either<Kind<2, u64>, Kind<3, ()>>>,
 >;
 // [docs end]
 
@@ -31,7 +33,8 @@ impl ByParts for Request {
     ghost parts = { λ request. elim request [
       | Get key limit ↦ First (record { value = (key, limit) })
       | Put key body ↦ Second (First (record { value = (key, body) }))
-      | Sync last ↦ Second (Second (record { value = last }))
+      | Sync last ↦ Second (Second (First (record { value = last })))
+      | Ping ↦ Second (Second (Second (record { value = tt })))
     ] };
 
     fn from_parts(all: RequestParts) -> Request {
@@ -45,7 +48,8 @@ impl ByParts for Request {
                 key,
                 body,
             },
-            Either::Second(Either::Second(Kind { value })) => Request::Sync(value),
+            Either::Second(Either::Second(Either::First(Kind { value }))) => Request::Sync(value),
+            Either::Second(Either::Second(Either::Second(Kind { value: () }))) => Request::Ping,
         }
     }
 }
@@ -59,7 +63,10 @@ impl IntoParts for Request {
             Request::Put { key, body } => Either::Second(Either::First(Kind {
                 value: (key, body),
             })),
-            Request::Sync(value) => Either::Second(Either::Second(Kind { value })),
+            Request::Sync(value) => {
+                Either::Second(Either::Second(Either::First(Kind { value })))
+            }
+            Request::Ping => Either::Second(Either::Second(Either::Second(Kind { value: () }))),
         }
     }
 }

@@ -7,8 +7,9 @@ use crate::wire::whole::{END, assert_front, assert_prefixes, assert_refused, ass
 use iobufs::bufs::IoBufs;
 use iobufs_core::buf::IoBuf;
 use iobufs_core::codec::{EncodeSize, Error, RangeCfg, Write};
-use iobufs_uses::note::{Entry, Letter, Note};
+use iobufs_uses::note::{Letter, Note};
 use iobufs_uses::request::{Request, RequestParts};
+use iobufs_uses::start::Entry;
 use iobufs_values::{ByParts, Either, Fault, IntoParts, Kind, List, Look, Tagged};
 use std::process::Abort;
 use std::test::Fail;
@@ -91,6 +92,7 @@ enum Asked {
     Get(&'static [u8], u32),
     Put(&'static [u8], &'static [u8]),
     Sync(u64),
+    Ping,
 }
 
 fn request(asked: Asked) -> Request {
@@ -104,17 +106,19 @@ fn request(asked: Asked) -> Request {
             body: view(body),
         },
         Asked::Sync(last) => Request::Sync(last),
+        Asked::Ping => Request::Ping,
     }
 }
 
 // A name, a request, and the chunks that it is written as.
-const REQUESTS: [(&'static str, Asked, &'static [&'static [u8]]); 3] = rows! {
+const REQUESTS: [(&'static str, Asked, &'static [&'static [u8]]); 4] = rows! {
     "a get", Asked::Get(b"key", 7), &[b"\0\x03", b"key", b"\0\0\0\x07"];
     "a put", Asked::Put(b"key", b"body"), &[b"\x01\x03", b"key", b"\x04", b"body"];
     "a sync", Asked::Sync(300), &[b"\x02\0\0\0\0\0\0\x01\x2c"];
+    "a ping", Asked::Ping, &[b"\x03"];
 };
 
-const CFG: <RequestParts as Look>::Cfg = ((UP_TO_9, ()), ((UP_TO_9, UP_TO_9), ()));
+const CFG: <RequestParts as Look>::Cfg = ((UP_TO_9, ()), ((UP_TO_9, UP_TO_9), ((), ())));
 
 // A value, given four times, is written as these chunks, and read from them and from their bytes.
 fn assert_parted<T: IntoParts + PartialEq + Drop>(
@@ -163,7 +167,7 @@ fn a_long_request(rt: HostRuntime) {
 
 // A name, bytes that begin no request, and the fault.
 const NO_REQUESTS: [(&'static str, &'static [u8], Fault); 3] = rows! {
-    "a fourth kind", b"\x03\x03key\0\0\0\x07", Fault::InvalidEnum(3);
+    "a fifth kind", b"\x04\x03key\0\0\0\x07", Fault::InvalidEnum(4);
     "the last kind", b"\xff", Fault::InvalidEnum(255);
     "a long key", b"\x01\x0aabcdefghij\0", Fault::Codec(Error::InvalidLength(10));
 };
@@ -201,7 +205,7 @@ fn kinds_with_one_byte(rt: HostRuntime) {
         &first,
         1,
     );
-    for (tag, is_one) in [(0, true), (2, true), (3, false)] {
+    for (tag, is_one) in [(0, true), (3, true), (4, false)] {
         assert_same!(rt; RequestParts::is_tag(tag), is_one);
     }
 }

@@ -1,0 +1,128 @@
+// [docs: start]
+// A log of entries, sent as frames: a whole crate to begin with.
+ghost use Rattle.std.specs.Prelude.{◌≡◌, ◌++◌, [], ◌∷◌, IfOk, OnOk};
+ghost use Rattle.std.specs.Int.{w64, to_be_bytes};
+ghost use Rattle.iobufs_core.specs.Wire.{view_written};
+
+use iobufs::bufs::IoBufs;
+use iobufs_core::buf::IoBuf;
+use iobufs_core::codec::{Error, RangeCfg};
+use iobufs_streams::{FrameError, FrameReader, FrameWriter};
+use iobufs_values::{ByParts, Fault, IntoParts};
+use std::alloc::Global;
+use std::io::{self, Read, Write};
+
+/// An entry of a log.
+#[derive(Drop)]
+pub struct Entry {
+    pub number: u64,
+    pub flags: u8,
+    pub key: IoBuf,
+    pub value: IoBuf,
+}
+
+impl ByParts for Entry {
+    type Parts = (u64, u8, IoBuf, IoBuf);
+
+    ghost parts = { λ entry. (entry.number, entry.flags, entry.key, entry.value) };
+
+    fn from_parts(all: (u64, u8, IoBuf, IoBuf)) -> Entry {
+        let (number, flags, key, value) = all;
+        Entry {
+            number,
+            flags,
+            key,
+            value,
+        }
+    }
+}
+
+impl IntoParts for Entry {
+    fn into_parts(self) -> (u64, u8, IoBuf, IoBuf) {
+        (self.number, self.flags, self.key, self.value)
+    }
+}
+
+/// A configuration a field: keys of up to 255 bytes, and values of up to 64 KiB.
+pub const CFG: ((), (), RangeCfg, RangeCfg) =
+    ((), (), RangeCfg { lo: 0, hi: 255 }, RangeCfg { lo: 0, hi: 1 << 16 });
+
+/// Encodes an entry. Its key and value aren't copied.
+pub fn encoded(alloc: Global, entry: Entry) -> Result<IoBufs, Error>
+    ensures { IfOk result (λ text. text.bytes
+        ≡ to_be_bytes w64 entry.number ++ ((entry.flags ∷ []) ++ (view_written entry.key ++ view_written entry.value))) }
+{
+    entry.encode_iobufs(alloc)
+}
+
+/// Decodes all bytes as an entry, which shares them.
+pub fn decoded(alloc: Global, body: &IoBuf) -> Result<Entry, Fault>
+    ensures { IfOk result (λ entry. body.now.bytes
+        ≡ to_be_bytes w64 entry.number ++ ((entry.flags ∷ []) ++ (view_written entry.key ++ view_written entry.value))) }
+{
+    Entry::decode_cfg(alloc, body, &CFG)
+}
+
+/// Why an entry isn't sent or received.
+#[derive(Debug, Drop, thiserror::Error)]
+pub enum LogError {
+    /// The writer's error.
+    #[error("{0}")]
+    Write(#[from] io::Error),
+    /// The entry has no encoding, or a body is none.
+    #[error("{0}")]
+    Entry(#[from] Fault),
+    /// No frame is taken.
+    #[error("{0}")]
+    Frame(#[from] FrameError),
+}
+
+/// Sends an entry as a frame, after the rest of the frame before it.
+pub fn send<W: Write + Drop>(
+    alloc: Global,
+    to: &mut FrameWriter<W>,
+    entry: Entry,
+) -> Result<(), LogError>
+    ensures { OnOk result (to.new.rest.bytes ≡ []) }
+{
+    to.send(alloc)?;
+    let body = encoded(alloc, entry).map_err(Fault::Codec)?;
+    to.put(alloc, body).map_err(|refused| Fault::from(refused.cause))?;
+    to.send(alloc)?;
+    Ok(())
+}
+
+/// Receives the next entry; `None` at the end of the input.
+pub fn receive<R: Read + Drop>(
+    alloc: Global,
+    from: &mut FrameReader<R>,
+) -> Result<Option<Entry>, LogError> {
+    let Some(body) = from.next(alloc)? else {
+        return Ok(None);
+    };
+    let entry = decoded(alloc, &body)?;
+    Ok(Some(entry))
+}
+
+#[test]
+fn entries_come_back(rt: HostRuntime) {
+    let mut to = FrameWriter::new(Vec::new(rt.alloc()));
+    for number in 0..3 {
+        let entry = Entry {
+            number,
+            flags: 1,
+            key: IoBuf::from(b"key".as_slice()),
+            value: IoBuf::from(b"value".as_slice()),
+        };
+        send(rt.alloc(), &mut to, entry).expect(&rt, "an entry is sent");
+    }
+    let sent = to.to.as_slice();
+    let mut from = FrameReader::new(rt.alloc(), sent, RangeCfg { lo: 0, hi: 1 << 17 })
+        .expect(&rt, "space for a read");
+    for number in 0..3 {
+        let entry = receive(rt.alloc(), &mut from).expect(&rt, "an entry").expect(&rt, "an entry");
+        assert_eq!(rt; (entry.number, entry.key.as_ref()), (number, b"key".as_slice()));
+    }
+    assert!(rt; receive(rt.alloc(), &mut from).expect(&rt, "the end").is_none());
+}
+// [docs end]
