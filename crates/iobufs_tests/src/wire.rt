@@ -2,7 +2,6 @@
 mod chunks;
 mod encode;
 mod lengths;
-mod message;
 mod parts;
 mod shard;
 mod values;

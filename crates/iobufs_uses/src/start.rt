@@ -44,8 +44,12 @@ impl IntoParts for Entry {
 }
 
 /// A configuration a field: keys of up to 255 bytes, and values of up to 64 KiB.
-pub const CFG: ((), (), RangeCfg, RangeCfg) =
-    ((), (), RangeCfg { lo: 0, hi: 255 }, RangeCfg { lo: 0, hi: 1 << 16 });
+pub const CFG: ((), (), RangeCfg, RangeCfg) = (
+    (),
+    (),
+    RangeCfg { lo: 0, hi: 255 },
+    RangeCfg { lo: 0, hi: 1 << 16 },
+);
 
 /// Encodes an entry. Its key and value aren't copied.
 pub fn encoded(alloc: Global, entry: Entry) -> Result<IoBufs, Error>
@@ -87,7 +91,8 @@ pub fn send<W: Write + Drop>(
 {
     to.send(alloc)?;
     let body = encoded(alloc, entry).map_err(Fault::Codec)?;
-    to.put(alloc, body).map_err(|refused| Fault::from(refused.cause))?;
+    to.put(alloc, body)
+        .map_err(|refused| Fault::from(refused.cause))?;
     to.send(alloc)?;
     Ok(())
 }
@@ -117,12 +122,23 @@ fn entries_come_back(rt: HostRuntime) {
         send(rt.alloc(), &mut to, entry).expect(&rt, "an entry is sent");
     }
     let sent = to.to.as_slice();
-    let mut from = FrameReader::new(rt.alloc(), sent, RangeCfg { lo: 0, hi: 1 << 17 })
-        .expect(&rt, "space for a read");
+    let mut from = FrameReader::new(rt.alloc(), sent, RangeCfg { lo: 0, hi: 1 << 17 }).expect(
+        &rt,
+        "space for a read",
+    );
     for number in 0..3 {
-        let entry = receive(rt.alloc(), &mut from).expect(&rt, "an entry").expect(&rt, "an entry");
-        assert_eq!(rt; (entry.number, entry.key.as_ref()), (number, b"key".as_slice()));
+        let entry = receive(rt.alloc(), &mut from)
+            .expect(&rt, "an entry")
+            .expect(&rt, "an entry");
+        assert_eq!(rt;
+            (entry.number, entry.key.as_ref()),
+            (number, b"key".as_slice())
+        );
     }
-    assert!(rt; receive(rt.alloc(), &mut from).expect(&rt, "the end").is_none());
+    assert!(rt;
+        receive(rt.alloc(), &mut from)
+            .expect(&rt, "the end")
+            .is_none()
+    );
 }
 // [docs end]
