@@ -136,6 +136,7 @@ impl BufRead for IoBufs {
     fn consume(&mut self, amount: usize)
         ensures bytes { DropsConsumable (Some self.old.bytes) (Some self.new.bytes) None amount }
         ensures rest { self.new.bytes ≡ drop amount self.old.bytes }
+        ensures whole { self.new ≡ text_advanced self.old (min amount (length self.old.bytes)) }
     {
         let n = amount.min(self.len());
         codec::Buf::advance(self, n);

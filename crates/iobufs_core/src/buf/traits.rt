@@ -125,6 +125,7 @@ impl BufRead for IoBuf {
     fn consume(&mut self, amount: usize)
         ensures bytes { DropsConsumable (Some self.old.bytes) (Some self.new.bytes) None amount }
         ensures rest { self.new.bytes ≡ drop amount self.old.bytes }
+        ensures whole { self.new ≡ view_advanced self.old (min amount (length self.old.bytes)) }
     {
         let n = amount.min(self.len());
         codec::Buf::advance(self, n);
@@ -164,9 +165,10 @@ impl BufRead for IoBufMut {
     fn consume(&mut self, amount: usize)
         ensures bytes { DropsConsumable (Some self.old.filled) (Some self.new.filled) None amount }
         ensures rest { self.new.filled ≡ drop amount self.old.filled }
+        ensures whole { self.new ≡ part_drained self.old (min amount (length self.old.filled)) }
     {
-        let n = amount.min(self.len());
-        codec::Buf::advance(self, n);
+        let count = amount.min(self.len());
+        codec::Buf::advance(self, count);
     }
 }
 

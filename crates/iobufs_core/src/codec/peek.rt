@@ -46,8 +46,7 @@ impl Peek for IoBuf {
         skip: usize,
         n: usize,
     ) -> Result<T, BufError> {
-        // A view's value doesn't bound its length, so only a requested length shows that the sum fits.
-        let _len = self.len();
+        prove!(self.len() - skip >= n);
         let end = skip + n;
         let view = self.slice(Bound::Included(skip), Bound::Excluded(end))?;
         T::from_view(alloc, view)
