@@ -1,4 +1,4 @@
--- What is made of all items of an iterator.
+-- All items of an iterator, made into one value.
 use Rattle.std.specs.Prelude.{◌≡◌, List, Option}
 use Rattle.std.proofs.Common.{subst}
 use Rattle.std.specs.Iterator.{DrainsIf, Yields}

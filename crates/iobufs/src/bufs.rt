@@ -4,16 +4,17 @@ ghost use Rattle.iobufs.specs.Located.{greatest_key, keys_upto};
 ghost use Rattle.iobufs.specs.Refusals.{IsRefusedAt};
 ghost use Rattle.iobufs_core.specs.Chunks.{first_chunk};
 ghost use Rattle.iobufs_core.specs.MarkedText.{IsMarked, chunk_count as count_of, default_text, is_single, joined, of_view, taken_view, text_append, text_chunks, text_len, text_prepend, text_rest, text_split_front, text_coalesced, chunk_count};
+ghost use Rattle.iobufs_core.specs.declared.codec.base.BufError.{BufError};
 ghost use Rattle.iobufs_core.specs.Part.{part_frozen};
 ghost use Rattle.iobufs_core.specs.Recovery.{IsAdopted};
 ghost use Rattle.iobufs_core.specs.View.{View, default_view, bytes_mark, static_mark, IsFreelyShared};
 ghost use Rattle.std.specs.Cmp.Lexicographic.{pointwise};
 ghost use Rattle.std.specs.Fn.{CalledAt};
-ghost use Rattle.std.specs.Iterator.{IsFinite, YieldsFirstBy, item_count};
+ghost use Rattle.std.specs.Iterator.{DrainsIf, IsFinite, YieldsFirstBy, item_count};
 ghost use Rattle.std.specs.Iterator.Runs.{SomeRun, WholeRun};
 ghost use Rattle.std.specs.List.{FoldsTo};
 ghost use Rattle.std.specs.Option.{option_copied};
-ghost use Rattle.std.specs.Prelude.{◌≡◌, ℕ, List, ◌∷◌, ◌++◌, ◌+◌, ◌*◌, ◌<◌, ◌≤◌, ◌^◌, ◌==◌, [], length, if◌then◌else◌, false, true, slice_get, IsOk, IfOk, IfErr, OnOk, OnErr, IsOkUnless, IsErrAnd, MatchOption, MatchResult, drop, Err, ◌-◌, nat_eq, Some, codes};
+ghost use Rattle.std.specs.Prelude.{◌≡◌, ℕ, List, ◌∷◌, ◌++◌, ◌+◌, ◌*◌, ◌<◌, ◌≤◌, ◌^◌, ◌==◌, [], length, if◌then◌else◌, false, true, slice_get, IsOk, IfOk, IfErr, OnOk, OnErr, IsOkUnless, IsErrAnd, MatchOption, MatchResult, drop, Err, ◌-◌, nat_eq, Some, codes, ⊤};
 ghost use Rattle.std.proofs.Common.{rules};
 ghost use Rattle.std.specs.Cmp.Rules.{comparing};
 ghost use Rattle.std.specs.Fmt.{decimal};
@@ -483,8 +484,6 @@ impl From<IoBuf> for IoBufs {
     ghost from_gives = { λ piece b. b ≡ of_view piece };
 
     fn from(piece: IoBuf) -> IoBufs {
-        // A view's value has no bound of its length; that of an `IoBufs` has one, which is known of a length that was asked for.
-        let _len = piece.len();
         IoBufs {
             pieces: Pieces::one(piece),
         }
@@ -611,7 +610,13 @@ impl FromIterator<IoBuf> for IoBufs {
     fn from_iter<U: IntoIterator<Item = IoBuf>>(
         alloc: Global,
         iter: U,
-    ) -> Result<IoBufs, AllocError> {
+    ) -> Result<IoBufs, AllocError>
+        requires { (it : U.IntoIter) → U.into_iter_gives iter it → U.IntoIter.can_next it × IsFinite (U.IntoIter.remaining it) }
+        ensures ran { IfOk result (λ bufs. (it : U.IntoIter) × (views : List View)
+            × U.into_iter_gives iter it × DrainsIf U.IntoIter.next_gives ⊤ it views × (bufs ≡ joined views)) }
+        ensures err { OnErr result ((it : U.IntoIter) × (cause : BufError)
+            × U.into_iter_gives iter it × SomeRun U.IntoIter.next_gives it (λ run. IsRefusedAt run.items cause)) }
+    {
         match IoBufs::from_chunks(alloc, iter.into_iter()) {
             Ok(bufs) => Ok(bufs),
             Err(_) => Err(AllocError),

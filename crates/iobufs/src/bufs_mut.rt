@@ -1,14 +1,15 @@
 // Writable buffers, read and filled in order. A clause sees a list of them (`Part`), each its bytes and spare capacity.
-ghost use Rattle.std.specs.Prelude.{◌≡◌, ◌+◌, ◌<◌, ◌≤◌, ◌==◌, ◌^◌, ◌++◌, ◌∷◌, [], length, slice_get, Err, IfErr, IfOk, IsOk, IsOkUnless, MatchResult, Some, codes};
+ghost use Rattle.std.specs.Prelude.{◌≡◌, ◌+◌, ◌<◌, ◌≤◌, ◌==◌, ◌^◌, ◌++◌, ◌∷◌, [], List, length, slice_get, Err, IfErr, IfOk, IsOk, IsOkUnless, MatchResult, OnErr, Some, codes, ⊤};
 ghost use Rattle.std.specs.Fmt.{decimal};
-ghost use Rattle.std.specs.Iterator.{IsFinite};
+ghost use Rattle.std.specs.Iterator.{DrainsIf, IsFinite};
 ghost use Rattle.std.specs.Iterator.Runs.{SomeRun, WholeRun};
 ghost use Rattle.std.specs.Option.{option_copied, option_map};
 ghost use Rattle.std.specs.Borrow.{LendsIf, sem};
-ghost use Rattle.iobufs_core.specs.Part.{empty_part, part_capacity};
+ghost use Rattle.iobufs_core.specs.Part.{Part, empty_part, part_capacity};
 ghost use Rattle.iobufs_core.specs.contracts.buf.part.IoBufMut.{the_row as part_row};
 ghost use Rattle.iobufs.specs.Parts.{IsParts, kept_parts, parts_capacity, parts_coalesced, parts_filled, parts_frozen, parts_overwritten, parts_with_len, single_part, parts_chunks, parts_drained, parts_spare};
 ghost use Rattle.iobufs.specs.PartLimits.{IsRowRefusedAt};
+ghost use Rattle.iobufs_core.specs.declared.codec.base.BufError.{BufError};
 
 mod few;
 mod several;
@@ -496,7 +497,13 @@ impl FromIterator<IoBufMut> for IoBufsMut {
     fn from_iter<U: IntoIterator<Item = IoBufMut>>(
         alloc: Global,
         iter: U,
-    ) -> Result<IoBufsMut, AllocError> {
+    ) -> Result<IoBufsMut, AllocError>
+        requires { (it : U.IntoIter) → U.into_iter_gives iter it → U.IntoIter.can_next it × IsFinite (U.IntoIter.remaining it) }
+        ensures ran { IfOk result (λ bufs. (it : U.IntoIter) × (parts : List Part)
+            × U.into_iter_gives iter it × DrainsIf U.IntoIter.next_gives ⊤ it parts × (bufs ≡ kept_parts parts)) }
+        ensures err { OnErr result ((it : U.IntoIter) × (cause : BufError)
+            × U.into_iter_gives iter it × SomeRun U.IntoIter.next_gives it (λ run. IsRowRefusedAt run.items cause)) }
+    {
         match IoBufsMut::from_parts(alloc, iter.into_iter()) {
             Ok(bufs) => Ok(bufs),
             Err(_) => Err(AllocError),

@@ -62,7 +62,7 @@ pub read_at_most : (text : MarkedText) (range : RangeCfg) (result : Result View 
 read_at_most text range (Ok view) is = high_end range (length view.bytes) (read_in_range text range (Ok view) is).1
 read_at_most text range (Err error) is = tt
 
--- what was written, in the range, is read back
+-- written bytes, in the range, are read back
 pub written_read_back : (text left : MarkedText) (range : RangeCfg) (result : Result View Error) (body rest : List ℕ) → IsViewRead text range result
     → IfOk result (λ view. left ≡ text_rest text (length (view_written view)))
     → length body < 2 ^ 64 → in_range range (length body) ≡ true → text.bytes ≡ bytes_written body ++ rest → AreReadBack body rest left.bytes result

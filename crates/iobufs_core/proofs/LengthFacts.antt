@@ -1,9 +1,7 @@
--- Varints at the front of bytes, for laws about formats: whether there is one is decided, a result stays if more bytes
--- follow, and a prefix of what is written may go on.
+-- Varints at the front of bytes, for laws about formats: whether there is one is decided, none comes
+-- with more bytes after it, and a prefix of what is written may go on.
 --     has_length, opened, less         there is a varint or none; it may go on or can't; one number is less or not
---     HasAnswer, some_answer           reading a length has a result, whatever the bytes
---     spelled_later,                   a length, or that there can be none, stays with more bytes after it
---     no_length_later, still_closed
+--     no_length_later, still_closed    there can be no length with more bytes after it either
 --     begun_open                       each proper prefix of what is written may go on
 use Rattle.std.specs.Prelude.{◌≡◌, ◌⊎◌, ℕ, zero, suc, ◌+◌, ◌-◌, ◌*◌, ◌^◌, ◌<◌, ◌≤◌, Bool, true, false, nat_lt, Result, Ok, Err, List, [], ◌∷◌, ◌++◌, length, take, drop, refl}
 use Rattle.std.proofs.Common.{arith, inl, inr, ap, sym, subst, ◌∙◌, length-append, length-drop, length-take, take-append-drop}
@@ -102,25 +100,6 @@ opened xs = elim (less (length xs) 10) [
   | inl few ↦ elim (all_high xs) [ inl high ↦ inl (few, high) | inr none ↦ inr (λ is. none is.1) ]
 ]
 
--- reading a length has a result for any bytes
-pub record HasAnswer (bytes : List ℕ) (range : RangeCfg) : Type 0 where
-  pub answer : Result ℕ Error
-  pub is : IsLengthRead bytes range answer
-
-by_range : (bytes : List ℕ) (range : RangeCfg) (n : ℕ) (inside : Bool) → IsSpelledAt bytes n → in_range range n ≡ inside → HasAnswer bytes range
-by_range bytes range n true at e = record { answer = Ok n; is = (at, e) }
-by_range bytes range n false at e = record { answer = Err (InvalidLength n); is = (at, e) }
-
--- bytes have a length in the range, or a reason why not
-pub some_answer : (bytes : List ℕ) (range : RangeCfg) → HasAnswer bytes range
-some_answer bytes range = elim (has_length bytes) [
-  | inl (n, at) ↦ by_range bytes range n (in_range range n) at refl
-  | inr none ↦ elim (opened bytes) [
-    | inl more ↦ record { answer = Err EndOfBuffer; is = (none, more) }
-    | inr closed ↦ record { answer = Err InvalidVarint; is = (none, closed) }
-  ]
-]
-
 -- ---- a text that grows
 
 -- the bytes before a varint's last byte have the top bit set
@@ -141,15 +120,6 @@ take_beyond k xs ys beyond =
 high_front : (xs ys : List ℕ) → AreHigh (xs ++ ys) → AreHigh xs
 high_front [] ys high = tt
 high_front (b ∷ bs) ys high = (high.0, high_front bs ys high.1)
-
-take_whole_length : (k : ℕ) (xs : List ℕ) → length (take k xs) ≡ k → k ≤ length xs
-take_whole_length k xs e = omega (arith, length-take k xs)
-
--- a length at the front is still there if more bytes follow
-pub spelled_later : (bytes more : List ℕ) (n : ℕ) → IsSpelledAt bytes n → IsSpelledAt (bytes ++ more) n
-spelled_later bytes more n at =
-    let long : length (spell n) ≤ length bytes = take_whole_length (length (spell n)) bytes (ap (λ (xs : List ℕ). length xs) at.1) in
-    (at.0, take-append-le (length (spell n)) bytes more long ∙ at.1)
 
 -- if no varint is at the front and none can have begun, more bytes complete none
 pub no_length_later : (bytes more : List ℕ) → HasNoLength bytes → (IsOpen bytes → ⊥) → HasNoLength (bytes ++ more)

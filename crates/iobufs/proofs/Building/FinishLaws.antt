@@ -124,7 +124,8 @@ built-nothing b (push_item view ∷ items) none =
     built-nothing (building_push b view) items (omega arith) ∙ push-none b view (omega arith)
 
 -- a new builder that is given items without bytes has no item
-pub nothing-built : (capacity : ℕ) (items : List PutOrPush) → length (items_bytes items) ≡ 0 → building_items (building_after (empty_building capacity) items) ≡ []
+pub nothing-built : (capacity : ℕ) (items : List PutOrPush) → length (items_bytes items) ≡ 0
+    → building_items (building_after (empty_building capacity) items) ≡ []
 nothing-built capacity items none = ap building_items (built-nothing (empty_building capacity) items none)
 
 pub ruleset finishing = (len-append, frozen-bytes)

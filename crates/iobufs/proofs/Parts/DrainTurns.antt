@@ -171,8 +171,8 @@ kept-drained-row row new used behind n full still len capacity kept some is are 
     }
 
 -- a part that can hold a byte, put after two or more in order, is kept with their sums
-pub kept-pushed : (row new : List Part) (used none : ℕ) (p : Part) (full len capacity n m : ℕ) → AreKept row used full len capacity → new ≡ in_order row used ++ p ∷ []
-    → none ≡ 0 → 1 < length (in_order row used) → 0 < part_capacity p → parts_capacity (in_order row used) + part_capacity p < 2 ^ 64
+pub kept-pushed : (row new : List Part) (used none : ℕ) (p : Part) (full len capacity n m : ℕ)
+    → AreKept row used full len capacity → new ≡ in_order row used ++ p ∷ [] → none ≡ 0 → 1 < length (in_order row used) → 0 < part_capacity p → parts_capacity (in_order row used) + part_capacity p < 2 ^ 64
     → n ≡ length p.filled → m ≡ part_capacity p → AreKept new none full (len + n) (capacity + m)
 kept-pushed row new used none p full len capacity n m kept is zero several more fits len_is capacity_is =
     let all = in_order row used in

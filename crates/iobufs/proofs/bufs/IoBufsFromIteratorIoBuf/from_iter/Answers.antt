@@ -3,7 +3,7 @@ use Rattle.iobufs.proofs.Collected.{drained}
 use Rattle.iobufs.proofs.Text.{◌<◌, ◌^◌}
 use Rattle.iobufs.proofs.bufs.IoBufsFromIteratorIoBuf.from_iter.Goals as goal
 
-pub returns-in-Ok : goal.returns-in-Ok
-returns-in-Ok g c =
+pub returns-in-Ok-clause-ran : goal.returns-in-Ok-clause-ran
+returns-in-Ok-clause-ran g c =
     let all = drained _ _ _ (λ views. text_len (joined views) < 2 ^ 64) joined c.in-Ok.bufs c.in-Ok.ensures.ok in
-    record { ran = (c.into_iter.result, all.0, c.into_iter.ensures.into_iter_gives, all.1, all.2) }
+    (c.into_iter.result, all.0, c.into_iter.ensures.into_iter_gives, all.1, all.2)

@@ -13,4 +13,5 @@ returns-clause-bytes c =
     let count : length (take n dst) ≡ n = omega (arith, length-take n dst, is) in
     took_front n text.bytes c.copy_to_slice.new.dst dst c.copy_to_slice.new.self.bytes is
     (c.copy_to_slice.ensures.bytes ∙ ap (λ k. take k text.bytes) count)
-    (ap (λ (t : MarkedText). t.bytes) c.copy_to_slice.ensures.rest ∙ text_drops text (length (take n dst)) (omega (arith, count, is)) ∙ ap (λ k. drop k text.bytes) count)
+    (ap (λ (t : MarkedText). t.bytes) c.copy_to_slice.ensures.rest ∙ text_drops text (length (take n dst)) (omega (arith, count, is))
+    ∙ ap (λ k. drop k text.bytes) count)
