@@ -1,5 +1,5 @@
 //! The threads' unfinished calls, and for each handle how many of them borrow it. So a step looks at no other thread's call.
-ghost use Rattle.std.specs.Prelude.{◌≡◌, ℕ, ◌+◌, ◌^◌, ◌<◌, ◌≤◌, length, slice_index, slice_set, replicate, if◌then◌else◌, IfOk, IfSome, IsOk, OnOk, None};
+ghost use Rattle.std.specs.Prelude.{◌≡◌, ℕ, ◌+◌, ◌^◌, ◌<◌, ◌≤◌, length, slice_index, slice_set, replicate, if◌then◌else◌, IfOk, IfSome, IsOk, OnErr, OnOk, None};
 ghost use Rattle.iobufs_owner.specs.Lending as lending;
 ghost use Rattle.iobufs_owner.specs.Lending.{is_lent, lends};
 
@@ -110,6 +110,8 @@ impl Calls {
         ensures items { self.new.items ≡ self.old.items }
         ensures more { self.old.handles ≤ self.new.handles }
         ensures ok { OnOk result (handles ≤ self.new.handles) }
+        ensures unchanged { OnErr result (self.new ≡ self.old) }
+        ensures enough { handles ≤ self.old.handles → IsOk result }
     {
         if handles > self.borrowers.len() {
             self.borrowers.resize(handles, 0)?;
