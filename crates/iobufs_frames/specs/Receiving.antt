@@ -1,9 +1,10 @@
 -- What contracts see of received bytes.
 --     ReceivedBytes    how the lengths are written, the bytes that were not taken, and how many more fit after them
 --     none_received    none of them, and no space
+--     KeepsSpace       a frame was taken: the space stays, or went with an emptied block
 --     HasReceived      bytes came after those that are held, into the space
 --     block_row        a block of the crate `bytes`, for the clause on one that is lent
-use Rattle.std.specs.Prelude.{◌≡◌, ℕ, ◌+◌, List, [], ◌++◌, length}
+use Rattle.std.specs.Prelude.{◌≡◌, ◌⊎◌, ℕ, ◌+◌, List, [], ◌++◌, length}
 use Rattle.std.specs.Borrow.{RattleType}
 use Rattle.std.specs.contracts.alloc.Global as global
 use Rattle.std.specs.contracts.impls.GlobalAllocator.TheImpl.{ghosts}
@@ -19,6 +20,10 @@ pub record ReceivedBytes : Type 0 where
 -- none of them, and no space
 abbrev pub none_received : Prefix → ReceivedBytes
 none_received prefix = record { prefix = prefix; bytes = []; space = 0 }
+
+-- a frame was taken: the space stays, or it went with an emptied block
+abbrev pub KeepsSpace : ReceivedBytes → ReceivedBytes → Type 0
+KeepsSpace old new = (new.space ≡ old.space) ⊎ ((new.bytes ≡ []) × (new.space ≡ 0))
 
 -- so many bytes came after those that are held, into the space
 pub record HasReceived (n : ℕ) (old new : ReceivedBytes) : Type 0 where

@@ -1,11 +1,11 @@
 //! Bytes that are received into one block, and the frames at their front.
-ghost use Rattle.std.specs.Prelude.{◌≡◌, ◌↔◌, ℕ, ◌^◌, ◌<◌, ◌≤◌, List, [], ◌++◌, length, take, drop, IsTrue, IfOk, IfErr, IfNone, IfSome, IsOk, OnOk, OnErr};
+ghost use Rattle.std.specs.Prelude.{◌≡◌, ◌↔◌, ℕ, ◌+◌, ◌^◌, ◌<◌, ◌≤◌, List, [], ◌++◌, length, take, drop, IsTrue, IfOk, IfErr, IfNone, IfSome, IsOk, OnOk, OnErr};
 ghost use Rattle.std.specs.Borrow.{Lends, sem};
 ghost use Rattle.std.specs.Io.KnownBytes.{Consumes, IsAtEnd, Keeps};
 ghost use Rattle.iobufs_core.specs.View.{view_of_bytes};
 ghost use Rattle.iobufs_frames.specs.Frames.{HasFrame, IsNext};
 ghost use Rattle.iobufs_frames.specs.Prefixes.{HasNoLengthAt, IsOpenAt, IsSeenAt};
-ghost use Rattle.iobufs_frames.specs.Receiving.{HasReceived, block_row, none_received};
+ghost use Rattle.iobufs_frames.specs.Receiving.{HasReceived, KeepsSpace, block_row, none_received};
 ghost use Rattle.iobufs_frames.specs.contracts.block.Received.{the_row};
 
 use crate::lengths::{Length, Prefix, frame_size};
@@ -56,6 +56,7 @@ fn widen(block: &mut BytesMut, whole: usize, size: usize) -> Result<(), AllocErr
     requires { length block.old.items < size }
     ensures items { block.new.items ≡ block.old.items }
     ensures spare { OnOk result (0 < block.new.spare) }
+    ensures failed { OnErr result (block.old.spare ≤ block.new.spare) }
 {
     let len = block.len();
     if len == whole {
@@ -118,6 +119,7 @@ impl Received {
         requires { (skip ≤ size) × (size ≤ length self.old.bytes) }
         ensures body { IfOk result (λ body. body ≡ view_of_bytes (drop skip (take size self.old.bytes))) }
         ensures rest { OnOk result (self.new.bytes ≡ drop size self.old.bytes) }
+        ensures space { OnOk result (KeepsSpace self.old self.new) }
         ensures prefix { self.new.prefix ≡ self.old.prefix }
         ensures unchanged { OnErr result (self.new ≡ self.old) }
         ensures nothing { skip ≡ size → IsOk result }
@@ -143,6 +145,7 @@ impl Received {
     pub fn next(&mut self, range: &RangeCfg) -> Result<Option<IoBuf>, Error>
         ensures next { IsNext self.old.prefix range.now self.old.bytes result self.new.bytes }
         ensures body { IfOk result (λ found. IfSome found (λ body. body ≡ view_of_bytes body.bytes)) }
+        ensures space { IfOk result (λ found. IfSome found (λ _. KeepsSpace self.old self.new)) }
         ensures same { IfOk result (λ found. IfNone found (self.new ≡ self.old)) }
         ensures unchanged { OnErr result (self.new ≡ self.old) }
         ensures prefix { self.new.prefix ≡ self.old.prefix }
@@ -198,6 +201,7 @@ impl Received {
         ensures bytes { self.new.bytes ≡ self.old.bytes }
         ensures prefix { self.new.prefix ≡ self.old.prefix }
         ensures space { OnOk result (0 < self.new.space) }
+        ensures failed { OnErr result (self.old.space ≤ self.new.space) }
     {
         let (len, capacity) = (self.block.len(), self.block.capacity());
         let is_left = self.whole > MOST && capacity < self.whole;
@@ -250,6 +254,7 @@ impl Received {
         requires { 0 < self.old.space }
         ensures ok { IfOk result (λ n. (more : List ℕ) × (length more ≡ n) × (self.new.bytes ≡ self.old.bytes ++ more)
             × Consumes (R.remaining from.old) (R.remaining from.new) more) }
+        ensures space { IfOk result (λ n. self.new.space + n ≡ self.old.space) }
         ensures end { IfOk result (λ n. n ≡ 0 → IsAtEnd (R.remaining from.new)) }
         ensures prefix { self.new.prefix ≡ self.old.prefix }
         ensures unchanged { OnErr result (self.new ≡ self.old) }

@@ -12,7 +12,8 @@ const MOST: usize = 10;
 /// A length as its prefix writes it: at most ten bytes, which are sent before a body. It allocates nothing.
 #[derive(Drop)]
 pub struct Head {
-    bytes: [u8; 10],
+    // The first ten are used; sixteen are moved in fewer instructions.
+    bytes: [u8; 16],
     start: usize,
     end: usize,
 }
@@ -25,7 +26,7 @@ impl Model for Head {
 
     ghost view = { λ h. record { filled = drop h.start (take h.end h.bytes); spare = 10 - h.end } };
 
-    ghost invariant = { λ h. (h.start ≤ h.end) × (h.end ≤ 10) × (length h.bytes ≡ 10) };
+    ghost invariant = { λ h. (h.start ≤ h.end) × (h.end ≤ 10) × (length h.bytes ≡ 16) };
 }
 
 impl Head {
@@ -34,7 +35,7 @@ impl Head {
         ensures { result ≡ empty_part 10 }
     {
         Head {
-            bytes: [0; MOST],
+            bytes: [0; 16],
             start: 0,
             end: 0,
         }

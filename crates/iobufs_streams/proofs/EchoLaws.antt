@@ -1,5 +1,5 @@
 -- Frames that are sent back.
-use Rattle.std.specs.Prelude.{◌≡◌, ℕ, Option, None, Some, IfSome, Ok, List, [], ◌∷◌, ◌++◌}
+use Rattle.std.specs.Prelude.{◌≡◌, ℕ, Option, None, Some, IfErr, IfSome, Result, Ok, Err, List, [], ◌∷◌, ◌++◌}
 use Rattle.std.specs.Io.KnownBytes.{Appends, Keeps}
 use Rattle.std.proofs.Common.{ap, sym, subst, ◌∙◌, refl, append_assoc}
 use Rattle.std.proofs.lemmas.List.{append-nil}
@@ -13,7 +13,10 @@ use Rattle.iobufs_frames.proofs.FrameFacts.{first_is, none_in_front, nothing_is_
 use Rattle.iobufs_frames.specs.declared.End.{End}
 use Rattle.iobufs_frames.specs.declared.End.TheVariants.{Open}
 use Rattle.iobufs_frames.specs.declared.lengths.Prefix.{Prefix}
-use Rattle.iobufs_streams.specs.Streams.{HasSent, SendsAllFrames, SendsFrames, TakesFrame}
+use Rattle.iobufs_streams.proofs.StreamLaws.{first_taken}
+use Rattle.iobufs_streams.specs.declared.error.FrameError.{FrameError}
+use Rattle.iobufs_streams.specs.declared.error.FrameError.TheVariants.{Bad, Cut, Io, Memory, TooLong}
+use Rattle.iobufs_streams.specs.Streams.{EndsAfter, EndsFrames, HasSent, IfInput, IsFirstOf, SendsFrames, TakesFrame}
 
 -- nothing was sent, or some of it, and the writer was flushed
 pub has_not_sent : (held : Option (List ℕ)) (text : List ℕ) → HasSent held held text
@@ -222,7 +225,7 @@ sent_part prefix to range text now new body held mid holds so_far fits whole (ke
     )
 
 sent_to_the_end : (prefix to : Prefix) (range : RangeCfg) (text left : List ℕ) (held holds : Option (List ℕ)) → Resent prefix to range text left held holds
-    → left ≡ [] → SendsAllFrames prefix to range text held holds
+    → left ≡ [] → EndsFrames prefix to range text held holds (Ok tt)
 sent_to_the_end prefix to range text left held holds so_far nothing frames stop rest is =
     let more = others_of prefix range text left so_far.done frames stop rest so_far.whole so_far.fits is in
     let behind = subst (λ (w : List ℕ). IsFramed prefix range w more.others stop rest) nothing more.behind in
@@ -258,13 +261,91 @@ frames_begun_more prefix now_prefix to now_to range now_range (Some text) (Some 
 frames_echoed : (prefix now_prefix to now_to : Prefix) (range now_range : RangeCfg) (a b c : Option (List ℕ)) (old now new : List ℕ)
     (held holds : Option (List ℕ)) (found : Option View)
     → AreSame prefix now_prefix to now_to range now_range → Echoes prefix to range a b old now held holds → found ≡ None
-    → TakesFrame now_prefix now_range b c now new (Ok found) → IfSome a (λ text. SendsAllFrames prefix to range (old ++ text) held holds)
+    → TakesFrame now_prefix now_range b c now new (Ok found) → IfSome a (λ text. EndsFrames prefix to range (old ++ text) held holds (Ok tt))
 frames_echoed prefix now_prefix to now_to range now_range None b c old now new held holds found same so_far e is = tt
 frames_echoed prefix now_prefix to now_to range now_range (Some text) None c old now new held holds found same so_far e is = absurd so_far
 frames_echoed prefix now_prefix to now_to range now_range (Some text) (Some left) None old now new held holds found same so_far e is = absurd is.took
 frames_echoed prefix now_prefix to now_to range now_range (Some text) (Some left) (Some behind) old now new held holds found same so_far e is =
     let ended = taken_as now_prefix prefix now_range range (Some left) (Some behind) now new found None same.same_from same.same_range e is in
     sent_to_the_end prefix to range (old ++ text) (now ++ left) held holds so_far (nothing_left prefix range left behind now new ended)
+
+-- ---- why it stops
+
+-- an error that is a stream's or of memory says nothing of the frames
+pub not_input : (error : FrameError) (all : Type 0) (stop : End) (rest : List ℕ) → IfInput error ⊥ → EndsAfter all stop rest (Err error)
+not_input Cut all stop rest h = absurd h
+not_input (Bad error) all stop rest h = absurd h
+not_input (Io error) all stop rest h = tt
+not_input Memory all stop rest h = tt
+not_input TooLong all stop rest h = tt
+
+not_ended : (prefix to : Prefix) (range : RangeCfg) (a : Option (List ℕ)) (old : List ℕ) (held holds : Option (List ℕ)) (error : FrameError)
+    → IfInput error ⊥ → IfSome a (λ text. EndsFrames prefix to range (old ++ text) held holds (Err error))
+not_ended prefix to range None old held holds error h = tt
+not_ended prefix to range (Some text) old held holds error h = λ frames stop rest is.
+    not_input error (Appends held holds (all_written to frames)) stop rest h
+
+-- what holds anyway
+pub input_anyway : (P : Type 0) (error : FrameError) → P → IfInput error P
+input_anyway P Cut h = h
+input_anyway P (Bad error) h = h
+input_anyway P (Io error) h = tt
+input_anyway P Memory h = tt
+input_anyway P TooLong h = tt
+
+-- with something else that holds anyway
+pub input_with : (P Q : Type 0) (error : FrameError) → Q → IfInput error P → IfInput error (P × Q)
+input_with P Q Cut q h = (h, q)
+input_with P Q (Bad error) q h = (h, q)
+input_with P Q (Io error) q h = tt
+input_with P Q Memory q h = tt
+input_with P Q TooLong q h = tt
+
+pub input_never : (P : Type 0) (error : FrameError) → IfInput error ⊥ → IfInput error P
+input_never P Cut h = absurd h
+input_never P (Bad error) h = absurd h
+input_never P (Io error) h = tt
+input_never P Memory h = tt
+input_never P TooLong h = tt
+
+pub fails_anyway : {T : Type 0} (P : Type 0) (result : Result T FrameError) → P → IfErr result (λ error. IfInput error P)
+fails_anyway P (Ok value) h = tt
+fails_anyway P (Err error) h = input_anyway P error h
+
+pub ruleset faults = (fails_anyway)
+
+-- all frames were sent if no further one is whole
+ends_at : (prefix : Prefix) (range : RangeCfg) (done others frames : List (List ℕ)) (stop : End) (rest left : List ℕ) (all : List (List ℕ) → Type 0)
+    (error : FrameError) → frames ≡ done ++ others → all done → IsFirstOf prefix range others stop rest (Err error) left
+    → EndsAfter (all frames) stop rest (Err error)
+ends_at prefix range done others frames stop rest left all Cut listed sent (none, is_open, some, same) =
+    (is_open, some, subst all (sym (listed ∙ ap (λ w. done ++ w) none ∙ append-nil done)) sent)
+ends_at prefix range done others frames stop rest left all (Bad error) listed sent (none, is_bad, same) =
+    (is_bad, subst all (sym (listed ∙ ap (λ w. done ++ w) none ∙ append-nil done)) sent)
+ends_at prefix range done others frames stop rest left all (Io error) listed sent h = tt
+ends_at prefix range done others frames stop rest left all Memory listed sent h = tt
+ends_at prefix range done others frames stop rest left all TooLong listed sent h = tt
+
+-- a reader with an equal prefix and an equal range fails alike
+fails_as : (p q : Prefix) (r s : RangeCfg) (had has : Option (List ℕ)) (now new : List ℕ) (error : FrameError) → p ≡ q → r ≡ s
+    → TakesFrame p r had has now new (Err error) → TakesFrame q s had has now new (Err error)
+fails_as p q r s had has now new error same range h =
+    subst (λ (w : Prefix × RangeCfg). TakesFrame w.0 w.1 had has now new (Err error)) (λ i. (same i, range i)) h
+
+-- if no frame is taken, what is after those that were sent is why
+frames_broken : (prefix now_prefix to now_to : Prefix) (range now_range : RangeCfg) (a b c : Option (List ℕ)) (old now new : List ℕ)
+    (held holds : Option (List ℕ)) (error : FrameError)
+    → AreSame prefix now_prefix to now_to range now_range → Echoes prefix to range a b old now held holds
+    → TakesFrame now_prefix now_range b c now new (Err error) → IfSome a (λ text. EndsFrames prefix to range (old ++ text) held holds (Err error))
+frames_broken prefix now_prefix to now_to range now_range None b c old now new held holds error same so_far is = tt
+frames_broken prefix now_prefix to now_to range now_range (Some text) None c old now new held holds error same so_far is = absurd so_far
+frames_broken prefix now_prefix to now_to range now_range (Some text) (Some left) None old now new held holds error same so_far is = absurd is.took
+frames_broken prefix now_prefix to now_to range now_range (Some text) (Some left) (Some behind) old now new held holds error same so_far is =
+    λ frames stop rest framed.
+    let taken = fails_as now_prefix prefix now_range range (Some left) (Some behind) now new error same.same_from same.same_range is in
+    let more = others_of prefix range (old ++ text) (now ++ left) so_far.done frames stop rest so_far.whole so_far.fits framed in
+    ends_at prefix range so_far.done more.others frames stop rest (new ++ behind) (λ fs. Appends held holds (all_written to fs)) error more.listed so_far.sent
+    (first_taken prefix range (Some left) (Some behind) now new (Err error) taken more.others stop rest more.behind)
 
 -- ---- the state of an echo
 
@@ -338,8 +419,22 @@ stopped_inside {prefix} {now_prefix} {to} {now_to} {range} {now_range} {a} {b} {
 pub ended : {prefix now_prefix to now_to : Prefix} {range now_range : RangeCfg} {a b : Option (List ℕ)} {old now new : List ℕ} {held holds : Option (List ℕ)}
     (c : Option (List ℕ)) (found : Option View) → IsEchoing prefix now_prefix to now_to range now_range a b old now held holds → found ≡ None
     → TakesFrame now_prefix now_range b c now new (Ok found)
-    → IfSome a (λ text. SendsAllFrames prefix to range (old ++ text) held holds) × (prefix ≡ to → IfSome a (λ text. Appends held holds (old ++ text)))
+    → IfSome a (λ text. EndsFrames prefix to range (old ++ text) held holds (Ok tt)) × (prefix ≡ to → IfSome a (λ text. Appends held holds (old ++ text)))
 ended {prefix} {now_prefix} {to} {now_to} {range} {now_range} {a} {b} {old} {now} {new} {held} {holds} c found is none took = (
   frames_echoed prefix now_prefix to now_to range now_range a b c old now new held holds found is.same is.echoes none took,
   echoed prefix now_prefix to now_to range now_range a b c old now new held holds found is.same is.echoes none took,
 )
+
+-- a reader fails: the frames so far were sent, and all of them, if it is the input's fault
+pub broken : {prefix now_prefix to now_to : Prefix} {range now_range : RangeCfg} {a b : Option (List ℕ)} {old now new : List ℕ} {held holds : Option (List ℕ)}
+    (c : Option (List ℕ)) (error : FrameError) → IsEchoing prefix now_prefix to now_to range now_range a b old now held holds
+    → TakesFrame now_prefix now_range b c now new (Err error) → IfSome a (λ text. EndsFrames prefix to range (old ++ text) held holds (Err error))
+broken {prefix} {now_prefix} {to} {now_to} {range} {now_range} {a} {b} {old} {now} {new} {held} {holds} c error is took =
+    frames_broken prefix now_prefix to now_to range now_range a b c old now new held holds error is.same is.echoes took
+
+-- a stream fails, or memory
+pub failed : {prefix now_prefix to now_to : Prefix} {range now_range : RangeCfg} {a b : Option (List ℕ)} {old now : List ℕ} {held mid : Option (List ℕ)}
+    (holds : Option (List ℕ)) (error : FrameError) → IsEchoing prefix now_prefix to now_to range now_range a b old now held mid
+    → IfInput error ⊥ → IfSome a (λ text. EndsFrames prefix to range (old ++ text) held holds (Err error))
+failed {prefix} {now_prefix} {to} {now_to} {range} {now_range} {a} {b} {old} {now} {held} {mid} holds error is never =
+    not_ended prefix to range a old held holds error never

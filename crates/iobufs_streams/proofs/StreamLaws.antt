@@ -1,5 +1,5 @@
 -- The effect of reads and writes on the known bytes, and on the frames in them.
-use Rattle.std.specs.Prelude.{◌≡◌, ℕ, ◌+◌, ◌^◌, ◌<◌, ◌≤◌, Bool, true, false, nat_eq, Option, None, Some, IfSome, Result, Ok, Err, List, [], ◌++◌, length, refl}
+use Rattle.std.specs.Prelude.{◌≡◌, ℕ, ◌+◌, ◌<◌, ◌≤◌, Bool, true, false, nat_eq, Option, None, Some, IfSome, Result, Ok, Err, List, [], ◌++◌, length, refl}
 use Rattle.std.specs.Io.KnownBytes.{Appends, Consumes, IsAtEnd, Keeps}
 use Rattle.std.proofs.KnownBytes.{Consumes-kept, Consumes-trans, Keeps-refl, Keeps-trans}
 use Rattle.std.proofs.Common.{arith, inl, inr, ap, sym, subst, ◌∙◌, append_assoc, append-nil, length-append}
@@ -144,33 +144,6 @@ front_some prefix range ended bytes left (Io error) h = absurd h
 front_some prefix range ended bytes left Memory h = h
 front_some prefix range ended bytes left TooLong h = (h.0, omega (arith, h.1))
 
--- a reader that waited holds a frame at the front and takes it
-pub took_some : {Reader : Type 0} (prefix : Prefix) (range : RangeCfg) (from now_from : Reader) (given : List ℕ → Type 0) (ended : Type 0)
-    (old now left : List ℕ) (count : ℕ) (found : Option View) (body : View)
-    → IsWaiting prefix range from now_from given old now count → found ≡ Some body → IsHeldFront prefix range now (Ok found) left
-    → IsFrameTaken prefix range given ended old left (Ok (Some body))
-took_some prefix range from now_from given ended old now left count found body so_far is h =
-    let (admitted, whole) = subst (λ (o : Option View). IsHeldFront prefix range now (Ok o) left) is h in record {
-      read = so_far.read;
-      took = so_far.took;
-      needed = so_far.needed;
-      front = (admitted, sym so_far.grew ∙ whole);
-    }
-
--- a reader that waited holds a front that is no frame, and answers its error
-pub took_none : {Reader : Type 0} (prefix : Prefix) (range : RangeCfg) (from now_from : Reader) (given : List ℕ → Type 0) (ended : Type 0)
-    (old now left : List ℕ) (count : ℕ) (error : FrameError)
-    → IsWaiting prefix range from now_from given old now count → IsHeldFront prefix range now (Err error) left
-    → IsFrameTaken prefix range given ended old left (Err error)
-took_none prefix range from now_from given ended old now left count error so_far h = record {
-  read = so_far.read;
-  took = so_far.took;
-  needed = so_far.needed;
-  front =
-      subst (λ (w : List ℕ). IsFront prefix range ended w (Err error) left) so_far.grew
-      (front_some prefix range ended now left error h);
-}
-
 -- a reader that waited gives no byte, and this is answered of what is held
 pub took_nothing : {Reader : Type 0} (prefix : Prefix) (range : RangeCfg) (from now_from : Reader) (given gives : List ℕ → Type 0) (ended : Type 0)
     (old held left more now : List ℕ) (count : ℕ) (result : Result (Option View) FrameError)
@@ -195,17 +168,6 @@ at_end prefix range ended held now (Err Cut) last none h same =
 at_end prefix range ended held now (Err (Io error)) last none h same = absurd h
 at_end prefix range ended held now (Err Memory) last none h same = absurd h
 at_end prefix range ended held now (Err TooLong) last none h same = absurd h
-
--- as many reads as there can be gave no frame
-pub took_long : {Reader : Type 0} (prefix : Prefix) (range : RangeCfg) (from now_from : Reader) (given : List ℕ → Type 0) (ended : Type 0)
-    (old now : List ℕ) (count : ℕ)
-    → IsWaiting prefix range from now_from given old now count → 2 ^ 64 ≤ count + 1 → IsFrameTaken prefix range given ended old now (Err TooLong)
-took_long prefix range from now_from given ended old now count so_far enough = record {
-  read = so_far.read;
-  took = so_far.took;
-  needed = so_far.needed;
-  front = (so_far.grew, omega (arith, enough, so_far.counted, length-append old so_far.read));
-}
 
 -- ---- the frames of the stream
 

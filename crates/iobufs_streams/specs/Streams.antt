@@ -12,8 +12,9 @@
 --     TakesFrame
 --     IsFirstOf            the result by the frames of the stream: the first went
 --     HasSent              a writer was sent a prefix of some bytes
---     SendsFrames,         a writer was sent a prefix of the frames of some bytes, written with another prefix; or
---     SendsAllFrames       all, and nothing follows them
+--     SendsFrames          a writer was sent a prefix of the frames of some bytes, written with another prefix
+--     EndsAfter,           and all of them, if no more bytes follow, or a frame that is cut or bad: the error then lies
+--     EndsFrames, IfInput  in the input
 use Rattle.std.specs.Prelude.{◌≡◌, ◌⊎◌, ℕ, ◌+◌, ◌^◌, ◌<◌, ◌≤◌, Bool, true, nat_eq, Option, None, Some, Result, Ok, Err, List, [], ◌++◌, length}
 use Rattle.std.specs.Io.KnownBytes.{Appends, Consumes, IsAtEnd}
 use Rattle.iobufs.specs.Sending.{IsSent}
@@ -120,7 +121,20 @@ abbrev pub SendsFrames : Prefix → Prefix → RangeCfg → List ℕ → Option 
 SendsFrames prefix to range text held holds = (frames : List (List ℕ)) (stop : End) (rest : List ℕ) → IsFramed prefix range text frames stop rest
     → HasSent held holds (all_written to frames)
 
--- all of them, and nothing is after them
-abbrev pub SendsAllFrames : Prefix → Prefix → RangeCfg → List ℕ → Option (List ℕ) → Option (List ℕ) → Type 0
-SendsAllFrames prefix to range text held holds = (frames : List (List ℕ)) (stop : End) (rest : List ℕ) → IsFramed prefix range text frames stop rest
-    → (rest ≡ []) × Appends held holds (all_written to frames)
+-- the error lies in the input: its last frame is cut, or a frame is bad
+abbrev pub IfInput : FrameError → Type 0 → Type 0
+IfInput Cut P = P
+IfInput (Bad error) P = P
+IfInput error P = Unit {0}
+
+-- all frames were sent, if this is after them
+abbrev pub EndsAfter : Type 0 → End → List ℕ → Result (Unit {0}) FrameError → Type 0
+EndsAfter all stop rest (Ok done) = (rest ≡ []) × all
+EndsAfter all stop rest (Err Cut) = (stop ≡ end.Open) × (0 < length rest) × all
+EndsAfter all stop rest (Err (Bad error)) = (stop ≡ end.Bad error) × all
+EndsAfter all stop rest (Err error) = Unit {0}
+
+-- so of the frames of a text, written with another prefix
+abbrev pub EndsFrames : Prefix → Prefix → RangeCfg → List ℕ → Option (List ℕ) → Option (List ℕ) → Result (Unit {0}) FrameError → Type 0
+EndsFrames prefix to range text held holds result = (frames : List (List ℕ)) (stop : End) (rest : List ℕ) → IsFramed prefix range text frames stop rest
+    → EndsAfter (Appends held holds (all_written to frames)) stop rest result

@@ -1,8 +1,8 @@
 //! Frames that are sent back as they come.
-ghost use Rattle.std.specs.Prelude.{◌≡◌, ◌⊎◌, ◌++◌, [], IsTrue, IfSome, OnOk};
+ghost use Rattle.std.specs.Prelude.{◌≡◌, ◌⊎◌, ◌++◌, [], IsTrue, IfErr, IfNone, IfOk, IfSome, OnOk};
 ghost use Rattle.std.specs.Io.KnownBytes.{Appends, Keeps};
-ghost use Rattle.iobufs_frames.specs.Frames.{frame_written};
-ghost use Rattle.iobufs_streams.specs.Streams.{HasSent, SendsAllFrames, SendsFrames, TakesFrame, held_bytes, held_prefix};
+ghost use Rattle.iobufs_frames.specs.Frames.{HasFrame, frame_written};
+ghost use Rattle.iobufs_streams.specs.Streams.{EndsFrames, HasSent, IfInput, SendsFrames, TakesFrame, held_bytes, held_prefix};
 
 use crate::error::FrameError;
 use crate::reader::FrameReader;
@@ -25,6 +25,8 @@ fn send_frame<W: Write + Drop>(
     ensures all { OnOk result (Appends (W.contents to.old.to) (W.contents to.new.to) (frame_written to.old.prefix body.bytes)) }
     ensures empty { OnOk result (to.new.rest.bytes ≡ []) }
     ensures prefix { to.new.prefix ≡ to.old.prefix }
+    ensures most { to.new.most ≡ to.old.most }
+    ensures cause { IfErr result (λ error. IfInput error ⊥) }
 {
     if let Err(refused) = to.put(alloc, IoBufs::from(body)) {
         return Err(match refused.cause {
@@ -35,7 +37,8 @@ fn send_frame<W: Write + Drop>(
     to.send(alloc).map_err(FrameError::Io)
 }
 
-// Takes the next frame. What was sent is flushed before a read.
+// Takes the next frame. What was sent is flushed before a read, and before an error is returned.
+#[tactic(auto, using(crate::proofs::EchoLaws::faults))]
 #[inline(always)]
 fn next_flushed<R: Read + Drop, W: Write + Drop>(
     alloc: Global,
@@ -50,17 +53,27 @@ fn next_flushed<R: Read + Drop, W: Write + Drop>(
     ensures kept { Keeps (W.contents to.old.to) (W.contents to.new.to) }
     ensures rest { to.new.rest ≡ to.old.rest }
     ensures prefix { to.new.prefix ≡ to.old.prefix }
+    ensures most { to.new.most ≡ to.old.most }
+    ensures idle { HasFrame (held_prefix from.old.held) from.old.range (held_bytes from.old.held) → OnOk result (to.new ≡ to.old) }
+    ensures ended { IfOk result (λ found. IfNone found (IsTrue to.new.is_flushed)) }
+    ensures failed { IfErr result (λ error. IfInput error (IsTrue to.new.is_flushed)) }
 {
-    if let Ok(Some(body)) = from.next_held() {
-        return Ok(Some(body));
+    match from.next_held() {
+        Ok(Some(body)) => Ok(Some(body)),
+        Ok(None) => {
+            to.flush().map_err(FrameError::Io)?;
+            from.next(alloc)
+        }
+        Err(error) => {
+            to.flush().map_err(FrameError::Io)?;
+            Err(error)
+        }
     }
-    to.flush().map_err(FrameError::Io)?;
-    from.next(alloc)
 }
 
 /// Sends each frame back as soon as it is whole, with its length as the writer writes it, until the input ends between
 /// two frames. After an error, the sent bytes are a prefix of these frames; if both write lengths alike, a prefix of
-/// the input.
+/// the input. If the input ends, inside a frame or not, or a frame is bad, all frames before are sent and flushed.
 pub fn echo<R: Read + Drop, W: Write + Drop>(
     alloc: Global,
     from: &mut FrameReader<R>,
@@ -69,12 +82,18 @@ pub fn echo<R: Read + Drop, W: Write + Drop>(
     requires { to.old.rest.bytes ≡ [] }
     ensures frames { IfSome (R.remaining from.old.from) (λ text. SendsFrames (held_prefix from.old.held) to.old.prefix from.old.range
         (held_bytes from.old.held ++ text) (W.contents to.old.to) (W.contents to.new.to)) }
-    ensures all_frames { OnOk result (IfSome (R.remaining from.old.from) (λ text. SendsAllFrames (held_prefix from.old.held) to.old.prefix from.old.range
-        (held_bytes from.old.held ++ text) (W.contents to.old.to) (W.contents to.new.to))) }
+    ensures ends { IfSome (R.remaining from.old.from) (λ text. EndsFrames (held_prefix from.old.held) to.old.prefix from.old.range
+        (held_bytes from.old.held ++ text) (W.contents to.old.to) (W.contents to.new.to) result) }
     ensures all { held_prefix from.old.held ≡ to.old.prefix → OnOk result (IfSome (R.remaining from.old.from)
         (λ text. Appends (W.contents to.old.to) (W.contents to.new.to) (held_bytes from.old.held ++ text))) }
     ensures begun { held_prefix from.old.held ≡ to.old.prefix → IfSome (R.remaining from.old.from)
         (λ text. HasSent (W.contents to.old.to) (W.contents to.new.to) (held_bytes from.old.held ++ text)) }
+    ensures done { OnOk result (IsTrue to.new.is_flushed × (to.new.rest.bytes ≡ [])) }
+    ensures input { IfErr result (λ error. IfInput error (IsTrue to.new.is_flushed × (to.new.rest.bytes ≡ []))) }
+    ensures from_prefix { held_prefix from.new.held ≡ held_prefix from.old.held }
+    ensures range { from.new.range ≡ from.old.range }
+    ensures prefix { to.new.prefix ≡ to.old.prefix }
+    ensures most { to.new.most ≡ to.old.most }
 {
     for _ in 0..u64::MAX {
         match next_flushed(alloc, from, to) {

@@ -119,7 +119,7 @@ fn take<R: Read>(
 pub struct FrameReader<R> {
     /// The reader.
     pub from: R,
-    /// The lengths that a body may have.
+    /// The lengths that a body may have. A change applies to the next frame, even if its length was already decoded.
     pub range: RangeCfg,
     /// The bytes that were read from it and not taken.
     pub held: Received,
@@ -132,6 +132,7 @@ impl<R: Drop> FrameReader<R> {
         ensures prefix { IfOk result (λ reader. held_prefix reader.held ≡ Prefix.Spelled) }
         ensures range { IfOk result (λ reader. reader.range ≡ range) }
         ensures empty { IfOk result (λ reader. held_bytes reader.held ≡ []) }
+        ensures space { IfOk result (λ reader. 0 < reader.held.space) }
     {
         FrameReader::with_prefix(alloc, from, Prefix::Spelled, range)
     }
@@ -147,6 +148,7 @@ impl<R: Drop> FrameReader<R> {
         ensures prefix { IfOk result (λ reader. held_prefix reader.held ≡ prefix) }
         ensures range { IfOk result (λ reader. reader.range ≡ range) }
         ensures empty { IfOk result (λ reader. held_bytes reader.held ≡ []) }
+        ensures space { IfOk result (λ reader. 0 < reader.held.space) }
     {
         let mut held = Received::new(alloc, prefix);
         held.make_space()?;

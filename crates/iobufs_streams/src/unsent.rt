@@ -1,7 +1,9 @@
 //! The bytes of a frame that are not sent.
-ghost use Rattle.std.specs.Prelude.{◌≡◌, ◌+◌, ◌<◌, ◌≤◌, ◌^◌, ◌++◌, [], length, nat_eq, drop, slice_get};
+ghost use Rattle.std.specs.Prelude.{◌≡◌, ◌+◌, ◌<◌, ◌≤◌, ◌^◌, ◌++◌, [], length, nat_eq, slice_get};
 ghost use Rattle.bytes.specs.Unread.{IsChunkOf};
 ghost use Rattle.iobufs_core.specs.Chunks.{IsChunkOf as IsOurChunkOf};
+ghost use Rattle.iobufs_core.specs.MarkedText.{text_rest};
+ghost use Rattle.iobufs_streams.specs.Unsent.{unsent_rest};
 
 use bytes::Buf;
 use iobufs::bufs::IoBufs;
@@ -28,10 +30,9 @@ impl Model for Unsent {
 }
 
 // Drops the first bytes. An emptied body would go on sharing its blocks, so it is replaced.
-#[tactic(auto, using(iobufs::proofs::CallerFacts::sending))]
 fn drop_front(body: &mut IoBufs, n: usize)
-    requires { n ≤ length body.old.bytes }
-    ensures { body.new.bytes ≡ drop n body.old.bytes }
+    requires { (0 < n) × (n ≤ length body.old.bytes) }
+    ensures { body.new ≡ text_rest body.old n }
 {
     if n == body.len() {
         *body = IoBufs::default();
@@ -97,7 +98,7 @@ impl Buf for Unsent {
 
     fn advance(&mut self, cnt: usize)
         requires { cnt ≤ length self.old.bytes }
-        ensures { self.new.bytes ≡ drop cnt self.old.bytes }
+        ensures { self.new ≡ unsent_rest self.old cnt }
     {
         let ahead = self.head.len();
         if cnt <= ahead {

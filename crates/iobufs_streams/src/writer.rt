@@ -10,6 +10,7 @@ ghost use Rattle.iobufs_core.specs.Wire.{bytes_written};
 ghost use Rattle.iobufs_frames.specs.Frames.{frame_written};
 ghost use Rattle.iobufs_frames.specs.Prefixes.{prefix_limit, prefix_view};
 ghost use Rattle.iobufs_frames.specs.declared.lengths.Prefix.TheVariants.{Spelled};
+ghost use Rattle.iobufs_streams.specs.Unsent.{IsAdvanced, unsent_rest};
 
 use crate::unsent::Unsent;
 use bytes::Buf;
@@ -50,6 +51,7 @@ fn write_again<W: Write>(to: &mut W, bytes: &[u8]) -> io::Result<usize>
 #[tactic(auto, using(iobufs::proofs::CallerFacts::sending))]
 fn send_chunk<W: Write>(to: &mut W, rest: &mut Unsent) -> io::Result<usize>
     ensures sent { IsSent (W.contents to.old) (W.contents to.new) rest.old.bytes rest.new.bytes }
+    ensures left { IfOk result (λ n. rest.new ≡ unsent_rest rest.old n) }
     ensures unchanged { OnErr result (rest.new ≡ rest.old) }
     ensures count { IfOk result (λ n. length rest.old.bytes ≡ n + length rest.new.bytes) }
     ensures retried { IfErr result (λ error. error_kind error ≢ Interrupted) }
@@ -67,7 +69,7 @@ pub struct FrameWriter<W> {
     pub to: W,
     /// How the lengths are written.
     pub prefix: Prefix,
-    /// The longest body that is put.
+    /// The longest body that is put. A change applies to the next `put`.
     pub most: usize,
     /// The unsent rest of the frame that was put last.
     pub rest: Unsent,
@@ -158,15 +160,21 @@ impl<W: Write + Drop> FrameWriter<W> {
         ensures flushed { IsTrue self.new.is_flushed → IsTrue self.old.is_flushed × (self.old.rest.bytes ≡ []) }
         ensures all { OnOk result (self.new.rest.bytes ≡ []) }
         ensures left { OnErr result (0 < length self.new.rest.bytes) }
+        ensures chunks { IsAdvanced self.old.rest self.new.rest }
         ensures contents { OnOk result (Appends (W.contents self.old.to) (W.contents self.new.to) self.old.rest.bytes) }
         ensures retried { IfErr result (λ error. error_kind error ≢ Interrupted) }
+        ensures nothing { self.old.rest.bytes ≡ [] → IsOk result }
+        ensures idle { self.old.rest.bytes ≡ [] → self.new ≡ self.old }
     {
         let _ = alloc;
-        while !self.rest.is_empty() {
+        let mut left = self.rest.len();
+        while left > 0 {
             self.is_flushed = false;
-            if send_chunk(&mut self.to, &mut self.rest)? == 0 {
+            let n = send_chunk(&mut self.to, &mut self.rest)?;
+            if n == 0 {
                 return Err(io::Error::from(ErrorKind::WriteZero));
             }
+            left -= n;
         }
         Ok(())
     }
@@ -178,6 +186,9 @@ impl<W: Write + Drop> FrameWriter<W> {
         ensures prefix { self.new.prefix ≡ self.old.prefix }
         ensures most { self.new.most ≡ self.old.most }
         ensures flushed { OnOk result (IsTrue self.new.is_flushed) }
+        ensures failed { OnErr result (self.new.is_flushed ≡ self.old.is_flushed) }
+        ensures nothing { IsTrue self.old.is_flushed → IsOk result }
+        ensures idle { IsTrue self.old.is_flushed → self.new ≡ self.old }
     {
         if !self.is_flushed {
             self.to.flush()?;

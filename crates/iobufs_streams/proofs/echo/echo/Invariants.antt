@@ -9,4 +9,5 @@ invariant-loop g l = record {
       (g.R.Read.remaining l.fn.from.from) (g.R.Read.remaining l.from.from) (held_bytes l.fn.from.held) (held_bytes l.from.held)
       (g.W.Write.contents l.fn.to.to) (g.W.Write.contents l.to.to);
   nothing : l.to.rest.bytes ≡ [];
+  most : l.to.most ≡ l.fn.to.most;
 }
