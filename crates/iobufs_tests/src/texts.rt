@@ -9,20 +9,27 @@ use std::alloc::{AllocError, Global};
 use std::process::Abort;
 use std::test::Fail;
 
-// A name; the chunks of a text, and their spare capacity if they are native; how many bytes are taken out first, how many are
-// skipped then, and how many after them are taken out; what these are, as `owned` tells it; and the chunks that are left.
-type Case = (
-    &'static str,
-    &'static [&'static [u8]],
-    Option<usize>,
-    usize,
-    usize,
-    usize,
-    &'static [u8],
-    &'static [u8],
-);
+struct Case {
+    name: &'static str,
+    // The chunks of a text, and their spare capacity if they are native.
+    pieces: &'static [&'static [u8]],
+    spare: Option<usize>,
+    // How many bytes are taken out first, how many are skipped then, and how many after them are taken out.
+    before: usize,
+    skip: usize,
+    n: usize,
+    // What these are, as `owned` tells it, and the chunks that are left.
+    wanted: &'static [u8],
+    left: &'static [u8],
+}
 
-const OWNED: [Case; 6] = rows! {
+macro_rules! cases {
+    ($($name:expr, $pieces:expr, $spare:expr, $before:expr, $skip:expr, $n:expr, $wanted:expr, $left:expr;)+) => {
+        [$(Case { name: $name, pieces: $pieces, spare: $spare, before: $before, skip: $skip, n: $n, wanted: $wanted, left: $left }),+]
+    };
+}
+
+const OWNED: [Case; 6] = cases! {
     "bytes inside a chunk", &[b"ab", b"cd"], None, 0, 0, 1, b"a|declined", b"b|cd";
     "bytes inside a chunk, and then across two", &[b"ab", b"cd"], None, 1, 0, 2, b"bc|2", b"d";
     "bytes across two of four chunks", &[b"ab", b"cd", b"ef", b"gh"], None, 0, 1, 2, b"bc|2", b"d|ef|gh";
@@ -63,12 +70,13 @@ fn owned(alloc: Global, text: &mut IoBufs, skip: usize, n: usize) -> Result<Vec<
 
 #[test]
 fn bytes_are_taken_out(rt: HostRuntime) -> Result<(), Fail> {
-    for (name, pieces, spare, before, skip, n, wanted, left) in OWNED {
-        let mut text = chunked(rt.alloc(), pieces, spare)?;
-        drop(owned(rt.alloc(), &mut text, 0, before)?);
-        let found = owned(rt.alloc(), &mut text, skip, n)?;
-        assert_same!(rt; found.as_slice(), wanted, "{name}");
-        assert_same!(rt; chunks(rt.alloc(), &text)?.as_slice(), left, "{name}");
+    for case in &OWNED {
+        let name = case.name;
+        let mut text = chunked(rt.alloc(), case.pieces, case.spare)?;
+        drop(owned(rt.alloc(), &mut text, 0, case.before)?);
+        let found = owned(rt.alloc(), &mut text, case.skip, case.n)?;
+        assert_same!(rt; found.as_slice(), case.wanted, "{name}");
+        assert_same!(rt; chunks(rt.alloc(), &text)?.as_slice(), case.left, "{name}");
     }
     Ok(())
 }

@@ -157,19 +157,26 @@ fn ending_by(error: FrameError) -> Ending {
     }
 }
 
-// A name, a prefix, a reader's bytes, whether it is broken, how many bytes it gives at most (each number in turn), its
-// bodies with `|` after each, and what comes after them.
-type Reading = (
-    &'static str,
-    Prefix,
-    &'static [u8],
-    bool,
-    &'static [usize],
-    &'static [u8],
-    Ending,
-);
+struct Reading {
+    name: &'static str,
+    prefix: Prefix,
+    // The reader's bytes, and whether it then fails.
+    bytes: &'static [u8],
+    is_broken: bool,
+    // How many bytes it gives at most, each number in turn.
+    most: &'static [usize],
+    // The bodies, with `|` after each, and what comes after them.
+    bodies: &'static [u8],
+    ending: Ending,
+}
 
-const READINGS: [Reading; 18] = rows! {
+macro_rules! readings {
+    ($($name:expr, $prefix:expr, $bytes:expr, $is_broken:expr, $most:expr, $bodies:expr, $ending:expr;)+) => {
+        [$(Reading { name: $name, prefix: $prefix, bytes: $bytes, is_broken: $is_broken, most: $most, bodies: $bodies, ending: $ending }),+]
+    };
+}
+
+const READINGS: [Reading; 18] = readings! {
     "whole frames", VARINT, FRAMES, false, &[1, 2, 3, 4, 7, 100], b"abc||hello|", Ending::End;
     "frames that are held before the reader fails", VARINT, FRAMES, true, &[100], b"abc||hello|", Ending::Io(ErrorKind::ConnectionReset);
     "the end inside a body", VARINT, b"\x05hell", false, &[3], b"", Ending::Cut;
@@ -224,12 +231,13 @@ fn assert_reading(
     case: &Reading,
     most: usize,
 ) -> Result<(), AllocError> {
-    let (name, prefix, bytes, is_broken, _, bodies, ending) = *case;
-    let mut reader = frame_reader(rt.alloc(), prefix, Steps::new(bytes, most, is_broken))?;
+    let Reading { name, ending, .. } = *case;
+    let from = Steps::new(case.bytes, most, case.is_broken);
+    let mut reader = frame_reader(rt.alloc(), case.prefix, from)?;
     let mut found = Vec::new(rt.alloc());
     let first = take_bodies(rt.alloc(), &mut reader, &mut found)?;
     let second = take_bodies(rt.alloc(), &mut reader, &mut found)?;
-    assert_same!(rt; found.as_slice(), bodies, "{name} by {most}");
+    assert_same!(rt; found.as_slice(), case.bodies, "{name} by {most}");
     assert_same!(rt; (first, second), (ending, ending), "{name} by {most}");
     Ok(())
 }
@@ -237,7 +245,7 @@ fn assert_reading(
 #[test]
 fn frames_are_read(rt: HostRuntime) -> Result<(), Fail> {
     for case in &READINGS {
-        for most in case.4 {
+        for most in case.most {
             assert_reading(&rt, case, *most)?;
         }
     }
@@ -335,23 +343,32 @@ fn a_frame_is_sent_without_a_flush(rt: HostRuntime) -> Result<(), Fail> {
     Ok(())
 }
 
-// A name; the reader's prefix, its bytes, whether it then fails, and the bytes that it gives later; the writer's prefix, and
-// the call from which on it fails; how `echo` ends, what the writer took until then, and how many bytes it holds; and how
-// `echo` ends once the writer is sent and flushed, and all that it took then.
-type Echo = (
-    &'static str,
-    Prefix,
-    &'static [u8],
-    bool,
-    &'static [u8],
-    Prefix,
-    usize,
-    Ending,
-    &'static [u8],
-    usize,
-    Ending,
-    &'static [u8],
-);
+struct Echo {
+    name: &'static str,
+    // The reader's prefix, its bytes, whether it then fails, and the bytes that it gives later.
+    prefix: Prefix,
+    bytes: &'static [u8],
+    is_broken: bool,
+    more: &'static [u8],
+    // The writer's prefix, and the call from which on it fails.
+    other: Prefix,
+    fails_at: usize,
+    // How `echo` ends, what the writer took until then, and how many bytes it holds.
+    first: Ending,
+    calls: &'static [u8],
+    rest: usize,
+    // How `echo` ends once the writer is sent and flushed, and all that it took then.
+    last: Ending,
+    all: &'static [u8],
+}
+
+macro_rules! echoes {
+    ($($name:expr, $prefix:expr, $bytes:expr, $is_broken:expr, $more:expr, $other:expr, $fails_at:expr, $first:expr, $calls:expr, $rest:expr,
+        $last:expr, $all:expr;)+) => {
+        [$(Echo { name: $name, prefix: $prefix, bytes: $bytes, is_broken: $is_broken, more: $more, other: $other, fails_at: $fails_at,
+            first: $first, calls: $calls, rest: $rest, last: $last, all: $all }),+]
+    };
+}
 
 const PIPE: Ending = Ending::Io(ErrorKind::BrokenPipe);
 
@@ -359,7 +376,7 @@ const RESET: Ending = Ending::Io(ErrorKind::ConnectionReset);
 
 const ALL: &[u8] = b"\x03abc|\0|\x05hello|";
 
-const ECHOES: [Echo; 20] = rows! {
+const ECHOES: [Echo; 20] = echoes! {
     "no failure", VARINT, FRAMES, false, b"", VARINT, usize::MAX, Ending::End, ALL, 0, Ending::End, b"\x03abc|\0|\x05hello|";
     "the end inside a body", VARINT, b"\x01a\x02b", false, b"", VARINT, usize::MAX, Ending::Cut, b"\x01a|", 0, Ending::Cut, b"\x01a|";
     "u16, big", BIG_16, FRAMES_BIG_16, false, b"",
@@ -399,20 +416,20 @@ fn echoed<R: Read + Drop, W: Write + Drop>(
 }
 
 fn assert_echoed(rt: &(impl Abort + AllocGlobal), case: &Echo) -> Result<(), Fail> {
-    let (name, prefix, bytes, is_broken, more, other, fails_at, first, calls, rest, last, all) =
-        *case;
-    let mut from = frame_reader(rt.alloc(), prefix, Steps::new(bytes, 2, is_broken))?;
-    let mut to = frame_writer(other, Recorder::new(rt.alloc(), 100, fails_at));
+    let name = case.name;
+    let steps = Steps::new(case.bytes, 2, case.is_broken);
+    let mut from = frame_reader(rt.alloc(), case.prefix, steps)?;
+    let mut to = frame_writer(case.other, Recorder::new(rt.alloc(), 100, case.fails_at));
     let ending = echoed(rt, &mut from, &mut to);
-    assert_same!(rt; (ending, to.to.calls.as_slice(), to.rest.len()), (first, calls, rest), "{name}");
-    if is_broken {
-        from.from.resume(more);
+    assert_same!(rt; (ending, to.to.calls.as_slice(), to.rest.len()), (case.first, case.calls, case.rest), "{name}");
+    if case.is_broken {
+        from.from.resume(case.more);
     }
     to.to.fails_at = usize::MAX;
     to.send(rt.alloc())?;
     to.flush()?;
     let ending = echoed(rt, &mut from, &mut to);
-    assert_same!(rt; (ending, to.to.calls.as_slice()), (last, all), "{name}");
+    assert_same!(rt; (ending, to.to.calls.as_slice()), (case.last, case.all), "{name}");
     Ok(())
 }
 
@@ -459,6 +476,24 @@ fn a_body_above_the_limit_is_refused(rt: HostRuntime) -> Result<(), Fail> {
     writer.put(alloc, text(alloc, &[b"ab"])?)?;
     writer.send(alloc)?;
     assert_same!(rt; writer.to.calls.as_slice(), b"\x02ab".as_slice());
+    Ok(())
+}
+
+// The range of a reader applies to the frame that is taken next, also if its length was decoded before.
+#[test]
+fn a_limit_applies_to_the_next_frame(rt: HostRuntime) -> Result<(), Fail> {
+    let alloc = rt.alloc();
+    let mut reader = frame_reader(alloc, VARINT, Steps::new(b"\x03ab", 100, true))?;
+    let mut bodies = Vec::new(alloc);
+    let first = take_bodies(alloc, &mut reader, &mut bodies)?;
+    reader.from.resume(b"c\x01d");
+    reader.range.hi = 2;
+    let second = take_bodies(alloc, &mut reader, &mut bodies)?;
+    reader.range.hi = 3;
+    let third = take_bodies(alloc, &mut reader, &mut bodies)?;
+    let above = Ending::Bad(Error::InvalidLength(3));
+    assert_same!(rt; (first, second, third), (RESET, above, Ending::End));
+    assert_same!(rt; bodies.as_slice(), b"abc|d|".as_slice());
     Ok(())
 }
 
