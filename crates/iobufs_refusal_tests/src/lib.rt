@@ -39,6 +39,8 @@ mod machine;
 #[cfg(test)]
 mod made;
 #[cfg(test)]
+mod streams;
+#[cfg(test)]
 mod table;
 #[cfg(test)]
 mod values;
