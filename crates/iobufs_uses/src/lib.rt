@@ -1,7 +1,7 @@
 //! Proved callers: frames, messages, senders, stores, a pool.
 //!
-//! - `frame`: a frame codec. `send`: a sender of chunk lists. `store`: parts filled from a reader. `pool`, a caller of the
-//!   machine: the memory of freed blocks.
+//! - `frame`: a frame codec. `send`: a sender of chunk lists. `store`, `fill`: parts, and one, filled from a reader. `pool`,
+//!   a caller of the machine: the memory of freed blocks.
 //! - `web`: bodies of HTTP messages. `polled`: a sender to an async writer. `decoder`: frames of a `tokio_util` stream.
 //! - `start`: a log of entries, a crate to begin with.
 //! - `note`, `request`: messages, and an enum, read by their parts. `alike`: code that is generic in the value and in the
@@ -11,6 +11,7 @@
 
 pub mod alike;
 pub mod decoder;
+pub mod fill;
 pub mod frame;
 pub mod note;
 pub mod polled;
