@@ -3,14 +3,18 @@
 --     over_eight    eight bytes are added as one number
 --     eight_sums    the sum of a number is that of its eight bytes
 --     table_sum     the tables have the sums of bytes
-use Rattle.std.specs.Prelude.{Bool, true, false, ℕ, zero, suc, ◌+◌, ◌*◌, ◌/◌, ◌%◌, ◌^◌, ◌<◌, ◌≡◌, ◌==◌, if◌then◌else◌, List, [], ◌∷◌, length, refl}
-use Rattle.std.specs.Int.{w64, bytes_low_first, byte_at, from_le_bytes}
-use Rattle.std.specs.Int.Bits.{bit_xor, xor_assoc, xor_shifted, xor_zero_r}
+--     AreBytes      each number is below 256
+--     one_byte      bytes that differ in one place have different sums
+--     sum_small, number_small    a sum has 32 bits; a number is written as bytes
+use Rattle.std.specs.Prelude.{Bool, true, false, ℕ, zero, suc, ◌+◌, ◌-◌, ◌*◌, ◌/◌, ◌%◌, ◌^◌, ◌<◌, ◌≡◌, ◌==◌, if◌then◌else◌, List, [], ◌∷◌, ◌++◌, length, refl}
+use Rattle.std.specs.Int.{w64, bytes_high_first, bytes_low_first, byte_at, from_le_bytes}
+use Rattle.std.specs.Int.Bits.{bit_xor, xor_assoc, xor_self, xor_shifted, xor_zero_l, xor_zero_r}
 use Rattle.std.proofs.Common.{arith, ap, get_or, mul_assoc, pow-suc, slice_index_or, sym, ◌∙◌}
 use Rattle.std.proofs.Math.Nat.{div-div-eq-div-mul}
-use Rattle.std.proofs.lemmas.Nat.{div_below, le_bytes_8, shr-shr, xor_comm, xor_shr}
+use Rattle.std.proofs.lemmas.Bool.Decides.{nat_tests}
+use Rattle.std.proofs.lemmas.Nat.{div_below, le_bytes_8, shr-shr, xor_comm, xor_lt, xor_shr}
 use Rattle.std.proofs.lemmas.Nat.Bits.{bit_at_xor, bit_at_lowest}
-use Rattle.iobufs_journal.specs.Crc.{crc_bit, crc_bits, crc_over}
+use Rattle.iobufs_journal.specs.Crc.{crc32, crc_bit, crc_bits, crc_over}
 
 -- an even number leaves the lowest bit of another
 even_xor : (h c : ℕ) → bit_xor (h * 2) c % 2 ≡ c % 2
@@ -183,3 +187,99 @@ table_sum all byte after is small few =
     ∙ sum_at (8 * (0 + after) + 8) 256 0 byte small
     ∙ ap (λ z. crc_bits (8 * z + 8) (0 + byte)) (let e : 0 + after ≡ after = omega arith in e)
     ∙ ap (crc_bits (8 * after + 8)) (let e : 0 + byte ≡ byte = omega arith in e)
+
+-- ---- one byte that differs
+
+abbrev pub AreBytes : List ℕ → Type 0
+AreBytes [] = Unit {0}
+AreBytes (byte ∷ bytes) = (byte < 256) × AreBytes bytes
+
+same_xor : (a b c : ℕ) → bit_xor a b ≡ bit_xor a c → b ≡ c
+same_xor a b c e =
+    let back = λ (x : ℕ). sym (xor_assoc a a x) ∙ ap (λ y. bit_xor y x) (xor_self a) ∙ xor_zero_l x in
+    sym (back b) ∙ ap (bit_xor a) e ∙ back c
+
+turned_high : (h : ℕ) → h < 2 ^ 31 → bit_xor h 3988292384 ≡ 1 * 2 ^ 31 + bit_xor h 1840808736
+turned_high h small =
+    ap (bit_xor h) (sym (xor_shifted 1 31 1840808736 (omega arith))) ∙ swapped h (1 * 2 ^ 31) 1840808736
+    ∙ xor_shifted 1 31 (bit_xor h 1840808736) (xor_lt 31 h 1840808736 small (omega arith))
+
+-- the highest bit tells which one was shifted out
+one_turned : (s t : Bool) (x y : ℕ) → x < 2 ^ 31 → y < 2 ^ 31 → turned s x ≡ turned t y → (s ≡ t) × (x ≡ y)
+unfolding turned
+one_turned true true x y p q e = (refl, same_xor 3988292384 x y (xor_comm 3988292384 x ∙ e ∙ xor_comm y 3988292384))
+one_turned false false x y p q e = (refl, e)
+one_turned true false x y p q e = absurd (omega (arith, q, turned_high x p, e))
+one_turned false true x y p q e = absurd (omega (arith, p, turned_high y q, e))
+
+turned_small : (odd : Bool) (h : ℕ) → h < 2 ^ 31 → turned odd h < 2 ^ 32
+unfolding turned
+turned_small true h p = xor_lt 32 h 3988292384 (omega (arith, p)) (omega arith)
+turned_small false h p = omega (arith, p)
+
+bit_is : (x : ℕ) (odd : Bool) → (x % 2 == 1) ≡ odd → x % 2 ≡ (if odd then 1 else 0)
+bit_is x true is = grind (arith, nat_tests, is)
+bit_is x false is = grind (arith, nat_tests, is)
+
+one_bit : (a b : ℕ) → a < 2 ^ 32 → b < 2 ^ 32 → crc_bit a ≡ crc_bit b → a ≡ b
+unfolding turned
+one_bit a b p q e =
+    let (tests, halves) = one_turned (a % 2 == 1) (b % 2 == 1) (a / 2) (b / 2) (omega (arith, p)) (omega (arith, q)) e in
+    omega (arith, halves, bit_is a (a % 2 == 1) refl ∙ sym (bit_is b (a % 2 == 1) (sym tests)))
+
+bit_small : (a : ℕ) → a < 2 ^ 32 → crc_bit a < 2 ^ 32
+unfolding turned
+bit_small a p = turned_small (a % 2 == 1) (a / 2) (omega (arith, p))
+
+bits_small : (n a : ℕ) → a < 2 ^ 32 → crc_bits n a < 2 ^ 32
+bits_small zero a p = p
+bits_small (suc n) a p = bits_small n (crc_bit a) (bit_small a p)
+
+one_of_bits : (n a b : ℕ) → a < 2 ^ 32 → b < 2 ^ 32 → crc_bits n a ≡ crc_bits n b → a ≡ b
+one_of_bits zero a b p q e = e
+one_of_bits (suc n) a b p q e = one_bit a b p q (one_of_bits n (crc_bit a) (crc_bit b) (bit_small a p) (bit_small b q) e)
+
+byte_in : (sum byte : ℕ) → sum < 2 ^ 32 → byte < 256 → bit_xor sum byte < 2 ^ 32
+byte_in sum byte p q = xor_lt 32 sum byte p (omega (arith, q))
+
+over_small : (bytes : List ℕ) (sum : ℕ) → AreBytes bytes → sum < 2 ^ 32 → crc_over sum bytes < 2 ^ 32
+over_small [] sum small p = p
+over_small (byte ∷ bytes) sum small p = over_small bytes (crc_bits 8 (bit_xor sum byte)) small.1 (bits_small 8 (bit_xor sum byte) (byte_in sum byte p small.0))
+
+-- two sums that differ do so after equal bytes
+one_over : (bytes : List ℕ) (a b : ℕ) → AreBytes bytes → a < 2 ^ 32 → b < 2 ^ 32 → crc_over a bytes ≡ crc_over b bytes → a ≡ b
+one_over [] a b small p q e = e
+one_over (byte ∷ bytes) a b small p q e =
+    let x = byte_in a byte p small.0 in
+    let y = byte_in b byte q small.0 in
+    let same = one_over bytes (crc_bits 8 (bit_xor a byte)) (crc_bits 8 (bit_xor b byte)) small.1 (bits_small 8 (bit_xor a byte) x)
+    (bits_small 8 (bit_xor b byte) y) e in
+    same_xor byte a b (xor_comm byte a ∙ one_of_bits 8 (bit_xor a byte) (bit_xor b byte) x y same ∙ xor_comm b byte)
+
+over_both : (fs gs : List ℕ) (sum : ℕ) → crc_over sum (fs ++ gs) ≡ crc_over (crc_over sum fs) gs
+over_both [] gs sum = refl
+over_both (a ∷ fs) gs sum = over_both fs gs (crc_bits 8 (bit_xor sum a))
+
+-- bytes that differ in one place have different sums
+pub one_byte : (fs gs : List ℕ) (x y : ℕ) → AreBytes fs → x < 256 → y < 256 → AreBytes gs
+    → crc32 (fs ++ x ∷ gs) ≡ crc32 (fs ++ y ∷ gs) → x ≡ y
+one_byte fs gs x y front p q back e =
+    let all = 2 ^ 32 - 1 in
+    let sum = crc_over all fs in
+    let small = over_small fs all front (omega arith) in
+    let over : crc_over all (fs ++ x ∷ gs) ≡ crc_over all (fs ++ y ∷ gs) =
+    same_xor all (crc_over all (fs ++ x ∷ gs)) (crc_over all (fs ++ y ∷ gs))
+    (xor_comm all (crc_over all (fs ++ x ∷ gs)) ∙ e ∙ xor_comm (crc_over all (fs ++ y ∷ gs)) all) in
+    let a = byte_in sum x small p in
+    let b = byte_in sum y small q in
+    let same = one_over gs (crc_bits 8 (bit_xor sum x)) (crc_bits 8 (bit_xor sum y)) back (bits_small 8 (bit_xor sum x) a) (bits_small 8 (bit_xor sum y) b)
+    (sym (over_both fs (x ∷ gs) all) ∙ over ∙ over_both fs (y ∷ gs) all) in
+    same_xor sum x y (one_of_bits 8 (bit_xor sum x) (bit_xor sum y) a b same)
+
+pub sum_small : (bytes : List ℕ) → AreBytes bytes → crc32 bytes < 2 ^ 32
+sum_small bytes small = xor_lt 32 (crc_over (2 ^ 32 - 1) bytes) (2 ^ 32 - 1) (over_small bytes (2 ^ 32 - 1) small (omega arith)) (omega arith)
+
+-- the bytes of a number
+pub number_small : (k n : ℕ) → AreBytes (bytes_high_first k n)
+number_small zero n = tt
+number_small (suc k) n = (rw (byte_is k n) (let e : n / 256 ^ k % 256 < 256 = omega arith in e), number_small k n)

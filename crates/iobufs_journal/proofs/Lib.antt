@@ -3,3 +3,4 @@ mod FrontLaws
 mod LineLaws
 mod Readings
 mod ScanLaws
+mod SealLaws

@@ -8,6 +8,7 @@
 --                                        of the first format does
 --     HasNoRecord                        why no record is at the front: the bytes are at their end, torn, damaged, or of
 --                                        the first format
+--     IsChangedHead, IsDamage            a head in which one byte is another; an end that no missing bytes explain
 --     AreShort                           each body has at most this many bytes
 --     whole_of                           those records of which all bytes are among the first n
 --     IsJournal                          bytes are these records, each short enough, and a rest that no record begins
@@ -73,6 +74,21 @@ HasNoRecord most number rest Whole = rest ≡ []
 HasNoRecord most number rest Torn = (0 < length rest) × IsTornAt most number rest
 HasNoRecord most number rest Damaged = IsUnread most number rest × (IsOld number rest → ⊥)
 HasNoRecord most number rest Old = IsUnread most number rest × IsOld number rest
+
+-- a head in which one byte is another
+pub record IsChangedHead (number : ℕ) (bytes : List ℕ) : Type 0 where
+  pub n : ℕ
+  pub was : ℕ
+  pub byte : ℕ
+  pub before : List ℕ
+  pub after : List ℕ
+  pub head_is : head number n ≡ before ++ was ∷ after
+  pub bytes_are : bytes ≡ before ++ byte ∷ after
+  pub small : byte < 256
+  pub other : was ≡ byte → ⊥
+
+abbrev pub IsDamage : JournalEnd → Type 0
+IsDamage end = (end ≡ Damaged) ⊎ (end ≡ Old)
 
 -- each body has at most so many bytes
 abbrev pub AreShort : ℕ → List (List ℕ) → Type 0
