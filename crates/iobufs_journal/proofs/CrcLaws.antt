@@ -276,6 +276,7 @@ one_byte fs gs x y front p q back e =
     (sym (over_both fs (x ∷ gs) all) ∙ over ∙ over_both fs (y ∷ gs) all) in
     same_xor sum x y (one_of_bits 8 (bit_xor sum x) (bit_xor sum y) a b same)
 
+-- the sum of bytes has 32 bits
 pub sum_small : (bytes : List ℕ) → AreBytes bytes → crc32 bytes < 2 ^ 32
 sum_small bytes small = xor_lt 32 (crc_over (2 ^ 32 - 1) bytes) (2 ^ 32 - 1) (over_small bytes (2 ^ 32 - 1) small (omega arith)) (omega arith)
 

@@ -133,6 +133,7 @@ same_by a b false e = inr (λ same. let both : true ≡ false = sym ((bytes_deci
 same : (a b : List ℕ) → (a ≡ b) ⊎ ((a ≡ b) → ⊥)
 same a b = same_by a b (bytes_eq a b) refl
 
+-- bytes begin as a journal of the first format does, or they don't
 pub old_or_not : (number : ℕ) (bytes : List ℕ) → IsOld number bytes ⊎ (IsOld number bytes → ⊥)
 old_or_not number bytes = elim (less 0 number) [
   | inl later ↦ inr (λ old. let first = old.first in omega (arith, first, later))
