@@ -1,0 +1,37 @@
+-- Answers that are no step of the machine, by the definitions.
+use Rattle.std.specs.Prelude.{◌≡◌, false, [], ◌∷◌, None, Some, refl}
+use Rattle.std.proofs.Common.{inl, inr, subst, sym}
+use Rattle.iobufs_owner.specs.Types.{View, Begin, Drop, Put, TryIntoMut, Memory, Done, Declined, Refused}
+use Rattle.iobufs_owner.specs.World.{World, LiveHandle, holders}
+use Rattle.iobufs_owner.specs.Steps.{Steps, Begins, DropIs, RecoverIs, native_block}
+
+-- a view of four bytes, the only handle of a block of eight
+abbrev view : LiveHandle
+view = record { kind = View; block = Some 0; place = 0; len = 4 }
+
+abbrev one : World
+one = record { ceiling = 4; blocks = native_block 0 8 1 ∷ []; freed = false ∷ []; handles = Some view ∷ []; calls = None ∷ [] }
+
+-- a drop allocates nothing
+drop_wants_no_memory : (next : World) → Steps one (record { thread = 0; act = Begin (Drop 0) false }) (Refused Memory) next → ⊥
+unfolding Begins
+drop_wants_no_memory next (x, held, drops) =
+    let is : view ≡ x = cc in
+    elim (subst (λ x. DropIs one 0 0 x (Refused Memory) next) (sym is) drops) [
+      | inl freed ↦ absurd (let e = freed.1 in cc)
+      | inr more ↦ absurd (let e = more.goes.0 in cc)
+    ]
+
+-- the sole holder of native storage gets it back
+sole_holder_is_not_declined : (next : World) → Steps one (record { thread = 0; act = Begin (TryIntoMut 0) false }) Declined next → ⊥
+unfolding Begins holders
+sole_holder_is_not_declined next (x, held, recovers) =
+    let is : view ≡ x = cc in
+    elim (subst (λ x. RecoverIs one 0 x Declined next) (sym is) recovers) [
+      | inl done ↦ absurd (let e = done.1 in cc)
+      | inr declined ↦ declined.0 (refl, refl)
+    ]
+
+-- nothing is put into a view
+view_takes_no_put : (next : World) → Steps one (record { thread = 0; act = Begin (Put 0 1) false }) Done next → ⊥
+view_takes_no_put next step = absurd (let e = step.0 in cc)
