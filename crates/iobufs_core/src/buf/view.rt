@@ -212,15 +212,17 @@ impl IoBuf {
         ensures whole { at ≡ length self.old.bytes → IsOk result }
         ensures static_text { self.old.mark ≡ static_mark → IsOk result }
     {
+        // As in `as_ref`.
+        if let Storage::Native(native) = &mut self.storage {
+            if at != 0 && at < native.len() {
+                return Ok(IoBuf::from_native(native.split_to(at)?));
+            }
+        }
         if at == 0 {
             return Ok(IoBuf::default());
         }
         if at == self.len() {
             return Ok(mem::take(self));
-        }
-        // As in `as_ref`.
-        if let Storage::Native(native) = &mut self.storage {
-            return Ok(IoBuf::from_native(native.split_to(at)?));
         }
         let storage = match &mut self.storage {
             Storage::Native(native) => Storage::Native(native.split_to(at)?),
