@@ -1,5 +1,5 @@
 // A session of either half, over any reader and writers.
-ghost use Rattle.std.specs.Prelude.{◌≡◌, ◌≢◌, [], ◌∷◌, codes, map, true, false, Ok, Err, Some, None, IfErr, IfNone, IfSome, OnOk};
+ghost use Rattle.std.specs.Prelude.{◌≡◌, ◌≢◌, [], ◌∷◌, codes, map, true, false, Ok, Err, Some, None, IfErr, IfNone, IfSome, IsOk, OnOk};
 ghost use Rattle.std.specs.Io.KnownBytes.{Appends};
 ghost use Rattle.iobuf.specs.Faults.{MayEnd};
 ghost use Rattle.iobuf.specs.Halves.{ServesHalf, half_word};
@@ -124,6 +124,7 @@ pub fn session<R: Read + Drop, W: Write, E: Write>(
     ensures flushed { IsFlushed result.0 output.new.is_sent }
     ensures told { IfErr result.0 (λ stop. OnOk result.1 (Appends (E.contents errors.old) (E.contents errors.new) (stop_line stop))) }
     ensures silent { OnOk result.0 (errors.new ≡ errors.old) }
+    ensures nothing_told { OnOk result.0 (IsOk result.1) }
 {
     let ended = match half_of(args) {
         Some(half) => over_reader(alloc, half, input, output),
