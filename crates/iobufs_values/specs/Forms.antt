@@ -164,9 +164,6 @@ two_firsts d b c p q = let both : b ∷ [] ≡ c ∷ [] = sym p ∙ q in cc
 pub no_first : (d : List ℕ) (b : ℕ) → take 1 d ≡ b ∷ [] → d ≡ [] → ⊥
 no_first d b p e = let both : b ∷ [] ≡ [] = sym p ∙ ap (take 1) e in cc
 
-no_first_of : (d : List ℕ) (b : ℕ) (more : List ℕ) → d ≡ b ∷ more → d ≡ [] → ⊥
-no_first_of d b more p e = let both : b ∷ more ≡ [] = sym p ∙ e in cc
-
 -- lists that are the same have the same first byte
 pub heads : (b c : ℕ) (u v : List ℕ) → b ∷ u ≡ c ∷ v → b ≡ c
 heads b c u v e = cc
@@ -311,7 +308,7 @@ pair_form {wa = wa} {wb = wb} {eb = eb} a b = record {
       ];
 }
 
--- ---- what was written is read back
+-- ---- written values are read back
 
 pub read_back : {A C : Type 0} {written : A → List ℕ} {same : A → A → Type 0} {admits : C → A → Type 0} {is_found : MarkedText → ℕ → C → A → Type 0}
     {is_fault : MarkedText → ℕ → C → Fault → Type 0} → IsForm A C written same admits is_found is_fault

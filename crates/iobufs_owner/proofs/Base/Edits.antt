@@ -16,7 +16,7 @@ live-inside [] r e = absurd (cc)
 live-inside (v ∷ rs) zero e = omega arith
 live-inside (v ∷ rs) (suc r) e = omega (arith, live-inside rs r e)
 
--- ---- what a descriptor says
+-- ---- descriptors
 
 -- a handle by a descriptor holds the first block with the base that is recovered
 pub owner-described : (g : Tables) (x : Handle) (w : ℕ) → x.word ≡ Descriptor w → owner_of g x ≡ block_with (base_by g x w) g.blocks
@@ -384,7 +384,7 @@ sound-thawed_counted s h x r k t i native one =
       native = λ m. native;
     })
 
--- ---- what a handle finds
+-- ---- the block of a handle
 
 -- the value of a `Some`
 pub same-some : (o : Option ℕ) (v : ℕ) (P : Type 0) (w : ℕ) → o ≡ Some v → SomeIff o P w → v ≡ w

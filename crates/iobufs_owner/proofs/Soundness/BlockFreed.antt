@@ -5,7 +5,7 @@ use Rattle.iobufs_owner.proofs.Soundness.RecordFreed.{dead-at, dead-keeps, dead-
 use Rattle.iobufs_owner.proofs.Soundness.Alone.{only, unready, undropped, named-once, calls-live, fit-dead}
 use Rattle.iobufs_owner.proofs.Soundness.Recovered.{recovered-is}
 
--- ---- what holds nothing
+-- ---- handles and calls that hold nothing
 
 pub record Loose (g : Tables) (calls : List (Option Pending)) (o : Option Handle) : Type 0 where
   pub holds : (c : ℕ) → holds c (read_handle g o) ≡ false

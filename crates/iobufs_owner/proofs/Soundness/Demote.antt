@@ -125,7 +125,7 @@ sound-demoted s h r x k t xw may =
       | inr i ↦ k.sole c (let n = rw i.0 at (am c) in omega (arith, n, t))
     ]) (record-log-dead r _ inside refl f.live k.record_log)
 
--- ---- what the call finds
+-- ---- the state before the call
 
 pub record Demoting (s : State) (x : Handle) (r : ℕ) : Type 0 where
   pub reaches : x.ptr + x.len ≤ (block_at s.tables (record_at s.tables r).block).base + (block_at s.tables (record_at s.tables r).block).size

@@ -46,7 +46,7 @@ recovered-is s h x w b k at i o =
     let align = ap (λ (n : ℕ). 2 ^ n) log ∙ sym d.says.align ∙ ap (λ (n : ℕ). (block_at g n).align) same in
     rw (base, size, align) refl
 
--- ---- what freeing asks
+-- ---- requirements of freeing
 
 ends-below : (b : Block) (x : Handle) (tail size : ℕ) (kind : Kind) → x.kind ≡ kind → size ≡ b.size → LiesIn b x kind → LeavesBehind b x tail kind
     → size ≤ end_of x tail
