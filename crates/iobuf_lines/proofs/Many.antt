@@ -10,7 +10,7 @@ pub none_read : (words : List (List ℕ)) → 0 < length words → first_number 
 none_read [] some none = absurd (omega arith)
 none_read (word ∷ words) some none = rw none refl
 
--- what holds of each error holds of a result's
+-- a property of each error holds of a result's
 pub on_err : {X E : Type 0} {P : E → Type 0} (result : Result X E) → ((error : E) → P error) → IfErr result P
 on_err (Ok x) holds = tt
 on_err (Err error) holds = holds error

@@ -29,7 +29,7 @@ first_word line (Some end) h =
     to_space line end (λ k low e. h.0.before k (omega arith) low (eq-eqb (slice_index line k) 32 e)) h.0.high (grind (arith, nat_tests, h.1))
 first_word line None h = to_end line (length line) (λ k low e. h k (omega arith) low (eq-eqb (slice_index line k) 32 e)) (omega arith)
 
--- what is left of a line has at least one word
+-- the rest of a line has at least one word
 pub some_left : (rest : Option (Bor (List ℕ))) → is_some rest ≡ true → 0 < length (words_left rest)
 some_left (Some rest) e = omega (arith, length-slice_split (λ b. eqb b 32) rest.now)
 some_left None e = cc e

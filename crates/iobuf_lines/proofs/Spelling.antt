@@ -11,7 +11,7 @@ use Rattle.iobuf_lines.specs.declared.buffers.line.WithBytes.TheVariants as of_b
 use Rattle.iobuf_lines.specs.declared.buffers.line.WithNumbers.TheVariants as of_numbers
 use Rattle.iobuf_lines.proofs.Numerals.{number_is, number_back, bytes_are, bytes_back, choose, lower_stays, same_word}
 
--- ---- what single words say
+-- ---- the meaning of single words
 
 -- a word is read as this exactly where it spells it
 record Reads {A : Type 0} (read : List ℕ → Option A) (word : A → SpelledWord) : Type 0 where
@@ -75,7 +75,7 @@ item_back text (Push name) (rest, is, s) = rw is (ap (option_map Push) (number.b
 item : Reads item_of item_word
 item = record { is = item_is; back = item_back }
 
--- ---- what words say that follow one another
+-- ---- the meaning of words in order
 
 -- words are read as what is made of a value exactly where they spell the value
 record Shape {C : Type 0} (read : List (List ℕ) → Option C) : Type 1 where

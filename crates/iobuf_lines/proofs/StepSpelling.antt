@@ -28,7 +28,7 @@ spaceless_ask (Look (Handle n)) h = ((assumption), (spaceless_decimal n h, tt))
 spaceless_ask (Look (Record n)) h = ((assumption), (spaceless_decimal n h, tt))
 spaceless_ask (Look Freed) h = (assumption)
 
--- ---- what words say
+-- ---- the meaning of words
 
 call_says : (c : Call) (rest : List (List ℕ)) → AreNumbers (numbers_in c) → call_of (call_verb c) (map decimal (numbers_in c) ++ rest) ≡ Some (c, rest)
 call_says (New base size align) rest (b, (s, (a, none))) = rw (number_spelled base b, number_spelled size s, number_spelled align a)

@@ -214,7 +214,8 @@ done_where_wanted old command Done another none wants step = refl
 done_where_wanted old command (Bytes bytes) another none wants step = refl
 done_where_wanted old command (Shown kind pieces) another none wants step = refl
 
--- a command that is refused for a failed allocation may want it, has no cause against it, costs at most what it consumes, and is never refused for anything else
+-- a command that is refused for a failed allocation may want it, has no cause against it, and costs at most what it
+-- consumes; it is never refused for anything else
 pub only_wants : OnlyWants
 only_wants old command new (none, wants, freed) = (none, wants, freed, λ other another step. done_where_wanted old command other another none wants step)
 

@@ -5,7 +5,8 @@ use Rattle.iobuf_lines.proofs.words.Words.first_word.Goals as goal
 pub returns-then-line-place-eq32 : goal.returns-then-line-place-eq32
 returns-then-line-place-eq32 c =
     let line = c.in_ok-line.line.now in
-    sym c.self.view_is ∙ ap words_left c.in_ok-line.was ∙ to_space line c.loop-place.place c.loop-place.invariant c.loop-place-test.true c.if-line-place-eq32.true
+    sym c.self.view_is ∙ ap words_left c.in_ok-line.was
+    ∙ to_space line c.loop-place.place c.loop-place.invariant c.loop-place-test.true c.if-line-place-eq32.true
 
 pub returns : goal.returns
 returns c =
