@@ -86,6 +86,51 @@ static void lent(void) {
     iobufs_drop(&t); iobufs_frames_drop(&f); iobuf_drop(&v);
 }
 
+/* Results that are written into memory which holds no buffer: what is there first would crash if it was dropped. */
+static void in_memory(void) {
+    struct iobuf memory, more;
+    struct iobufmut part;
+    struct iobufs texts;
+    struct iobuf_at out = { &memory }, rest = { &more };
+    struct iobufmut_at p = { &part };
+    struct iobufs_at t = { &texts };
+    VIEW(a); TEXT(u); PARTS(s);
+#define ANY(handle) memset((handle).at, 0xa5, sizeof *(handle).at)
+    HELLO(a);
+    ANY(out); OK(iobuf_clone_init(&a, &out));
+    CHECK(view_is(&out, "hello world") && view_is(&a, "hello world"));
+    ANY(rest); CHECK(iobuf_split_to_init(&out, 12, &rest) == IOBUFS_OUT_OF_RANGE && view_is(&out, "hello world"));
+    ANY(rest); OK(iobuf_split_to_init(&out, 5, &rest));
+    CHECK(view_is(&rest, "hello") && view_is(&out, " world"));
+    iobuf_drop(&rest); ANY(rest);
+    CHECK(iobuf_slice_init(&a, 4, 12, &rest) == IOBUFS_OUT_OF_RANGE && iobuf_slice_init(&a, 4, 2, &rest) == IOBUFS_OUT_OF_RANGE);
+    OK(iobuf_slice_init(&a, 4, 7, &rest));
+    CHECK(view_is(&rest, "o w") && view_is(&a, "hello world"));
+    iobuf_drop(&out);
+    ANY(p); CHECK(iobuf_try_into_mut_init(&a, &p) == IOBUFS_DECLINED && view_is(&a, "hello world"));
+    iobuf_drop(&rest); ANY(p); OK(iobuf_try_into_mut_init(&a, &p));
+    CHECK(part_is(&p, "hello world") && view_is(&a, ""));
+    ANY(out); OK(iobufmut_freeze_init(&p, &out));
+    CHECK(view_is(&out, "hello world") && iobufmut_capacity(&p) == 0);
+    ANY(rest); OK(iobufmut_freeze_init(&p, &rest));
+    CHECK(view_is(&rest, ""));
+    iobufs_from_view(&out, &u);
+    ANY(t); CHECK(iobufs_split_to_init(&u, 12, &t) == IOBUFS_OUT_OF_RANGE && text_is(&u, "hello world"));
+    ANY(t); OK(iobufs_split_to_init(&u, 6, &t));
+    CHECK(text_is(&t, "hello ") && text_is(&u, "world"));
+    ANY(out); CHECK(iobufs_take_init(&u, 6, &out) == IOBUFS_END_OF_BUFFER && text_is(&u, "world"));
+    ANY(out); OK(iobufs_take_init(&u, 2, &out));
+    CHECK(view_is(&out, "wo") && text_is(&u, "rld"));
+    iobufs_drop(&t);
+    OK(iobufmut_copy_from_slice(bytes("xyz"), 3, &p));
+    iobufsmut_from_mut(&p, &s);
+    ANY(t); OK(iobufsmut_freeze_init(&s, &t));
+    CHECK(text_is(&t, "xyz") && iobufsmut_capacity(&s) == 0);
+    iobufs_drop(&t); ANY(t); OK(iobufsmut_freeze_init(&s, &t));
+    CHECK(text_is(&t, ""));
+    iobuf_drop(&out); iobuf_drop(&rest); iobufs_drop(&t); iobuf_drop(&a); iobufmut_drop(&p); iobufs_drop(&u); iobufsmut_drop(&s);
+}
+
 /* The memory moves, and the buffer with it. */
 static void moved(void) {
     struct iobuf *old = (struct iobuf *)malloc(sizeof *old), *new_ = (struct iobuf *)malloc(sizeof *new_);
@@ -490,7 +535,7 @@ static void statuses(void) {
 }
 
 int main(void) {
-    sizes(); views(); lent(); moved(); buffers(); texts(); parts(); builders(); lengths(); numbers(); frames(); received();
+    sizes(); views(); lent(); in_memory(); moved(); buffers(); texts(); parts(); builders(); lengths(); numbers(); frames(); received();
     prefixes(); statuses();
     return 0;
 }

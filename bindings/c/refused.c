@@ -77,6 +77,19 @@ static iobufs_status from_parts(struct made *m) {
     iobufsmut_drop(&out);
     return status;
 }
+
+/* Into memory that holds no buffer: one that was made is dropped. */
+#define MADE(type, call) struct type memory; struct type##_at out = { &memory }; \
+    iobufs_status status = call; if (status == IOBUFS_OK) type##_drop(&out); return status
+static iobufs_status clone_init(struct made *m) { MADE(iobuf, iobuf_clone_init(&m->view, &out)); }
+static iobufs_status split_init(struct made *m) { MADE(iobuf, iobuf_split_to_init(&m->view, 1, &out)); }
+static iobufs_status slice_init(struct made *m) { MADE(iobuf, iobuf_slice_init(&m->view, 1, 3, &out)); }
+static iobufs_status freeze_init(struct made *m) { MADE(iobuf, iobufmut_freeze_init(&m->part, &out)); }
+static iobufs_status recover_init(struct made *m) { MADE(iobufmut, iobuf_try_into_mut_init(&m->view, &out)); }
+static iobufs_status text_split_init(struct made *m) { MADE(iobufs, iobufs_split_to_init(&m->text, 4, &out)); }
+static iobufs_status text_take_init(struct made *m) { MADE(iobuf, iobufs_take_init(&m->text, 5, &out)); }
+static iobufs_status parts_freeze_init(struct made *m) { MADE(iobufs, iobufsmut_freeze_init(&m->parts, &out)); }
+
 static iobufs_status builder_new(struct made *m) { return iobufs_builder_new(9, &m->builder); }
 static iobufs_status push(struct made *m) { return iobufs_builder_push(&m->builder, &m->view); }
 static iobufs_status finish(struct made *m) { return iobufs_builder_finish(&m->builder, &m->out_text); }
@@ -115,6 +128,10 @@ static const struct { const char *name; run *call; kept *stays; } cases[] = {
     { "builder", builder_new, builder_stays }, { "push", push, builder_stays }, { "finish", finish, given_up },
     { "feed", feed, frames_stay }, { "next", next, frames_stay }, { "rest", rest, frames_stay },
     { "space", space, received_stays }, { "received next", received, received_stays },
+    { "clone_init", clone_init, view_stays }, { "split_to_init", split_init, view_stays }, { "slice_init", slice_init, view_stays },
+    { "freeze_init", freeze_init, given_up }, { "try_into_mut_init", recover_init, view_stays },
+    { "text split_to_init", text_split_init, text_stays }, { "text take_init", text_take_init, text_stays },
+    { "parts freeze_init", parts_freeze_init, given_up },
     { "read_view", read_view, text_stays }, { "view read_view", view_read, view_stays },
 };
 

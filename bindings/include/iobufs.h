@@ -13,10 +13,14 @@
  * A call that can fail returns a status (`iobufs_status`, named by `iobufs_strerror`), and the compiler warns if it isn't looked
  * at. A call that cannot fail returns its answer or nothing. Ranges, offsets and space are tested: if they don't fit, the
  * status says so, and unless the comment says otherwise nothing has changed. A buffer that is moved into another leaves its
- * own handle empty; an empty handle may be used, and dropped, again. What an `out` handle held is dropped.
+ * own handle empty; an empty handle may be used, and dropped, again. What an `out` handle held is dropped. Calls whose names
+ * end in `_init` are the exception, and cheaper: their `out` names memory that holds no buffer yet, as uninitialized memory, and
+ * they make one of it, so that no `.._init` comes before. Nothing is dropped there. Unless such a call returns IOBUFS_OK, its
+ * `out` holds no buffer afterwards either, and must not be dropped.
  *
  * The caller's duties, which nothing tests:
- *  1. A handle names memory that an `.._init` made a buffer of. Memory is freed only after a `.._drop` (or
+ *  1. A handle names memory that an `.._init` made a buffer of (`out` of a call that ends in `_init` names other memory, of the
+ *     size and the alignment below; a buffer that is there leaks). Memory is freed only after a `.._drop` (or
  *     what the buffer holds is leaked). It may be moved (memcpy), and the buffer with it; never two copies may be used.
  *  2. The handles and other pointers of one call don't overlap: `iobuf_clone(&a, &a)` is not allowed.
  *  3. One call at a time uses a buffer. Another thread may use it after what orders the two (a lock, a thread's start or
@@ -161,11 +165,15 @@ bool iobuf_byte_at(const struct iobuf_at *src, size_t i, uint8_t *out);
 bool iobuf_eq(const struct iobuf_at *src, const struct iobuf_at *other);
 /* Another view of the same bytes, in their storage: no byte is copied. Memory none today. (Clone) */
 IOBUFS_CHECKED iobufs_status iobuf_clone(const struct iobuf_at *src, struct iobuf_at *out);
+/* Another view, as iobuf_clone makes it, in memory that holds none. (Clone) */
+IOBUFS_CHECKED iobufs_status iobuf_clone_init(const struct iobuf_at *src, struct iobuf_at *out);
 /* Drops the first n bytes; IOBUFS_OUT_OF_RANGE if there are fewer. (Buf::advance) */
 IOBUFS_CHECKED iobufs_status iobuf_advance(struct iobuf_at *src, size_t n);
 /* Takes the first `at` bytes, in the same storage; IOBUFS_OUT_OF_RANGE if there are fewer. Memory none today.
  * (IoBuf::split_to) */
 IOBUFS_CHECKED iobufs_status iobuf_split_to(struct iobuf_at *src, size_t at, struct iobuf_at *out);
+/* Takes the first `at` bytes, as iobuf_split_to does, to memory that holds no view. (IoBuf::split_to) */
+IOBUFS_CHECKED iobufs_status iobuf_split_to_init(struct iobuf_at *src, size_t at, struct iobuf_at *out);
 /* Takes the first n bytes, in the same storage; IOBUFS_END_OF_BUFFER if there are fewer. Memory none today.
  * (take_owned, Buf::copy_to_bytes) */
 IOBUFS_CHECKED iobufs_status iobuf_take(struct iobuf_at *src, size_t n, struct iobuf_at *out);
@@ -174,9 +182,14 @@ IOBUFS_CHECKED iobufs_status iobuf_copy_to_slice(struct iobuf_at *src, uint8_t *
 /* The bytes of a range, in the same storage; bounds are `enum iobufs_bound`. IOBUFS_BAD_KIND if a kind is none of these,
  * IOBUFS_OUT_OF_RANGE if the range isn't within the bytes. Memory none today. (IoBuf::slice) */
 IOBUFS_CHECKED iobufs_status iobuf_slice(const struct iobuf_at *src, uint8_t lo_kind, size_t lo, uint8_t hi_kind, size_t hi, struct iobuf_at *out);
+/* The bytes from offset lo to hi, in the same storage, in memory that holds no view; IOBUFS_OUT_OF_RANGE if lo is above hi, or hi
+ * above the length. Memory none today. (IoBuf::slice) */
+IOBUFS_CHECKED iobufs_status iobuf_slice_init(const struct iobuf_at *src, size_t lo, size_t hi, struct iobuf_at *out);
 /* Recovers the storage as a writable buffer, and leaves the empty view; or IOBUFS_DECLINED, and the view stays. It recovers
  * native storage that no other view shares: tested, not proved. No memory. (IoBuf::try_into_mut) */
 IOBUFS_CHECKED iobufs_status iobuf_try_into_mut(struct iobuf_at *src, struct iobufmut_at *out);
+/* Recovers the storage, as iobuf_try_into_mut does, to memory that holds no buffer. (IoBuf::try_into_mut) */
+IOBUFS_CHECKED iobufs_status iobuf_try_into_mut_init(struct iobuf_at *src, struct iobufmut_at *out);
 
 /* ---- iobufmut (IoBufMut): a buffer to write, of a fixed capacity. None reads as one of capacity 0 ---- */
 
@@ -243,6 +256,8 @@ IOBUFS_CHECKED iobufs_status iobufmut_advance(struct iobufmut_at *part, size_t n
 IOBUFS_CHECKED iobufs_status iobufmut_copy_to_slice(struct iobufmut_at *part, uint8_t *dst, size_t n);
 /* The bytes as a view, not copied; no buffer is left. Memory none today; on IOBUFS_MEMORY the buffer is dropped. (freeze) */
 IOBUFS_CHECKED iobufs_status iobufmut_freeze(struct iobufmut_at *part, struct iobuf_at *out);
+/* The bytes as a view, as iobufmut_freeze makes it, in memory that holds none. (freeze) */
+IOBUFS_CHECKED iobufs_status iobufmut_freeze_init(struct iobufmut_at *part, struct iobuf_at *out);
 
 /* ---- iobufs (IoBufs): bytes in several chunks, none of which is copied ---- */
 
@@ -292,6 +307,8 @@ IOBUFS_CHECKED iobufs_status iobufs_append(struct iobufs_at *bufs, struct iobuf_
 IOBUFS_CHECKED iobufs_status iobufs_prepend(struct iobufs_at *bufs, struct iobuf_at *view);
 /* Takes the first `at` bytes; IOBUFS_OUT_OF_RANGE if there are fewer; at times memory. (IoBufs::split_to) */
 IOBUFS_CHECKED iobufs_status iobufs_split_to(struct iobufs_at *bufs, size_t at, struct iobufs_at *out);
+/* Takes the first `at` bytes, as iobufs_split_to does, to memory that holds no iobufs. (IoBufs::split_to) */
+IOBUFS_CHECKED iobufs_status iobufs_split_to_init(struct iobufs_at *bufs, size_t at, struct iobufs_at *out);
 /* The bytes from offset lo to hi, in their storage; IOBUFS_OUT_OF_RANGE if lo is above hi, or hi above the length; memory. It costs
  * the chunks of that range alone. (own) */
 IOBUFS_CHECKED iobufs_status iobufs_slice(const struct iobufs_at *bufs, size_t lo, size_t hi, struct iobufs_at *out);
@@ -304,6 +321,8 @@ IOBUFS_CHECKED iobufs_status iobufs_copy_to_slice(struct iobufs_at *bufs, uint8_
 /* Takes the first n bytes as one view: shared within a chunk, a copy (memory) across chunks; IOBUFS_END_OF_BUFFER
  * if there are fewer. (take_owned, Buf::copy_to_bytes) */
 IOBUFS_CHECKED iobufs_status iobufs_take(struct iobufs_at *bufs, size_t n, struct iobuf_at *out);
+/* Takes the first n bytes, as iobufs_take does, to memory that holds no view. (take_owned, Buf::copy_to_bytes) */
+IOBUFS_CHECKED iobufs_status iobufs_take_init(struct iobufs_at *bufs, size_t n, struct iobuf_at *out);
 /* Takes the n bytes after the first `skip`, which are dropped too, as one view, as iobufs_take does. (own) */
 IOBUFS_CHECKED iobufs_status iobufs_take_after(struct iobufs_at *bufs, size_t skip, size_t n, struct iobuf_at *out);
 /* All bytes as one view, with a copy (memory) of several chunks; IOBUFS_BAD_LAYOUT if they have more than SSIZE_MAX bytes.
@@ -378,6 +397,8 @@ IOBUFS_CHECKED iobufs_status iobufsmut_copy_from_slice(struct iobufsmut_at *part
 /* The parts that hold bytes as the chunks of one iobufs, not copied; none are left. Memory for the deque; on
  * IOBUFS_MEMORY the parts are dropped. (freeze) */
 IOBUFS_CHECKED iobufs_status iobufsmut_freeze(struct iobufsmut_at *parts, struct iobufs_at *out);
+/* The parts as one iobufs, as iobufsmut_freeze makes it, in memory that holds none. (freeze) */
+IOBUFS_CHECKED iobufs_status iobufsmut_freeze_init(struct iobufsmut_at *parts, struct iobufs_at *out);
 /* The parts as one buffer, with a copy (memory) of several; IOBUFS_BAD_LAYOUT if they have more than SSIZE_MAX bytes. None
  * are left, also after an error. (coalesce) */
 IOBUFS_CHECKED iobufs_status iobufsmut_coalesce(struct iobufsmut_at *parts, struct iobufmut_at *out);

@@ -223,9 +223,10 @@ fn limits(range: impl RangeBounds<usize>) -> (usize, usize) {
     lo.zip(hi).unwrap_or((1, 0))
 }
 
-/// Returns the start and the end of a range within `len` bytes. Panics with the original's messages if it isn't.
+/// Returns the start and the end of a range, the length if it has no end.
+#[inline]
 #[track_caller]
-fn bounds(range: impl RangeBounds<usize>, len: usize) -> (usize, usize) {
+fn bounds(range: impl RangeBounds<usize>, len: impl FnOnce() -> usize) -> (usize, usize) {
     let lo = match range.start_bound() {
         Bound::Included(n) => *n,
         Bound::Excluded(n) => n.checked_add(1).expect("range start overflow"),
@@ -234,11 +235,14 @@ fn bounds(range: impl RangeBounds<usize>, len: usize) -> (usize, usize) {
     let hi = match range.end_bound() {
         Bound::Included(n) => n.checked_add(1).expect("range end overflow"),
         Bound::Excluded(n) => *n,
-        Bound::Unbounded => len,
+        Bound::Unbounded => len(),
     };
-    assert!(lo <= hi, "slice start must be <= end");
-    assert!(hi <= len, "slice out of bounds");
     (lo, hi)
+}
+
+/// Returns the original's message for a range that isn't within the bytes.
+fn past(lo: usize, hi: usize) -> &'static str {
+    if lo > hi { "slice start must be <= end" } else { "slice out of bounds" }
 }
 
 /// Returns the result of reading a length, a view or a frame; `length` is one that is outside the range.

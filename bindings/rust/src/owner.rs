@@ -6,7 +6,7 @@
 //! are declared in this module alone.
 //!
 //! An owner's `Drop` is foreign code, which may panic: each call changes its buffers and what is kept first, and then drops.
-use crate::sys::{self, At, Builder, Frames, Iobuf, IobufMut, Iobufs, Kind, Look, Memory};
+use crate::sys::{self, At, Blank, Builder, Frames, Iobuf, IobufMut, Iobufs, Kind, Look, Memory};
 use std::any::Any;
 use std::collections::VecDeque;
 use std::mem::{self, ManuallyDrop};
@@ -15,21 +15,20 @@ use std::sync::Arc;
 // SAFETY: the signatures are those of the header, with a handle for a pointer to one (`sys` says which duties that meets).
 unsafe extern "C" {
     fn iobuf_from_static(text: *const u8, n: usize, out: &mut At<Iobuf>);
-    safe fn iobuf_clone(src: &mut Look<Iobuf>, out: &mut At<Iobuf>) -> u8;
-    safe fn iobuf_split_to(src: &mut At<Iobuf>, at: usize, out: &mut At<Iobuf>) -> u8;
-    safe fn iobuf_take(src: &mut At<Iobuf>, n: usize, out: &mut At<Iobuf>) -> u8;
-    safe fn iobuf_slice(src: &mut Look<Iobuf>, lo_kind: u8, lo: usize, hi_kind: u8, hi: usize, out: &mut At<Iobuf>) -> u8;
+    safe fn iobuf_clone_init(src: &mut Look<Iobuf>, out: &mut Blank<Iobuf>) -> u8;
+    safe fn iobuf_split_to_init(src: &mut At<Iobuf>, at: usize, out: &mut Blank<Iobuf>) -> u8;
+    safe fn iobuf_slice_init(src: &mut Look<Iobuf>, lo: usize, hi: usize, out: &mut Blank<Iobuf>) -> u8;
     safe fn iobuf_read_view(src: &mut At<Iobuf>, lo: usize, hi: usize, out: &mut At<Iobuf>) -> u8;
 
     safe fn iobufs_from_view(src: &mut At<Iobuf>, out: &mut At<Iobufs>);
     safe fn iobufs_clone(text: &mut Look<Iobufs>, out: &mut At<Iobufs>) -> u8;
     safe fn iobufs_append(text: &mut At<Iobufs>, piece: &mut At<Iobuf>) -> u8;
     safe fn iobufs_prepend(text: &mut At<Iobufs>, piece: &mut At<Iobuf>) -> u8;
-    safe fn iobufs_split_to(text: &mut At<Iobufs>, at: usize, out: &mut At<Iobufs>) -> u8;
+    safe fn iobufs_split_to_init(text: &mut At<Iobufs>, at: usize, out: &mut Blank<Iobufs>) -> u8;
     safe fn iobufs_slice(text: &mut Look<Iobufs>, lo: usize, hi: usize, out: &mut At<Iobufs>) -> u8;
     safe fn iobufs_advance(text: &mut At<Iobufs>, n: usize) -> u8;
     fn iobufs_copy_to_slice(text: &mut At<Iobufs>, dst: *mut u8, n: usize) -> u8;
-    safe fn iobufs_take(text: &mut At<Iobufs>, n: usize, out: &mut At<Iobuf>) -> u8;
+    safe fn iobufs_take_init(text: &mut At<Iobufs>, n: usize, out: &mut Blank<Iobuf>) -> u8;
     safe fn iobufs_coalesce(text: &mut At<Iobufs>, out: &mut At<Iobuf>) -> u8;
     safe fn iobufs_try_into_single(text: &mut At<Iobufs>, out: &mut At<Iobuf>) -> u8;
     safe fn iobufs_read_length(text: &mut At<Iobufs>, lo: usize, hi: usize, out: &mut usize) -> u8;
@@ -119,10 +118,10 @@ impl View {
         self.owner.is_some()
     }
 
-    /// Recovers the storage of the library's bytes, and returns the call's status too.
+    /// Recovers the storage of the library's bytes, if it can; then the view is left empty.
     #[inline]
-    pub(crate) fn recovered(&mut self) -> (Memory<IobufMut>, u8) {
-        self.memory.made(|mut view, mut out| sys::iobuf_try_into_mut(&mut view, &mut out))
+    pub(crate) fn recovered(&mut self) -> Option<Memory<IobufMut>> {
+        self.memory.recovered()
     }
 
     /// Returns the owner of the bytes, if it is a `T`.
@@ -147,54 +146,45 @@ impl View {
     }
 }
 
-// Each makes a view of bytes of this one by a call, after whose status `check` may panic.
+// Each makes a view of bytes of this one by a call, and panics with a message if that fails.
 impl View {
     #[inline]
     #[track_caller]
-    pub(crate) fn same(&self, check: impl FnOnce(u8)) -> Self {
-        self.shared(|view, out| iobuf_clone(view, out), check)
+    pub(crate) fn same(&self) -> Self {
+        self.shared(|view, out| iobuf_clone_init(view, out), || "")
     }
 
     #[inline]
     #[track_caller]
-    pub(crate) fn slice(&self, lo_kind: u8, lo: usize, hi_kind: u8, hi: usize, check: impl FnOnce(u8)) -> Self {
-        self.shared(|view, out| iobuf_slice(view, lo_kind, lo, hi_kind, hi, out), check)
+    pub(crate) fn slice(&self, lo: usize, hi: usize, message: impl FnOnce() -> &'static str) -> Self {
+        self.shared(|view, out| iobuf_slice_init(view, lo, hi, out), message)
     }
 
     #[inline]
     #[track_caller]
-    pub(crate) fn split_to(&mut self, n: usize, check: impl FnOnce(u8)) -> Self {
-        self.part(|view, out| iobuf_split_to(view, n, out), check)
+    fn shared(&self, call: impl FnOnce(&mut Look<Iobuf>, &mut Blank<Iobuf>) -> u8, message: impl FnOnce() -> &'static str) -> Self {
+        // SAFETY: duty 1: the calls above make a view if they return `OK`. The owner is counted before the memory moves: otherwise
+        // that moves twice.
+        let (memory, owner) =
+            unsafe { Memory::of_call(|out| call(&mut self.look(), out), None, message, || Option::clone(&self.owner)) };
+        View { memory, owner: ManuallyDrop::new(owner) }
     }
 
     #[inline]
-    pub(crate) fn take(&mut self, n: usize, check: impl FnOnce(u8)) -> Self {
-        self.part(|view, out| iobuf_take(view, n, out), check)
+    #[track_caller]
+    pub(crate) fn split_to(&mut self, n: usize, message: &'static str) -> Self {
+        let (from, owner) = (&mut self.memory, &self.owner);
+        // SAFETY: duty 1: the call makes a view if it returns `OK`.
+        let (memory, owner) =
+            unsafe { Memory::of_call(|out| iobuf_split_to_init(&mut from.at(), n, out), None, || message, || Option::clone(owner)) };
+        View { memory, owner: ManuallyDrop::new(owner) }
     }
 
+    /// Makes a view of the bytes after the length at the front, and returns the call's status too.
     #[inline]
     pub(crate) fn read_view(&mut self, lo: usize, hi: usize) -> (Self, u8) {
-        let mut status = 0;
-        (self.part(|view, out| iobuf_read_view(view, lo, hi, out), |it| status = it), status)
-    }
-
-    // The owner is counted before the memory moves: otherwise that moves twice.
-    #[inline]
-    fn shared(&self, call: impl FnOnce(&mut Look<Iobuf>, &mut At<Iobuf>) -> u8, check: impl FnOnce(u8)) -> Self {
-        let (memory, owner) = self.memory.shared(|mut view, mut out| {
-            check(call(&mut view, &mut out));
-            Option::clone(&self.owner)
-        });
-        View { memory, owner: ManuallyDrop::new(owner) }
-    }
-
-    #[inline]
-    fn part(&mut self, call: impl FnOnce(&mut At<Iobuf>, &mut At<Iobuf>) -> u8, check: impl FnOnce(u8)) -> Self {
-        let (memory, owner) = self.memory.made(|mut view, mut out| {
-            check(call(&mut view, &mut out));
-            Option::clone(&self.owner)
-        });
-        View { memory, owner: ManuallyDrop::new(owner) }
+        let (memory, status) = self.memory.made(|mut view, mut out| iobuf_read_view(&mut view, lo, hi, &mut out));
+        (View { memory, owner: ManuallyDrop::new(Option::clone(&self.owner)) }, status)
     }
 }
 
@@ -421,8 +411,16 @@ impl Chunked<Iobufs> {
     }
 
     #[inline]
-    pub(crate) fn take(&mut self, n: usize) -> (View, u8) {
-        self.taken(|from, out| iobufs_take(from, n, out))
+    #[track_caller]
+    pub(crate) fn take(&mut self, n: usize, message: &'static str) -> View {
+        let from = &mut self.memory;
+        // SAFETY: duty 1: the call makes a view if it returns `OK`.
+        let (memory, ()) = unsafe { Memory::of_call(|out| iobufs_take_init(&mut from.at(), n, out), Some(n), || message, || ()) };
+        let mut out = View::of(memory);
+        if self.owners.is_some() {
+            self.give(&mut out);
+        }
+        out
     }
 
     #[inline]
@@ -454,11 +452,14 @@ impl Chunked<Iobufs> {
     }
 
     #[inline]
-    pub(crate) fn split_to(&mut self, n: usize) -> (Self, u8) {
-        let (memory, status) = self.memory.made(|mut from, mut out| iobufs_split_to(&mut from, n, &mut out));
+    #[track_caller]
+    pub(crate) fn split_to(&mut self, n: usize, message: &'static str) -> Self {
+        let from = &mut self.memory;
+        // SAFETY: duty 1: the call makes an `IoBufs` if it returns `OK`.
+        let (memory, ()) = unsafe { Memory::of_call(|out| iobufs_split_to_init(&mut from.at(), n, out), None, || message, || ()) };
         let len = self.owners.as_ref().map(|_| self.len());
-        let owners = self.owners.as_mut().filter(|_| status == sys::OK).zip(len);
-        (Chunked { memory, owners: owners.and_then(|(chunks, len)| chunks.split(len)) }, status)
+        let owners = self.owners.as_mut().zip(len);
+        Chunked { memory, owners: owners.and_then(|(chunks, len)| chunks.split(len)) }
     }
 }
 

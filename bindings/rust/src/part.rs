@@ -138,8 +138,7 @@ impl IoBufMut {
     /// Freezes the buffer to a view, without a copy.
     #[inline]
     pub fn freeze(mut self) -> IoBuf {
-        let (memory, status) = self.0.made(|mut part, mut out| sys::iobufmut_freeze(&mut part, &mut out));
-        done(status, "");
+        let memory = self.0.frozen();
         mem::take(&mut self.1);
         mem::forget(self);
         IoBuf(View::of(memory))

@@ -64,8 +64,7 @@ impl IoBufsMut {
     /// Freezes the buffers that hold bytes to the chunks of one `IoBufs`.
     #[inline]
     pub fn freeze(mut self) -> IoBufs {
-        let (memory, status) = self.0.made(|mut parts, mut out| sys::iobufsmut_freeze(&mut parts, &mut out));
-        done(status, "");
+        let memory = self.0.frozen();
         mem::take(&mut self.1);
         mem::forget(self);
         IoBufs(Chunked::of(memory))

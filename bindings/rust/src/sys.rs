@@ -2,7 +2,8 @@
 //!
 //! `unsafe` is in this module and in `owner` alone. `iobufs.h` numbers the duties of a caller, and the comment of each block names
 //! those that it meets. A call is a `safe fn` if its types meet them all:
-//! 1. A handle is of memory that `Memory` made a buffer of. Memory may move. A buffer that isn't dropped only leaks.
+//! 1. A handle is of memory that `Memory` made a buffer of. Memory may move. A buffer that isn't dropped only leaks. A `Blank` is of
+//!    memory that holds none: unless the call returns `OK`, that memory isn't used.
 //! 2. The handles and pointers of one call don't overlap, since an `At` borrows its memory for itself, and a `&mut` its value.
 //! 3. One call at a time uses a buffer, but for calls that only look: these take a `Look`, and the others an `At`.
 //! 4. Pointers to bytes are those of slices, which aren't null and outlive the call.
@@ -29,6 +30,10 @@ pub struct Memory<K: Kind>(UnsafeCell<MaybeUninit<K::Room>>);
 /// A handle for one call: where the memory of a buffer is, which that call may change.
 #[repr(transparent)]
 pub struct At<'a, K: Kind>(*mut MaybeUninit<K::Room>, PhantomData<&'a mut K>);
+
+/// A handle of memory that holds no buffer, for one call, which makes one there.
+#[repr(transparent)]
+pub struct Blank<'a, K: Kind>(*mut MaybeUninit<K::Room>, PhantomData<&'a mut K>);
 
 /// A handle for a call that only looks.
 #[repr(transparent)]
@@ -108,6 +113,28 @@ impl<K: Kind> Memory<K> {
         Memory::filled(|out| call(self.look(), out))
     }
 
+    /// Makes a buffer by a call that makes one of memory, and returns what `then` does too. If the call fails, nothing is made:
+    /// panics with `message`, or ends the process if an allocation of `bytes` bytes failed.
+    ///
+    /// # Safety
+    /// Duty 1: the call makes a buffer of the memory if it returns `OK`, and uses another buffer, for which sizes were compared.
+    #[inline]
+    #[track_caller]
+    pub unsafe fn of_call<R>(
+        call: impl FnOnce(&mut Blank<K>) -> u8,
+        bytes: Option<usize>,
+        message: impl FnOnce() -> &'static str,
+        then: impl FnOnce() -> R,
+    ) -> (Self, R) {
+        let memory = Memory(UnsafeCell::new(MaybeUninit::uninit()));
+        let status = call(&mut Blank(memory.0.get(), PhantomData));
+        if status != OK {
+            crate::failed(status, bytes, message());
+        }
+        let result = then();
+        (memory, result)
+    }
+
     #[inline]
     pub fn at(&mut self) -> At<'_, K> {
         At(self.0.get(), PhantomData)
@@ -141,7 +168,7 @@ unsafe extern "C" {
     safe fn iobuf_chunk(src: &mut Look<Iobuf>, out: &mut *const u8) -> usize;
     pub safe fn iobuf_advance(src: &mut At<Iobuf>, n: usize) -> u8;
     fn iobuf_copy_to_slice(src: &mut At<Iobuf>, dst: *mut u8, n: usize) -> u8;
-    pub safe fn iobuf_try_into_mut(src: &mut At<Iobuf>, out: &mut At<IobufMut>) -> u8;
+    safe fn iobuf_try_into_mut_init(src: &mut At<Iobuf>, out: &mut Blank<IobufMut>) -> u8;
     pub safe fn iobuf_read_length(src: &mut At<Iobuf>, lo: usize, hi: usize, out: &mut usize) -> u8;
     pub safe fn iobuf_get_u8(src: &mut At<Iobuf>, out: &mut u8) -> u8;
     pub safe fn iobuf_get_u16(src: &mut At<Iobuf>, out: &mut u16) -> u8;
@@ -168,7 +195,7 @@ unsafe extern "C" {
     pub safe fn iobufmut_truncate(part: &mut At<IobufMut>, n: usize);
     pub safe fn iobufmut_advance(part: &mut At<IobufMut>, n: usize) -> u8;
     fn iobufmut_copy_to_slice(part: &mut At<IobufMut>, dst: *mut u8, n: usize) -> u8;
-    pub safe fn iobufmut_freeze(part: &mut At<IobufMut>, out: &mut At<Iobuf>) -> u8;
+    safe fn iobufmut_freeze_init(part: &mut At<IobufMut>, out: &mut Blank<Iobuf>) -> u8;
 
     pub safe fn iobufs_drop(text: &mut At<Iobufs>);
     pub safe fn iobufs_len(text: &mut Look<Iobufs>) -> usize;
@@ -200,7 +227,7 @@ unsafe extern "C" {
     pub safe fn iobufsmut_advance(parts: &mut At<IobufsMut>, n: usize) -> u8;
     fn iobufsmut_copy_to_slice(parts: &mut At<IobufsMut>, dst: *mut u8, n: usize) -> u8;
     fn iobufsmut_copy_from_slice(parts: &mut At<IobufsMut>, src: *const u8, n: usize) -> u8;
-    pub safe fn iobufsmut_freeze(parts: &mut At<IobufsMut>, out: &mut At<Iobufs>) -> u8;
+    safe fn iobufsmut_freeze_init(parts: &mut At<IobufsMut>, out: &mut Blank<Iobufs>) -> u8;
     pub safe fn iobufsmut_coalesce(parts: &mut At<IobufsMut>, out: &mut At<IobufMut>) -> u8;
     pub safe fn iobufsmut_try_into_single(parts: &mut At<IobufsMut>, out: &mut At<IobufMut>) -> u8;
 
@@ -278,6 +305,34 @@ of_slices! {
         Iobuf iobuf_copy_to_slice;
         IobufMut iobufmut_copy_to_slice;
         IobufsMut iobufsmut_copy_to_slice;
+    }
+}
+
+impl Memory<Iobuf> {
+    /// Recovers the storage as a buffer to write, if it can; then the view is left empty.
+    #[inline]
+    pub fn recovered(&mut self) -> Option<Memory<IobufMut>> {
+        let memory = Memory(UnsafeCell::new(MaybeUninit::uninit()));
+        // Duty 1: unless the status is `OK`, the memory holds nothing, and isn't used.
+        (iobuf_try_into_mut_init(&mut self.at(), &mut Blank(memory.0.get(), PhantomData)) == OK).then_some(memory)
+    }
+}
+
+impl Memory<IobufMut> {
+    /// Freezes the buffer to a view; none is left.
+    #[inline]
+    pub fn frozen(&mut self) -> Memory<Iobuf> {
+        // SAFETY: duty 1: the call makes a view if it returns `OK`.
+        unsafe { Memory::of_call(|out| iobufmut_freeze_init(&mut self.at(), out), None, || "", || ()).0 }
+    }
+}
+
+impl Memory<IobufsMut> {
+    /// Freezes the buffers to the chunks of one `IoBufs`; none are left.
+    #[inline]
+    pub fn frozen(&mut self) -> Memory<Iobufs> {
+        // SAFETY: duty 1: the call makes an `IoBufs` if it returns `OK`.
+        unsafe { Memory::of_call(|out| iobufsmut_freeze_init(&mut self.at(), out), None, || "", || ()).0 }
     }
 }
 

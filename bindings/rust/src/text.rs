@@ -4,7 +4,7 @@ use crate::owner::Chunked;
 use crate::part::IoBufMut;
 use crate::sys::{self, BATCH, Batch};
 use crate::view::IoBuf;
-use crate::{Error, allocated, bounds, done, equals_bytes, gets, limits, made, read};
+use crate::{Error, allocated, bounds, done, equals_bytes, failed, gets, limits, made, past, read};
 use std::cmp::Ordering;
 use std::hash::{Hash, Hasher};
 use std::io::IoSlice;
@@ -99,8 +99,12 @@ impl IoBufs {
     #[inline]
     #[track_caller]
     pub fn slice(&self, range: impl RangeBounds<usize>) -> Self {
-        let (lo, hi) = bounds(range, self.len());
-        IoBufs(made(self.0.slice(lo, hi), "slice out of bounds"))
+        let (lo, hi) = bounds(range, || self.len());
+        let (slice, status) = self.0.slice(lo, hi);
+        if status != sys::OK {
+            failed(status, None, past(lo, hi));
+        }
+        IoBufs(slice)
     }
 
     /// Keeps at most the first `len` bytes. (own)
@@ -168,7 +172,7 @@ impl IoBufs {
     #[inline]
     #[track_caller]
     pub fn split_to(&mut self, at: usize) -> Self {
-        IoBufs(made(self.0.split_to(at), "split_to out of bounds"))
+        IoBufs(self.0.split_to(at, "split_to out of bounds"))
     }
 
     /// Coalesces the chunks into one view, with a copy of several.
@@ -209,9 +213,7 @@ impl IoBufs {
     #[inline]
     #[track_caller]
     pub fn take_owned(&mut self, n: usize) -> IoBuf {
-        let (view, status) = self.0.take(n);
-        allocated(status, n, "take_owned out of bounds");
-        IoBuf(view)
+        IoBuf(self.0.take(n, "take_owned out of bounds"))
     }
 
     gets! {

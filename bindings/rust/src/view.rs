@@ -2,21 +2,12 @@
 #![forbid(unsafe_code)]
 use crate::owner::View;
 use crate::part::IoBufMut;
-use crate::{AllocError, Error, allocated, bounds, derefs, done, equals_bytes, gets, limits, read, sys, tried};
+use crate::{AllocError, Error, allocated, bounds, derefs, done, equals_bytes, gets, limits, past, read, sys, tried};
 use std::borrow::Borrow;
 use std::cmp::Ordering;
 use std::hash::{Hash, Hasher};
 use std::mem;
-use std::ops::{Bound, RangeBounds};
-
-/// Returns the kind of a bound (`enum iobufs_bound`), and its number.
-fn bound(bound: Bound<&usize>) -> (u8, usize) {
-    match bound {
-        Bound::Included(n) => (0, *n),
-        Bound::Excluded(n) => (1, *n),
-        Bound::Unbounded => (2, 0),
-    }
-}
+use std::ops::RangeBounds;
 
 /// Read-only bytes in one chunk. Clones, slices and both sides of a split share their storage.
 ///
@@ -77,20 +68,15 @@ impl IoBuf {
     #[inline]
     #[track_caller]
     pub fn slice(&self, range: impl RangeBounds<usize>) -> Self {
-        let ((lo_kind, lo), (hi_kind, hi)) = (bound(range.start_bound()), bound(range.end_bound()));
-        IoBuf(self.0.slice(lo_kind, lo, hi_kind, hi, |status| {
-            if status != sys::OK {
-                bounds(range, self.len());
-                done(status, "slice out of bounds");
-            }
-        }))
+        let (lo, hi) = bounds(range, || self.len());
+        IoBuf(self.0.slice(lo, hi, || past(lo, hi)))
     }
 
     /// Takes the first `at` bytes, in the same storage. Panics if there are fewer.
     #[inline]
     #[track_caller]
     pub fn split_to(&mut self, at: usize) -> Self {
-        IoBuf(self.0.split_to(at, |status| done(status, "split_to out of bounds")))
+        IoBuf(self.0.split_to(at, "split_to out of bounds"))
     }
 
     /// Takes the bytes from `at` on, in the same storage. Panics if there are fewer. (own)
@@ -120,11 +106,11 @@ impl IoBuf {
             return self.copy_of_vec().ok_or(self);
         }
         match self.0.recovered() {
-            (memory, sys::OK) => {
+            Some(memory) => {
                 mem::forget(self);
                 Ok(IoBufMut::of(memory))
             }
-            _ => Err(self),
+            None => Err(self),
         }
     }
 
@@ -164,7 +150,7 @@ impl IoBuf {
     #[inline]
     #[track_caller]
     pub fn take_owned(&mut self, n: usize) -> IoBuf {
-        IoBuf(self.0.take(n, |status| done(status, "take_owned out of bounds")))
+        IoBuf(self.0.split_to(n, "take_owned out of bounds"))
     }
 
     gets! {
@@ -185,7 +171,7 @@ impl Default for IoBuf {
 impl Clone for IoBuf {
     #[inline]
     fn clone(&self) -> Self {
-        IoBuf(self.0.same(|status| done(status, "")))
+        IoBuf(self.0.same())
     }
 }
 

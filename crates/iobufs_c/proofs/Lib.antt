@@ -1,3 +1,4 @@
 mod Chunks
+mod Makes
 mod Places
 mod Rooms

@@ -10,7 +10,7 @@ ghost use Rattle.iobufs_c.specs.Codes.{IsDoneUnless, code_of};
 ghost use Rattle.iobufs_c.specs.Rows.{part_or_empty, part_row, part_written_at};
 
 use crate::status::{Status, refusal};
-use crate::view::ViewAt;
+use crate::view::{ViewAt, ViewRoom};
 use iobufs_core::buf::{IoBuf, IoBufMut};
 use iobufs_core::codec::{Buf, BufError, BufMut};
 use std::alloc::Global;
@@ -44,6 +44,32 @@ impl PartAt {
         ensures value { result.now ≡ self.old.value }
     {
         unsafe { &mut *(self.at as *mut Option<IoBufMut>) }
+    }
+}
+
+/// The handle of memory for a writable buffer: of one that isn't made yet, or of a buffer, or of none.
+#[repr(C)]
+pub struct PartRoom {
+    at: *mut u8,
+    ghost value: { Option (Option Part) },
+}
+
+impl Model for PartRoom {
+    ghost use Rattle.iobufs_c.specs.Rows.{may_lie_at, part_row};
+
+    ghost also_owns = { λ h. may_lie_at part_row h.at h.value };
+}
+
+// It may go to another thread (proofs/part/PartRoom/TheSendSync).
+unsafe impl Send for PartRoom {}
+
+impl PartRoom {
+    /// Makes a buffer of memory that holds none.
+    pub(crate) fn make(&mut self, part: Option<IoBufMut>)
+        requires { self.old.value ≡ None }
+        ensures { (self.new.at ≡ self.old.at) × (self.new.value ≡ Some part) }
+    {
+        unsafe { (self.at as *mut Option<IoBufMut>).write(part) }
     }
 }
 
@@ -210,6 +236,28 @@ pub extern "C" fn iobuf_try_into_mut(alloc: Global, src: &mut ViewAt, out: &mut 
             Status::Declined.code()
         }
     }
+}
+
+/// Recovers a view as `iobuf_try_into_mut` does, into memory that holds no buffer.
+#[unsafe(no_mangle)]
+pub extern "C" fn iobuf_try_into_mut_init(alloc: Global, src: &mut ViewAt, out: &mut PartRoom) -> u8
+    requires { out.old.value ≡ None }
+    ensures at { (src.new.at ≡ src.old.at) × (out.new.at ≡ out.old.at) }
+    ensures recovered { result ≡ 0 → (src.new.value ≡ default_view) × MatchOption out.new.value ⊥ (λ made.
+        MatchOption made ⊥ (λ part. IsRecovery src.old.value (Ok part))) }
+    ensures declined { (result == 0) ≡ false → (src.new.value ≡ src.old.value) × (out.new.value ≡ None)
+        × IsRecovery src.old.value (Err src.old.value) }
+    ensures result { IsDoneUnless result Status.Declined }
+{
+    let part = match mem::take(src.get()).try_into_mut(alloc) {
+        Ok(part) => part,
+        Err(view) => {
+            *src.get() = view;
+            return Status::Declined.code();
+        }
+    };
+    out.make(Some(part));
+    Status::Done.code()
 }
 
 /// Makes a writable buffer of a view, recovered as by `iobuf_try_into_mut`, else copied, and leaves the empty view. Returns
@@ -483,4 +531,25 @@ pub extern "C" fn iobufmut_freeze(part: &mut PartAt, out: &mut ViewAt) -> u8
         }
         Err(_) => Status::Memory.code(),
     }
+}
+
+/// Freezes the buffer as `iobufmut_freeze` does, into memory that holds no view.
+#[unsafe(no_mangle)]
+pub extern "C" fn iobufmut_freeze_init(part: &mut PartAt, out: &mut ViewRoom) -> u8
+    requires { out.old.value ≡ None }
+    ensures at { (part.new.at ≡ part.old.at) × (out.new.at ≡ out.old.at) }
+    ensures part { part.new.value ≡ None }
+    ensures value { out.new.value ≡ (if result == 0 then Some (part_frozen (part_or_empty part.old.value)) else None) }
+    ensures memory { IsDoneUnless result Status.Memory }
+    ensures nothing { length (part_or_empty part.old.value).filled ≡ 0 → result ≡ 0 }
+{
+    let Some(part) = mem::replace(part.get(), None) else {
+        out.make(IoBuf::default());
+        return Status::Done.code();
+    };
+    let Ok(view) = part.freeze() else {
+        return Status::Memory.code();
+    };
+    out.make(view);
+    Status::Done.code()
 }

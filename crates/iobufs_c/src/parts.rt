@@ -11,7 +11,7 @@ ghost use Rattle.iobufs_c.specs.Rows.{chunk_len, held_parts, parts_of, parts_row
 
 use crate::part::{PartAt, fits};
 use crate::status::{Status, refusal};
-use crate::text::{Chunk, TextAt, chunk_of};
+use crate::text::{Chunk, TextAt, TextRoom, chunk_of};
 use iobufs::bufs::IoBufs;
 use iobufs::bufs_mut::IoBufsMut;
 use iobufs_core::buf::IoBufMut;
@@ -463,6 +463,31 @@ pub extern "C" fn iobufsmut_freeze(alloc: Global, parts: &mut PartsAt, out: &mut
         }
         Err(_) => Status::Memory.code(),
     }
+}
+
+/// Freezes the buffers as `iobufsmut_freeze` does, into memory that holds no `IoBufs`.
+#[unsafe(no_mangle)]
+pub extern "C" fn iobufsmut_freeze_init(
+    alloc: Global,
+    parts: &mut PartsAt,
+    out: &mut TextRoom,
+) -> u8
+    requires { out.old.value ≡ None }
+    ensures at { (parts.new.at ≡ parts.old.at) × (out.new.at ≡ out.old.at) }
+    ensures parts { parts.new.value ≡ None }
+    ensures value { out.new.value ≡ (if result == 0 then Some (parts_frozen (parts_of parts.old.value)) else None) }
+    ensures memory { IsDoneUnless result Status.Memory }
+    ensures nothing { length (parts_filled (parts_of parts.old.value)) ≡ 0 → result ≡ 0 }
+{
+    let Some(parts) = mem::replace(parts.get(), None) else {
+        out.make(IoBufs::default());
+        return Status::Done.code();
+    };
+    let Ok(text) = parts.freeze(alloc) else {
+        return Status::Memory.code();
+    };
+    out.make(text);
+    Status::Done.code()
 }
 
 /// Coalesces the buffers into one, with a copy of several; none are left. Returns `Status::BadLayout` or `Status::Memory` if

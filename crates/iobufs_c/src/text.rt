@@ -1,5 +1,5 @@
 // Bytes in several chunks, reached by their handles.
-ghost use Rattle.std.specs.Prelude.{◌≡◌, ◌+◌, ◌-◌, ◌≤◌, ◌<◌, ◌^◌, ◌==◌, if◌then◌else◌, length, take, drop, map, min, nat_le, slice_get, Ok, Err, Some, None, true, false};
+ghost use Rattle.std.specs.Prelude.{◌≡◌, ◌+◌, ◌-◌, ◌≤◌, ◌<◌, ◌^◌, ◌==◌, if◌then◌else◌, length, take, drop, map, min, nat_le, slice_get, Ok, Err, Option, Some, None, true, false};
 ghost use Rattle.std.specs.Borrow.{sem, Lends, full_share};
 ghost use Rattle.std.specs.Ptr.{lies_at, room_at};
 ghost use Rattle.iobufs.specs.Located.{greatest_key, keys_upto};
@@ -13,7 +13,7 @@ ghost use Rattle.iobufs_c.specs.Rows.{chunk_len, part_or_empty};
 
 use crate::part::PartAt;
 use crate::status::{Status, refusal};
-use crate::view::ViewAt;
+use crate::view::{ViewAt, ViewRoom};
 use iobufs::bufs::IoBufs;
 use iobufs_core::buf::IoBuf;
 use iobufs_core::codec::{Buf, OwnedBuf};
@@ -48,6 +48,33 @@ impl TextAt {
         ensures value { result.now ≡ self.old.value }
     {
         unsafe { &mut *(self.at as *mut IoBufs) }
+    }
+}
+
+/// The handle of memory for an `IoBufs`: of one that isn't made yet, or of an `IoBufs`.
+#[repr(C)]
+pub struct TextRoom {
+    at: *mut u8,
+    ghost value: { Option MarkedText },
+}
+
+impl Model for TextRoom {
+    ghost use Rattle.iobufs.specs.contracts.bufs.IoBufs.{the_row as text_row};
+    ghost use Rattle.iobufs_c.specs.Rows.{may_lie_at};
+
+    ghost also_owns = { λ h. may_lie_at text_row h.at h.value };
+}
+
+// It may go to another thread (proofs/text/TextRoom/TheSendSync).
+unsafe impl Send for TextRoom {}
+
+impl TextRoom {
+    /// Makes an `IoBufs` of memory that holds none.
+    pub(crate) fn make(&mut self, text: IoBufs)
+        requires { self.old.value ≡ None }
+        ensures { (self.new.at ≡ self.old.at) × (self.new.value ≡ Some text) }
+    {
+        unsafe { (self.at as *mut IoBufs).write(text) }
     }
 }
 
@@ -329,6 +356,34 @@ pub extern "C" fn iobufs_split_to(
     }
 }
 
+/// Splits the first bytes off into memory that holds no `IoBufs`, as `iobufs_split_to` does.
+#[unsafe(no_mangle)]
+pub extern "C" fn iobufs_split_to_init(
+    alloc: Global,
+    text: &mut TextAt,
+    at: usize,
+    out: &mut TextRoom,
+) -> u8
+    requires { out.old.value ≡ None }
+    ensures at { (text.new.at ≡ text.old.at) × (out.new.at ≡ out.old.at) }
+    ensures text { text.new.value ≡ (if result == 0 then text_rest text.old.value at else text.old.value) }
+    ensures out { out.new.value ≡ (if result == 0 then Some (text_split_front text.old.value at) else None) }
+    ensures outside { text_len text.old.value < at → result ≡ code_of Status.OutOfRange }
+    ensures inside { at ≤ text_len text.old.value → IsDoneUnless result Status.Memory }
+    ensures nothing { at ≡ 0 → result ≡ 0 }
+    ensures whole { at ≡ text_len text.old.value → result ≡ 0 }
+{
+    let text = text.get();
+    if at > text.len() {
+        return Status::OutOfRange.code();
+    }
+    let Ok(front) = text.split_to(alloc, at) else {
+        return Status::Memory.code();
+    };
+    out.make(front);
+    Status::Done.code()
+}
+
 /// Clones the chunks of a range, in their storage. Returns `Status::OutOfRange` if it isn't within the bytes, or
 /// `Status::Memory`; then `out` is unchanged.
 #[unsafe(no_mangle)]
@@ -430,6 +485,33 @@ pub extern "C" fn iobufs_take(alloc: Global, text: &mut TextAt, n: usize, out: &
         }
         Err(_) => Status::Memory.code(),
     }
+}
+
+/// Takes the first bytes as `iobufs_take` does, into memory that holds no view.
+#[unsafe(no_mangle)]
+pub extern "C" fn iobufs_take_init(
+    alloc: Global,
+    text: &mut TextAt,
+    n: usize,
+    out: &mut ViewRoom,
+) -> u8
+    requires { out.old.value ≡ None }
+    ensures at { (text.new.at ≡ text.old.at) × (out.new.at ≡ out.old.at) }
+    ensures text { text.new.value ≡ (if result == 0 then text_rest text.old.value n else text.old.value) }
+    ensures out { out.new.value ≡ (if result == 0 then Some (taken_view text.old.value 0 n) else None) }
+    ensures outside { text_len text.old.value < n → result ≡ code_of Status.EndOfBuffer }
+    ensures inside { n ≤ text_len text.old.value → IsDoneUnless result Status.Memory }
+    ensures nothing { n ≡ 0 → result ≡ 0 }
+{
+    let text = text.get();
+    if n > text.len() {
+        return Status::EndOfBuffer.code();
+    }
+    let Ok(view) = text.take_owned::<IoBuf>(alloc, n) else {
+        return Status::Memory.code();
+    };
+    out.make(view);
+    Status::Done.code()
 }
 
 /// Takes the `n` bytes after the first `skip`, which are dropped too, as `iobufs_take` does.

@@ -1,10 +1,11 @@
 // Views, reached by their handles.
-ghost use Rattle.std.specs.Prelude.{◌≡◌, ◌≤◌, ◌<◌, ◌==◌, if◌then◌else◌, length, take, nat_le, slice_get, Some, None, true, false, IfNone, IfSome};
+ghost use Rattle.std.specs.Prelude.{◌≡◌, ◌≤◌, ◌<◌, ◌==◌, if◌then◌else◌, length, take, nat_le, slice_get, Option, Some, None, true, false, IfNone, IfSome};
 ghost use Rattle.std.specs.Borrow.{sem, Lends, full_share};
 ghost use Rattle.std.specs.Ptr.{lies_at, room_at};
 ghost use Rattle.iobufs_core.specs.MarkedText.{of_view, taken_view};
 ghost use Rattle.iobufs_core.specs.View.{View, default_view, range_fits, static_mark, native_mark, view_advanced, view_rest, view_slice, view_split_front};
 ghost use Rattle.iobufs_core.specs.contracts.buf.view.IoBuf.{the_row as view_row};
+ghost use Rattle.std.specs.declared.ops.Bound.TheVariants.{Included, Excluded};
 ghost use Rattle.iobufs_c.specs.Codes.{IsDoneUnless, code_of};
 ghost use Rattle.iobufs_c.specs.Rows.{bound_from_c};
 
@@ -43,6 +44,33 @@ impl ViewAt {
         ensures value { result.now ≡ self.old.value }
     {
         unsafe { &mut *(self.at as *mut IoBuf) }
+    }
+}
+
+/// The handle of memory for a view: of one that isn't made yet, or of a view.
+#[repr(C)]
+pub struct ViewRoom {
+    at: *mut u8,
+    ghost value: { Option View },
+}
+
+impl Model for ViewRoom {
+    ghost use Rattle.iobufs_core.specs.contracts.buf.view.IoBuf.{the_row as view_row};
+    ghost use Rattle.iobufs_c.specs.Rows.{may_lie_at};
+
+    ghost also_owns = { λ h. may_lie_at view_row h.at h.value };
+}
+
+// It may go to another thread (proofs/view/ViewRoom/TheSendSync).
+unsafe impl Send for ViewRoom {}
+
+impl ViewRoom {
+    /// Makes a view of memory that holds none.
+    pub(crate) fn make(&mut self, view: IoBuf)
+        requires { self.old.value ≡ None }
+        ensures { (self.new.at ≡ self.old.at) × (self.new.value ≡ Some view) }
+    {
+        unsafe { (self.at as *mut IoBuf).write(view) }
     }
 }
 
@@ -160,6 +188,22 @@ pub extern "C" fn iobuf_clone(src: &mut ViewAt, out: &mut ViewAt) -> u8
     }
 }
 
+/// Clones a view into memory that holds none, as `iobuf_clone` does.
+#[unsafe(no_mangle)]
+pub extern "C" fn iobuf_clone_init(src: &mut ViewAt, out: &mut ViewRoom) -> u8
+    requires { out.old.value ≡ None }
+    ensures same { (src.new.at ≡ src.old.at) × (src.new.value ≡ src.old.value) }
+    ensures at { out.new.at ≡ out.old.at }
+    ensures value { out.new.value ≡ (if result == 0 then Some src.old.value else None) }
+    ensures memory { IsDoneUnless result Status.Memory }
+{
+    let Ok(view) = src.get().clone() else {
+        return Status::Memory.code();
+    };
+    out.make(view);
+    Status::Done.code()
+}
+
 /// Drops the first bytes. Returns `Status::OutOfRange` if there are fewer; then nothing changes.
 #[unsafe(no_mangle)]
 pub extern "C" fn iobuf_advance(src: &mut ViewAt, n: usize) -> u8
@@ -198,6 +242,29 @@ pub extern "C" fn iobuf_split_to(src: &mut ViewAt, at: usize, out: &mut ViewAt) 
         }
         Err(_) => Status::Memory.code(),
     }
+}
+
+/// Splits the first bytes off into memory that holds no view, as `iobuf_split_to` does.
+#[unsafe(no_mangle)]
+pub extern "C" fn iobuf_split_to_init(src: &mut ViewAt, at: usize, out: &mut ViewRoom) -> u8
+    requires { out.old.value ≡ None }
+    ensures at { (src.new.at ≡ src.old.at) × (out.new.at ≡ out.old.at) }
+    ensures src { src.new.value ≡ (if result == 0 then view_rest src.old.value at else src.old.value) }
+    ensures out { out.new.value ≡ (if result == 0 then Some (view_split_front src.old.value at) else None) }
+    ensures outside { length src.old.value.bytes < at → result ≡ code_of Status.OutOfRange }
+    ensures inside { at ≤ length src.old.value.bytes → IsDoneUnless result Status.Memory }
+    ensures nothing { at ≡ 0 → result ≡ 0 }
+    ensures whole { at ≡ length src.old.value.bytes → result ≡ 0 }
+{
+    let view = src.get();
+    if at > view.len() {
+        return Status::OutOfRange.code();
+    }
+    let Ok(front) = view.split_to(at) else {
+        return Status::Memory.code();
+    };
+    out.make(front);
+    Status::Done.code()
 }
 
 /// Takes the first bytes as a view of its own. Returns `Status::EndOfBuffer` if there are fewer, or `Status::Memory`; then
@@ -288,6 +355,29 @@ pub extern "C" fn iobuf_slice(
         }
         Err(_) => Status::Memory.code(),
     }
+}
+
+/// Makes a view of the bytes from `lo` to `hi`, in the same storage, of memory that holds none. Returns `Status::OutOfRange`
+/// if they aren't within the bytes, or `Status::Memory`; then there is none.
+#[unsafe(no_mangle)]
+pub extern "C" fn iobuf_slice_init(src: &mut ViewAt, lo: usize, hi: usize, out: &mut ViewRoom) -> u8
+    requires { out.old.value ≡ None }
+    ensures at { (src.new.at ≡ src.old.at) × (out.new.at ≡ out.old.at) }
+    ensures same { src.new.value ≡ src.old.value }
+    ensures out { out.new.value ≡ (if result == 0 then Some (view_slice src.old.value (Included lo) (Excluded hi)) else None) }
+    ensures backwards { hi < lo → result ≡ code_of Status.OutOfRange }
+    ensures outside { length src.old.value.bytes < hi → result ≡ code_of Status.OutOfRange }
+    ensures inside { lo ≤ hi → hi ≤ length src.old.value.bytes → IsDoneUnless result Status.Memory }
+{
+    let view = src.get();
+    if lo > hi || hi > view.len() {
+        return Status::OutOfRange.code();
+    }
+    let Ok(slice) = view.slice(Bound::Included(lo), Bound::Excluded(hi)) else {
+        return Status::Memory.code();
+    };
+    out.make(slice);
+    Status::Done.code()
 }
 
 /// Makes a view of bytes that live, unchanged, until the last buffer made of them is dropped. The contract takes them for
