@@ -267,6 +267,14 @@ static void texts(void) {
     CHECK(iobufs_copy_to_slice(&t, out, 2) == IOBUFS_OK && !memcmp(out, "ef", 2) && text_is(&t, "ghi"));
     uint8_t more[4];
     CHECK(iobufs_copy_to_slice(&t, more, 4) == IOBUFS_END_OF_BUFFER && text_is(&t, "ghi"));
+    uint8_t all[12] = "............";
+    CHECK(iobufs_peek(&u, 13, all, 0) == IOBUFS_END_OF_BUFFER && iobufs_peek(&u, 1, all, 12) == IOBUFS_END_OF_BUFFER);
+    CHECK(iobufs_peek(&u, SIZE_MAX, all, 2) == IOBUFS_END_OF_BUFFER && all[0] == '.' && all[11] == '.');
+    OK(iobufs_peek(&u, 12, all, 0));
+    OK(iobufs_peek(&u, 9, all, 3));
+    CHECK(!memcmp(all, "lda.", 4));
+    OK(iobufs_peek(&u, 0, all, iobufs_len(&u)));
+    CHECK(!memcmp(all, "hello worlda", 12) && text_is(&u, "hello worlda"));
     CHECK(iobufs_take(&u, 13, &v) == IOBUFS_END_OF_BUFFER);
     OK(iobufs_take(&u, 5, &v));
     CHECK(view_is(&v, "hello") && text_is(&u, " worlda"));

@@ -318,6 +318,9 @@ IOBUFS_CHECKED iobufs_status iobufs_advance(struct iobufs_at *bufs, size_t n);
 IOBUFS_CHECKED iobufs_status iobufs_truncate(struct iobufs_at *bufs, size_t n);
 /* Copies the first n bytes out and drops them; IOBUFS_END_OF_BUFFER if there are fewer. (Buf::copy_to_slice) */
 IOBUFS_CHECKED iobufs_status iobufs_copy_to_slice(struct iobufs_at *bufs, uint8_t *dst, size_t n);
+/* Copies the n bytes after the first `skip` out, of which none is dropped; IOBUFS_END_OF_BUFFER if there are fewer, and nothing is
+ * written. With 0 and iobufs_len it copies all. (own) */
+IOBUFS_CHECKED iobufs_status iobufs_peek(const struct iobufs_at *bufs, size_t skip, uint8_t *dst, size_t n);
 /* Takes the first n bytes as one view: shared within a chunk, a copy (memory) across chunks; IOBUFS_END_OF_BUFFER
  * if there are fewer. (take_owned, Buf::copy_to_bytes) */
 IOBUFS_CHECKED iobufs_status iobufs_take(struct iobufs_at *bufs, size_t n, struct iobuf_at *out);

@@ -16,7 +16,7 @@ use crate::status::{Status, refusal};
 use crate::view::{ViewAt, ViewRoom};
 use iobufs::bufs::IoBufs;
 use iobufs_core::buf::IoBuf;
-use iobufs_core::codec::{Buf, OwnedBuf};
+use iobufs_core::codec::{Buf, OwnedBuf, Peek};
 use std::alloc::Global;
 use std::marker::{Model, Send};
 use std::{mem, ptr};
@@ -460,6 +460,23 @@ pub extern "C" fn iobufs_copy_to_slice(text: &mut TextAt, dst: &mut [u8]) -> u8
         return Status::EndOfBuffer.code();
     }
     text.copy_to_slice(dst);
+    Status::Done.code()
+}
+
+/// Copies the bytes after the first `skip` out; none are dropped. Returns `Status::EndOfBuffer` if there are fewer; then nothing
+/// is written.
+#[unsafe(no_mangle)]
+pub extern "C" fn iobufs_peek(text: &mut TextAt, skip: usize, dst: &mut [u8]) -> u8
+    ensures same { (text.new.at ≡ text.old.at) × (text.new.value ≡ text.old.value) }
+    ensures bytes { dst.new ≡ (if nat_le (skip + length dst.old) (text_len text.old.value) then take (length dst.old) (drop skip text.old.value.bytes) else dst.old) }
+    ensures result { result ≡ (if nat_le (skip + length dst.old) (text_len text.old.value) then 0 else code_of Status.EndOfBuffer) }
+{
+    let text = text.get();
+    let len = text.len();
+    if skip > len || dst.len() > len - skip {
+        return Status::EndOfBuffer.code();
+    }
+    text.peek_slice(skip, dst);
     Status::Done.code()
 }
 
