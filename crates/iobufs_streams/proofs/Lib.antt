@@ -1,3 +1,4 @@
 pub mod EchoLaws
+pub mod OnceLaws
 pub mod StreamLaws
 pub mod UnsentLaws
