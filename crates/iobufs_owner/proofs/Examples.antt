@@ -1,8 +1,9 @@
 -- Answers that are no step of the machine, by the definitions.
-use Rattle.std.specs.Prelude.{◌≡◌, false, [], ◌∷◌, None, Some, refl}
+use Rattle.std.specs.Prelude.{◌≡◌, true, false, [], ◌∷◌, None, Some, refl}
 use Rattle.std.proofs.Common.{inl, inr, subst, sym}
-use Rattle.iobufs_owner.specs.Types.{View, Begin, Drop, Put, TryIntoMut, Memory, Done, Declined, Refused}
-use Rattle.iobufs_owner.specs.World.{World, LiveHandle, holders}
+use Rattle.iobufs_owner.specs.Types.{View, Begin, Drop, Go, New, Put, TryIntoMut, Memory, Done, Declined, Made, Refused}
+use Rattle.iobufs_owner.specs.Places.{is_power_below}
+use Rattle.iobufs_owner.specs.World.{World, LiveHandle, Sharing, holders}
 use Rattle.iobufs_owner.specs.Steps.{Steps, Begins, DropIs, RecoverIs, native_block}
 
 -- a view of four bytes, the only handle of a block of eight
@@ -35,3 +36,23 @@ sole_holder_is_not_declined next (x, held, recovers) =
 -- nothing is put into a view
 view_takes_no_put : (next : World) → Steps one (record { thread = 0; act = Begin (Put 0 1) false }) Done next → ⊥
 view_takes_no_put next step = absurd (let e = step.0 in cc)
+
+-- a step that is granted memory isn't refused for it
+granted_memory_is_there : (next : World) → Steps one (record { thread = 0; act = Begin (New 8 4 1) true }) (Refused Memory) next → ⊥
+unfolding Begins is_power_below
+granted_memory_is_there next step = elim step [ inl full ↦ absurd (let e = full.0 in cc) | inr made ↦ absurd (let e = made.0 in cc) ]
+
+-- two views of a block that may have one holder, and the last step of a clone
+abbrev over : World
+over = record {
+  ceiling = 1;
+  blocks = native_block 0 8 1 ∷ [];
+  freed = false ∷ [];
+  handles = Some view ∷ Some view ∷ [];
+  calls = Some (Sharing 0 0 4 1) ∷ [];
+}
+
+-- one holder too many isn't passed by another
+ceiling_is_not_passed_again : (next : World) → Steps over (record { thread = 0; act = Go true }) (Made 2) next → ⊥
+unfolding holders
+ceiling_is_not_passed_again next step = absurd (let e = step.0 in cc)
