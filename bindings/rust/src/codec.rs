@@ -248,6 +248,16 @@ impl Input for IoBufsMut {
     type Buf = IoBufs;
 }
 
+#[cfg(feature = "bytes")]
+impl Input for bytes::Bytes {
+    type Buf = IoBuf;
+}
+
+#[cfg(feature = "bytes")]
+impl Input for bytes::BytesMut {
+    type Buf = IoBuf;
+}
+
 /// Decoding of a whole buffer.
 pub trait Decode: Read {
     /// Reads the value that is all of the buffer. Returns `Error::ExtraData` if bytes are left after it.
@@ -263,15 +273,22 @@ pub trait Decode: Read {
 
 impl<T: Read> Decode for T {}
 
+/// A result of `encode`: with the feature `bytes` a `Bytes`, as the original's.
+#[cfg(feature = "bytes")]
+pub type Encoded = bytes::Bytes;
+/// A result of `encode`: without the feature `bytes` an `IoBufMut`.
+#[cfg(not(feature = "bytes"))]
+pub type Encoded = IoBufMut;
+
 /// Encoding into one buffer.
 pub trait Encode: EncodeSize + Write {
     /// Writes the value into a buffer of exactly its size.
     #[track_caller]
-    fn encode(&self) -> IoBufMut {
+    fn encode(&self) -> Encoded {
         let mut buf = IoBufMut::with_capacity(self.encode_size());
         self.write(&mut buf);
         assert_eq!(buf.remaining_mut(), 0, "write() must write exactly encode_size() bytes");
-        buf
+        buf.into()
     }
 }
 

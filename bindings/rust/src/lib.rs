@@ -30,8 +30,8 @@
 //! becomes a view, and a view a `Bytes`, without a copy. Bytes that are put by `chunk_mut` and `advance_mut` are copied once more
 //! than by `put_slice`, since the library lends no space that isn't readable.
 //!
-//! These differ from the original: the method `copy_to_bytes` returns an `IoBuf` (that of the trait a `Bytes`); `set_len` is
-//! safe, and new bytes are zero; an alignment is tested and not promised; `put` of any reader needs the feature. `as_mut_ptr` is
+//! These differ from the original: `copy_to_bytes` and `encode` return a `Bytes` with the feature alone, otherwise an `IoBuf` and an
+//! `IoBufMut`; `TryGetError` is this crate's, since that of `bytes` begins with its version 1.10; `set_len` is safe, and new bytes are zero; an alignment is tested and not promised; `put` of any reader needs the feature. `as_mut_ptr` is
 //! missing, since space that isn't readable has no address here: in place of writing there before `set_len(n)`, put the bytes, or
 //! call `set_len(n)` first and write over the zeros by `as_mut()`. Values (`codec`) are numbers, lengths, views, and types of a
 //! caller's own.
@@ -40,6 +40,8 @@
 //! never change. `ignore-interior-mutability = ["iobufs::IoBuf"]` in `clippy.toml` says so.
 #![deny(unsafe_code)]
 #![warn(clippy::undocumented_unsafe_blocks)]
+// Without the feature, `Taken` and `Encoded` are the types that they are made of.
+#![cfg_attr(not(feature = "bytes"), allow(clippy::useless_conversion))]
 
 pub mod codec;
 mod io;
@@ -77,6 +79,13 @@ impl Scratch {
 use std::alloc::{self, Layout};
 use std::ops::{Bound, RangeBounds};
 use std::{fmt, process};
+
+/// A result of `copy_to_bytes`: with the feature `bytes` a `Bytes`, as the original's.
+#[cfg(feature = "bytes")]
+pub type Taken = bytes::Bytes;
+/// A result of `copy_to_bytes`: without the feature `bytes` an `IoBuf`.
+#[cfg(not(feature = "bytes"))]
+pub type Taken = IoBuf;
 
 /// The original's message for bytes that don't fit, or aren't there.
 const PAST: &str = "cannot advance past end of buffer";
@@ -439,11 +448,11 @@ macro_rules! gets {
 
         crate::try_copy!();
 
-        /// `take_owned`, by the name that the original has for a result of `Bytes`.
+        /// Takes the first `n` bytes, as `take_owned` does: shared within a chunk, copied across chunks. Panics if there are fewer (`Buf`).
         #[track_caller]
-        pub fn copy_to_bytes(&mut self, n: usize) -> IoBuf {
+        pub fn copy_to_bytes(&mut self, n: usize) -> crate::Taken {
             assert!(n <= self.len(), "copy_to_bytes out of bounds");
-            self.take_owned(n)
+            self.take_owned(n).into()
         }
 
         $(

@@ -3,7 +3,7 @@
 use crate::owner::View;
 use crate::sys::{self, At, Memory};
 use crate::view::IoBuf;
-use crate::{AllocError, PAST, Scratch, allocated, derefs, done, equals_bytes, puts, tried, try_copy};
+use crate::{AllocError, PAST, Scratch, Taken, allocated, derefs, done, equals_bytes, puts, tried, try_copy};
 use std::mem;
 use std::num::NonZeroUsize;
 
@@ -172,14 +172,14 @@ impl IoBufMut {
 
     /// Takes the first `n` bytes: the whole buffer without a copy, fewer as a copy. Panics if there are fewer (`Buf`).
     #[track_caller]
-    pub fn copy_to_bytes(&mut self, n: usize) -> IoBuf {
+    pub fn copy_to_bytes(&mut self, n: usize) -> Taken {
         assert!(n <= self.len(), "copy_to_bytes out of bounds");
         if n > 0 && n == self.len() {
-            return mem::take(self).freeze();
+            return mem::take(self).freeze().into();
         }
         let out = IoBuf::copy_from_slice(&self.as_ref()[..n]);
         self.advance(n);
-        out
+        out.into()
     }
 
     try_copy!();

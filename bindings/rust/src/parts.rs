@@ -5,7 +5,7 @@ use crate::part::IoBufMut;
 use crate::sys::{self, At, Memory};
 use crate::text::IoBufs;
 use crate::view::IoBuf;
-use crate::{PAST, SHOWN, Scratch, allocated, done, made, puts, show, try_copy};
+use crate::{PAST, SHOWN, Scratch, Taken, allocated, done, made, puts, show, try_copy};
 use std::io::IoSlice;
 use std::{fmt, mem};
 
@@ -40,6 +40,16 @@ impl IoBufsMut {
     #[inline]
     pub fn is_single(&self) -> bool {
         sys::iobufsmut_is_single(&mut self.0.look())
+    }
+
+    /// Returns the bytes of the only buffer, if there is just one. The original returns the buffer, which the library keeps to itself.
+    pub fn as_single(&self) -> Option<&[u8]> {
+        self.is_single().then(|| self.chunk())
+    }
+
+    /// Returns the bytes of the only buffer, to be written over, if there is just one.
+    pub fn as_single_mut(&mut self) -> Option<&mut [u8]> {
+        self.is_single().then(|| self.0.at().chunk_mut())
     }
 
     /// Returns how many bytes fit, counted from the first readable one.
@@ -125,11 +135,11 @@ impl IoBufsMut {
 
     /// Copies the first `n` bytes, which are dropped. Panics if there are fewer (`Buf`).
     #[track_caller]
-    pub fn copy_to_bytes(&mut self, n: usize) -> IoBuf {
+    pub fn copy_to_bytes(&mut self, n: usize) -> Taken {
         assert!(n <= self.len(), "IoBufsMut::copy_to_bytes: not enough data");
         let mut out = IoBufMut::zeroed(n);
         self.copy_to_slice(out.as_mut());
-        out.freeze()
+        out.freeze().into()
     }
 
     try_copy!();

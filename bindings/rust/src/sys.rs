@@ -371,15 +371,25 @@ chunks! {
     IobufsMut iobufsmut_chunk;
 }
 
-impl<'a> At<'a, IobufMut> {
-    /// Returns the bytes, to be written over.
-    #[inline]
-    pub fn chunk_mut(self) -> &'a mut [u8] {
-        let (mut look, mut at) = (Look(self.0, PhantomData), NO_BYTES);
-        let n = iobufmut_chunk(&mut look, &mut at);
-        // SAFETY: duty 5: as in `chunk`; these bytes may be written over too, and `'a` borrows the buffer for itself.
-        unsafe { slice::from_raw_parts_mut(at.cast_mut(), n) }
-    }
+/// Bytes that may be written over.
+macro_rules! chunks_mut {
+    ($($kind:ident $call:ident;)*) => {$(
+        impl<'a> At<'a, $kind> {
+            /// Returns the first chunk, to be written over.
+            #[inline]
+            pub fn chunk_mut(self) -> &'a mut [u8] {
+                let (mut look, mut at) = (Look(self.0, PhantomData), NO_BYTES);
+                let n = $call(&mut look, &mut at);
+                // SAFETY: duty 5: as in `chunk`; these bytes may be written over too, and `'a` borrows the buffer for itself.
+                unsafe { slice::from_raw_parts_mut(at.cast_mut(), n) }
+            }
+        }
+    )*};
+}
+
+chunks_mut! {
+    IobufMut iobufmut_chunk;
+    IobufsMut iobufsmut_chunk;
 }
 
 impl<'a> At<'a, Received> {

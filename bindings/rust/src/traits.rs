@@ -86,7 +86,7 @@ pub(crate) trait Lend: Sink {
 }
 
 macro_rules! reads {
-    ($($buffer:ident, $to_bytes:expr, { $($more:tt)* })*) => {$(
+    ($($buffer:ident { $($more:tt)* })*) => {$(
         impl Buf for $buffer {
             fn remaining(&self) -> usize {
                 <$buffer>::remaining(self)
@@ -105,8 +105,7 @@ macro_rules! reads {
             }
 
             fn copy_to_bytes(&mut self, n: usize) -> Bytes {
-                assert!(n <= self.len(), "copy_to_bytes out of bounds");
-                $to_bytes(self, n)
+                <$buffer>::copy_to_bytes(self, n)
             }
 
             $($more)*
@@ -157,24 +156,17 @@ macro_rules! gets {
     };
 }
 
-/// Returns the first bytes of a writable buffer, copied.
-fn copied(from: &mut impl Buf, n: usize) -> Bytes {
-    let mut bytes = vec![0; n];
-    from.copy_to_slice(&mut bytes);
-    bytes.into()
-}
-
 reads! {
-    IoBuf, |view: &mut IoBuf, n| view.take_owned(n).into(), { gets! {} }
-    IoBufMut, |part: &mut IoBufMut, n| part.copy_to_bytes(n).into(), {}
-    IoBufs, |bufs: &mut IoBufs, n| bufs.take_owned(n).into(), {
+    IoBuf { gets! {} }
+    IoBufMut {}
+    IoBufs {
         gets! {}
 
         fn chunks_vectored<'a>(&'a self, dst: &mut [IoSlice<'a>]) -> usize {
             IoBufs::chunks_vectored(self, dst)
         }
     }
-    IoBufsMut, copied, {
+    IoBufsMut {
         fn chunks_vectored<'a>(&'a self, dst: &mut [IoSlice<'a>]) -> usize {
             IoBufsMut::chunks_vectored(self, dst)
         }
@@ -227,6 +219,13 @@ impl From<IoBuf> for Bytes {
             Some(bytes) => bytes.slice_ref(&view),
             None => Bytes::from_owner(view),
         }
+    }
+}
+
+/// Copies nothing, as `freeze` and then `From<IoBuf>`.
+impl From<IoBufMut> for Bytes {
+    fn from(part: IoBufMut) -> Self {
+        part.freeze().into()
     }
 }
 

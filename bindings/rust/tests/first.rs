@@ -138,6 +138,65 @@ fn values_are_read_back() {
     written(bytes::Bytes::from_static(b"ab"), &any, b"\x02ab");
 }
 
+type Fails = Box<dyn FnOnce() + std::panic::UnwindSafe>;
+
+#[test]
+fn panics_name_the_line_of_the_call() {
+    // In this thread, whether the last panic was in this file.
+    std::thread_local!(static HERE: std::cell::Cell<Option<bool>> = const { std::cell::Cell::new(None) });
+    let usual = std::panic::take_hook();
+    std::panic::set_hook(Box::new(move |panic| match HERE.get() {
+        Some(_) => HERE.set(Some(panic.location().is_some_and(|at| at.file() == file!()))),
+        None => usual(panic),
+    }));
+    let (mut view, mut bufs, mut part) = (IoBuf::from("ab"), IoBufs::from("ab"), IoBufMut::from(b"ab"));
+    let (mut other, mut more, sliced, chopped) = (view.clone(), bufs.clone(), view.clone(), bufs.clone());
+    let calls: [(&str, Fails); 8] = [
+        ("split_to", Box::new(move || drop(view.split_to(3)))),
+        ("take_owned", Box::new(move || drop(other.take_owned(3)))),
+        ("slice", Box::new(move || drop(sliced.slice(1..3)))),
+        ("slice, backwards", Box::new(move || drop(chopped.slice(std::ops::Range { start: 2, end: 1 })))),
+        ("IoBufs::split_to", Box::new(move || drop(bufs.split_to(3)))),
+        ("IoBufs::take_owned", Box::new(move || drop(more.take_owned(3)))),
+        ("put_u8", Box::new(move || part.put_u8(1))),
+        ("with_capacity", Box::new(|| drop(IoBufMut::with_capacity(usize::MAX)))),
+    ];
+    for (name, call) in calls {
+        HERE.set(Some(false));
+        let panics = std::panic::catch_unwind(call).is_err();
+        let here = HERE.replace(None);
+        assert!(panics && here == Some(true), "{name}");
+    }
+}
+
+#[test]
+fn a_single_buffer_is_lent() {
+    let mut parts = IoBufsMut::from(IoBufMut::from(b"ab"));
+    parts.as_single_mut().unwrap()[1] = b'c';
+    assert_eq!(parts.as_single(), Some(&b"ac"[..]));
+    let mut several = IoBufsMut::from([IoBufMut::from(b"a"), IoBufMut::from(b"b")]);
+    assert!(several.as_single().is_none() && several.as_single_mut().is_none());
+    assert_eq!(IoBufs::from("ab").as_single(), Some(&b"ab"[..]));
+}
+
+// With the feature these are the original's `Bytes`, of the same memory if the bytes are in one chunk.
+#[cfg(feature = "bytes")]
+#[test]
+fn bytes_of_the_same_memory() {
+    use bytes::Bytes;
+    let mut view = IoBuf::copy_from_slice(b"abcd");
+    let (at, taken): (_, Bytes) = (view.as_ptr(), view.copy_to_bytes(2));
+    assert_eq!((&taken[..], taken.as_ptr(), &view[..]), (&b"ab"[..], at, &b"cd"[..]));
+    let mut part = IoBufMut::from(b"ab");
+    let (at, taken): (_, Bytes) = (part.chunk().as_ptr(), part.copy_to_bytes(2));
+    assert_eq!((&taken[..], taken.as_ptr()), (&b"ab"[..], at));
+    let mut bufs: IoBufs = ["ab", "cd"].into_iter().collect();
+    let (at, taken): (_, Bytes) = (bufs.chunk().as_ptr(), bufs.copy_to_bytes(2));
+    assert_eq!((&taken[..], taken.as_ptr(), bufs.len()), (&b"ab"[..], at, 2));
+    let encoded: Bytes = 7u16.encode();
+    assert_eq!(u16::decode_cfg(encoded, &()), Ok(7));
+}
+
 #[test]
 fn bytes_that_are_no_value() {
     let any = RangeCfg::from(..);

@@ -45,9 +45,9 @@ fn test_iobuf_core_behaviors() {
 
     // copy_to_bytes drains in-order and advances the source.
     let first = buf.copy_to_bytes(2);
-    assert_eq!(first, b"wo");
+    assert_eq!(first, b"wo"[..]);
     let rest = buf.copy_to_bytes(3);
-    assert_eq!(rest, b"rld");
+    assert_eq!(rest, b"rld"[..]);
     assert_eq!(buf.remaining(), 0);
 
     // Slicing remains zero-copy and supports all common range forms.

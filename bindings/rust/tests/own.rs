@@ -274,7 +274,7 @@ fn parts() {
     assert_eq!(parts.chunks_vectored(&mut list), 2);
     assert_eq!(&list[1][..], b"y");
     parts.copy_from_slice(b"ABCDE");
-    assert_eq!(parts.copy_to_bytes(5), b"ABCDE");
+    assert_eq!(parts.copy_to_bytes(5), b"ABCDE"[..]);
     assert_eq!((parts.len(), parts.capacity()), (0, 1));
     let mut parts = IoBufsMut::from([IoBufMut::from(b"ABCD"), IoBufMut::from(b"E")]);
     parts.advance(1);

@@ -66,7 +66,7 @@ fn numbered(read: u16) -> IoBufsMut {
         part
     });
     let mut parts: IoBufsMut = numbers.collect();
-    assert!((0..read).all(|i| parts.copy_to_bytes(2) == i.to_be_bytes()));
+    assert!((0..read).all(|i| parts.copy_to_bytes(2)[..] == i.to_be_bytes()));
     parts
 }
 

@@ -92,7 +92,7 @@ fn numbers_and_lengths() {
 
 #[test]
 fn prefixes_of_a_view() {
-    let whole = IoBuf::from(vec![7; 300]).encode().freeze();
+    let whole = IoBuf::from(IoBuf::from(vec![7; 300]).encode());
     for n in 0..302 {
         let mut view = whole.slice(..n);
         let mut text = IoBufs::from([view.slice(..n / 2), view.slice(n / 2..)]);
@@ -311,7 +311,7 @@ fn a_view_is_pushed_and_shared() {
     let mut text = shard.encode_iobufs();
     assert_eq!((text.len(), text.chunk_count()), (205, 3));
     assert_eq!(text.chunk_at(1).unwrap().as_ptr(), shard.body.as_ptr());
-    assert_eq!(text, IoBufs::from(shard.encode().freeze()));
+    assert_eq!(text, IoBufs::from(shard.encode()));
     let read = Shard::read_cfg(&mut text, &(..=200).into()).unwrap();
     assert_eq!((read.index, &read.body, read.last), (0x0102, &shard.body, 9));
     assert_eq!(read.body.as_ptr(), shard.body.as_ptr());
