@@ -8,7 +8,7 @@ use Rattle.iobufs_core.specs.WireLaws.{view_of_bytes-bytes}
 use Rattle.iobufs_core.specs.declared.codec.base.RangeCfg.{RangeCfg}
 use Rattle.iobufs_frames.proofs.FrameFacts.{stands}
 use Rattle.iobufs_frames.proofs.PrefixFacts.{length-later}
-use Rattle.iobufs_frames.specs.Frames.{CanFollow, HasBodyBytes, HasFrame, IsFrameAt, LacksFrame, frame_written}
+use Rattle.iobufs_frames.specs.Frames.{CanFollow, HasBodyBytes, HasFrame, LacksFrame, frame_written}
 use Rattle.iobufs_frames.specs.Prefixes.{IsSeenAt, prefix_limit, prefix_written}
 use Rattle.iobufs_frames.specs.declared.End.{End}
 use Rattle.iobufs_frames.specs.declared.End.TheVariants.{Open}
@@ -54,12 +54,11 @@ front_taken prefix range bytes n k (at, long, within) inside fits =
     )
 
 -- so a whole frame is at the front
-pub front_whole : (prefix : Prefix) (range : RangeCfg) (bytes : List ℕ) (n k size : ℕ) → IsSeenAt prefix bytes n k → in_range range n ≡ true
-    → size ≡ k + n → size ≤ length bytes → IsFrameAt prefix range bytes k size
-front_whole prefix range bytes n k size seen inside is within =
-    let (admitted, whole) = front_taken prefix range bytes n k seen inside (omega (arith, is, within)) in
-    subst (λ m. IsFrameAt prefix range bytes k m) (sym is)
-    (record { follows = omega arith; within = omega (arith, is, within); admitted = admitted; whole = whole })
+pub front_whole : (prefix : Prefix) (range : RangeCfg) (bytes : List ℕ) (n k : ℕ) → IsSeenAt prefix bytes n k → in_range range n ≡ true
+    → k + n ≤ length bytes → HasFrame prefix range bytes
+front_whole prefix range bytes n k seen inside fits =
+    let (admitted, whole) = front_taken prefix range bytes n k seen inside fits in
+    record { body = drop k (take (k + n) bytes); more = drop (k + n) bytes; admitted = admitted; whole = whole }
 
 -- one with bytes, if the length isn't 0
 pub front_some : (prefix : Prefix) (range : RangeCfg) (bytes : List ℕ) (n k : ℕ) → IsSeenAt prefix bytes n k → in_range range n ≡ true

@@ -6,7 +6,6 @@
 --     CanFollow, CanAllFollow      the length of a body can be written, and is in the range; and of each
 --     LacksFrame                   no whole frame is at the front, and why: more bytes may complete it, or none can
 --     HasFrame, HasBodyBytes       a whole frame is at the front; and one with bytes
---     IsFrameAt                    a whole frame is at the front, of so many bytes, of which the first are its length
 --     IsFramed, HasFrames          bytes are these frames and a rest that no whole frame begins; and they have such
 --                                  frames
 --     IsNext                       what taking one frame returns and leaves
@@ -16,7 +15,7 @@
 --     AreSameFrames, HaveOneReading     two readings of some bytes are equal; and so are any two
 --     BeginningsAreOpen,           a prefix of a frame may go on; what can't be a frame stays so whatever follows
 --     BadStaysBad
-use Rattle.std.specs.Prelude.{◌≡◌, ◌⊎◌, ℕ, ◌+◌, ◌<◌, ◌≤◌, true, false, Option, None, Some, Result, Ok, Err, List, [], ◌∷◌, ◌++◌, map, flat_map, length, take, drop}
+use Rattle.std.specs.Prelude.{◌≡◌, ◌⊎◌, ℕ, ◌+◌, ◌<◌, ◌≤◌, true, false, Option, None, Some, Result, Ok, Err, List, [], ◌∷◌, ◌++◌, map, flat_map, length}
 use Rattle.iobufs_core.specs.Ranges.{in_range}
 use Rattle.iobufs_core.specs.MarkedText.{MarkedText, taken_view, text_len, text_rest}
 use Rattle.iobufs_core.specs.View.{View}
@@ -71,13 +70,6 @@ pub record HasBodyBytes (prefix : Prefix) (range : RangeCfg) (bytes : List ℕ) 
   pub admitted : CanFollow prefix range body
   pub whole : bytes ≡ frame_written prefix body ++ more
   pub some : 0 < length body
-
--- a whole frame of so many bytes is at the front, of which the first are its length, and the others its body
-pub record IsFrameAt (prefix : Prefix) (range : RangeCfg) (bytes : List ℕ) (skip size : ℕ) : Type 0 where
-  pub follows : skip ≤ size
-  pub within : size ≤ length bytes
-  pub admitted : CanFollow prefix range (drop skip (take size bytes))
-  pub whole : bytes ≡ frame_written prefix (drop skip (take size bytes)) ++ drop size bytes
 
 -- the frames of a text, why no further one follows them, and what is after them
 pub record IsFramed (prefix : Prefix) (range : RangeCfg) (text : List ℕ) (frames : List (List ℕ)) (end : End) (rest : List ℕ) : Type 0 where

@@ -3,8 +3,7 @@ ghost use Rattle.std.specs.Prelude.{◌≡◌, ◌↔◌, ℕ, ◌+◌, ◌^◌,
 ghost use Rattle.std.specs.Borrow.{Lends, sem};
 ghost use Rattle.std.specs.Io.KnownBytes.{Consumes, IsAtEnd, Keeps};
 ghost use Rattle.iobufs_core.specs.View.{view_of_bytes};
-ghost use Rattle.iobufs_frames.specs.Frames.{HasFrame, IsFrameAt, IsNext, LacksFrame};
-ghost use Rattle.iobufs_frames.specs.declared.End.{End};
+ghost use Rattle.iobufs_frames.specs.Frames.{HasFrame, IsNext};
 ghost use Rattle.iobufs_frames.specs.Prefixes.{HasNoLengthAt, IsOpenAt, IsSeenAt};
 ghost use Rattle.iobufs_frames.specs.Receiving.{HasReceived, KeepsSpace, block_row, none_received};
 ghost use Rattle.iobufs_frames.specs.contracts.block.Received.{the_row};
@@ -70,13 +69,6 @@ fn widen(block: &mut BytesMut, whole: usize, size: usize) -> Result<(), AllocErr
     fresh.extend_reserved(block.as_slice());
     *block = fresh;
     Ok(())
-}
-
-/// Where the first frame is: how many bytes its length has, and how many both have.
-#[derive(Clone, Copy)]
-pub struct Front {
-    pub skip: usize,
-    pub size: usize,
 }
 
 impl Received {
@@ -172,52 +164,16 @@ impl Received {
         }
     }
 
-    /// Borrows the bytes that are held.
-    #[inline(always)]
-    pub fn as_slice(&self) -> &[u8]
-        ensures { result.now ≡ self.now.bytes }
-    {
-        self.block.as_slice()
-    }
-
-    /// Returns where the first frame is; `None` if it is not whole yet. Fails as `next` does. To take a frame without sharing
-    /// the block, use its bytes in `as_slice`, and `advance` by `size`.
-    #[inline(always)]
-    pub fn front(&self, range: &RangeCfg) -> Result<Option<Front>, Error>
-        ensures front { IfOk result (λ found. IfSome found (λ front. IsFrameAt self.now.prefix range.now self.now.bytes front.skip front.size)) }
-        ensures none { IfOk result (λ found. IfNone found (LacksFrame self.now.prefix range.now self.now.bytes End.Open)) }
-        ensures bad { IfErr result (λ error. LacksFrame self.now.prefix range.now self.now.bytes (End.Bad error)) }
-    {
-        let Some(found) = self.length()? else {
-            return Ok(None);
-        };
-        let Some(size) = frame_size(found, self.len(), range)? else {
-            return Ok(None);
-        };
-        Ok(Some(Front {
-            skip: found.len,
-            size,
-        }))
-    }
-
-    /// Drops the first `n` bytes.
-    #[inline(always)]
-    pub fn advance(&mut self, n: usize)
-        requires { n ≤ length self.old.bytes }
-        ensures bytes { self.new.bytes ≡ drop n self.old.bytes }
-        ensures space { self.new.space ≡ self.old.space }
-        ensures prefix { self.new.prefix ≡ self.old.prefix }
-    {
-        self.known = None;
-        self.block.advance(n);
-    }
-
     /// Returns whether a whole frame is at the front.
     pub fn has_frame(&self, range: &RangeCfg) -> bool
         ensures { IsTrue result ↔ HasFrame self.now.prefix range.now self.now.bytes }
     {
-        match self.front(range) {
-            Ok(Some(_)) => true,
+        match self.length() {
+            Ok(Some(found)) => match frame_size(found, self.len(), range) {
+                Ok(Some(_)) => true,
+                Ok(None) => false,
+                Err(_) => false,
+            },
             Ok(None) => false,
             Err(_) => false,
         }

@@ -13,7 +13,7 @@ pub mod laws;
 mod lengths;
 mod shown;
 
-pub use block::{Front, Received};
+pub use block::Received;
 pub use heads::Head;
 use iobufs::bufs::IoBufs;
 use iobufs_core::buf::IoBuf;

@@ -1,25 +1,22 @@
 -- Frames that are sent back.
 use Rattle.std.specs.Prelude.{◌≡◌, ℕ, Option, None, Some, IfErr, IfSome, Result, Ok, Err, List, [], ◌∷◌, ◌++◌}
 use Rattle.std.specs.Io.KnownBytes.{Appends, Keeps}
-use Rattle.std.proofs.Common.{ap, inl, sym, subst, drop, take, ◌∙◌, refl, append_assoc}
+use Rattle.std.proofs.Common.{ap, sym, subst, ◌∙◌, refl, append_assoc}
 use Rattle.std.proofs.lemmas.List.{append-nil}
-use Rattle.std.proofs.KnownBytes.{Appends-nil, Appends-trans, Keeps-refl}
+use Rattle.std.proofs.KnownBytes.{Appends-nil, Appends-trans}
 use Rattle.iobufs.proofs.CallerFacts.{sent_all, sent_kept, sent_nothing, sent_on}
 use Rattle.iobufs.specs.Sending.{IsSent}
-use Rattle.iobufs_core.specs.View.{View, view_of_bytes}
+use Rattle.iobufs_core.specs.View.{View}
 use Rattle.iobufs_core.specs.declared.codec.base.RangeCfg.{RangeCfg}
-use Rattle.iobufs_frames.specs.Frames.{CanAllFollow, CanFollow, IsFramed, IsFrameAt, LacksFrame, all_written, frame_written}
-use Rattle.iobufs_frames.proofs.FrameFacts.{first_is, none_in_front, nothing_is_open, one_more, stands, written-append, written-push}
+use Rattle.iobufs_frames.specs.Frames.{CanAllFollow, CanFollow, IsFramed, all_written, frame_written}
+use Rattle.iobufs_frames.proofs.FrameFacts.{first_is, none_in_front, nothing_is_open, one_more, written-append, written-push}
 use Rattle.iobufs_frames.specs.declared.End.{End}
 use Rattle.iobufs_frames.specs.declared.End.TheVariants.{Open}
 use Rattle.iobufs_frames.specs.declared.lengths.Prefix.{Prefix}
-use Rattle.iobufs_streams.proofs.StreamLaws.{consumes_none, first_taken}
-use Rattle.iobufs_frames.proofs.PrefixFacts.{one_front}
-use Rattle.iobufs_core.specs.WireLaws.{view_of_bytes-bytes}
-use Rattle.iobufs_frames.specs.declared.End.TheVariants as end
+use Rattle.iobufs_streams.proofs.StreamLaws.{first_taken}
 use Rattle.iobufs_streams.specs.declared.error.FrameError.{FrameError}
 use Rattle.iobufs_streams.specs.declared.error.FrameError.TheVariants.{Bad, Cut, Io, Memory, TooLong}
-use Rattle.iobufs_streams.specs.Streams.{BeginsHeld, EndsAfter, EndsFrames, HasSent, IfInput, IsFirstOf, SendsFrames, SendsHeld, TakesFrame}
+use Rattle.iobufs_streams.specs.Streams.{EndsAfter, EndsFrames, HasSent, IfInput, IsFirstOf, SendsFrames, TakesFrame}
 
 -- nothing was sent, or some of it, and the writer was flushed
 pub has_not_sent : (held : Option (List ℕ)) (text : List ℕ) → HasSent held held text
@@ -274,6 +271,20 @@ frames_echoed prefix now_prefix to now_to range now_range (Some text) (Some left
 
 -- ---- why it stops
 
+-- an error that is a stream's or of memory says nothing of the frames
+pub not_input : (error : FrameError) (all : Type 0) (stop : End) (rest : List ℕ) → IfInput error ⊥ → EndsAfter all stop rest (Err error)
+not_input Cut all stop rest h = absurd h
+not_input (Bad error) all stop rest h = absurd h
+not_input (Io error) all stop rest h = tt
+not_input Memory all stop rest h = tt
+not_input TooLong all stop rest h = tt
+
+not_ended : (prefix to : Prefix) (range : RangeCfg) (a : Option (List ℕ)) (old : List ℕ) (held holds : Option (List ℕ)) (error : FrameError)
+    → IfInput error ⊥ → IfSome a (λ text. EndsFrames prefix to range (old ++ text) held holds (Err error))
+not_ended prefix to range None old held holds error h = tt
+not_ended prefix to range (Some text) old held holds error h = λ frames stop rest is.
+    not_input error (Appends held holds (all_written to frames)) stop rest h
+
 -- what holds anyway
 pub input_anyway : (P : Type 0) (error : FrameError) → P → IfInput error P
 input_anyway P Cut h = h
@@ -289,6 +300,13 @@ input_with P Q (Bad error) q h = (h, q)
 input_with P Q (Io error) q h = tt
 input_with P Q Memory q h = tt
 input_with P Q TooLong q h = tt
+
+pub input_never : (P : Type 0) (error : FrameError) → IfInput error ⊥ → IfInput error P
+input_never P Cut h = absurd h
+input_never P (Bad error) h = absurd h
+input_never P (Io error) h = tt
+input_never P Memory h = tt
+input_never P TooLong h = tt
 
 pub fails_anyway : {T : Type 0} (P : Type 0) (result : Result T FrameError) → P → IfErr result (λ error. IfInput error P)
 fails_anyway P (Ok value) h = tt
@@ -329,80 +347,6 @@ frames_broken prefix now_prefix to now_to range now_range (Some text) (Some left
     ends_at prefix range so_far.done more.others frames stop rest (new ++ behind) (λ fs. Appends held holds (all_written to fs)) error more.listed so_far.sent
     (first_taken prefix range (Some left) (Some behind) now new (Err error) taken more.others stop rest more.behind)
 
--- ---- a held frame that is sent from where it is
-
--- a body at the front of the held bytes is taken without a read
-held_taken : (prefix : Prefix) (range : RangeCfg) (had : Option (List ℕ)) (old new body : List ℕ) → CanFollow prefix range body
-    → old ≡ frame_written prefix body ++ new → TakesFrame prefix range had had old new (Ok (Some (view_of_bytes body)))
-held_taken prefix range had old new body fits whole =
-    let same : body ≡ (view_of_bytes body).bytes = sym (view_of_bytes-bytes body) in
-    record {
-      read = [];
-      took = consumes_none had had (Keeps-refl had);
-      needed = inl refl;
-      front = (subst (CanFollow prefix range) same fits, append-nil old ∙ whole ∙ ap (λ w. frame_written prefix w ++ new) same);
-    }
-
--- a writer was sent it, or a beginning of it
-pub held_sent : (prefix to : Prefix) (range : RangeCfg) (had : Option (List ℕ)) (old new body : List ℕ) (skip size : ℕ) (held holds : Option (List ℕ))
-    → IsFrameAt prefix range old skip size → body ≡ drop skip (take size old) → new ≡ drop size old → Appends held holds (frame_written to body)
-    → SendsHeld prefix to range had had old new held holds
-held_sent prefix to range had old new body skip size held holds front is rest sent =
-    let there = drop skip (take size old) in
-    record {
-      body = view_of_bytes there;
-      taken = held_taken prefix range had old new there front.admitted (front.whole ∙ ap (λ w. frame_written prefix there ++ w) (sym rest));
-      sent = subst (λ w. Appends held holds (frame_written to w)) (is ∙ sym (view_of_bytes-bytes there)) sent;
-    }
-
--- it is at the front whatever is read more
-front_more : (prefix : Prefix) (range : RangeCfg) (old read : List ℕ) (skip size : ℕ) → IsFrameAt prefix range old skip size
-    → old ++ read ≡ frame_written prefix (drop skip (take size old)) ++ (drop size old ++ read)
-front_more prefix range old read skip size front =
-    ap (λ w. w ++ read) front.whole ∙ append_assoc (frame_written prefix (drop skip (take size old))) (drop size old) read
-
-never_lacks : (prefix : Prefix) (range : RangeCfg) (old read : List ℕ) (skip size : ℕ) (stop : End) → IsFrameAt prefix range old skip size
-    → LacksFrame prefix range (old ++ read) stop → ⊥
-never_lacks prefix range old read skip size stop front lacks =
-    stands prefix range (drop skip (take size old)) (drop size old ++ read) stop front.admitted
-    (subst (λ (w : List ℕ). LacksFrame prefix range w stop) (front_more prefix range old read skip size front) lacks)
-
--- the body that is taken is the one at the front
-pub taken_same : (prefix : Prefix) (range : RangeCfg) (had has : Option (List ℕ)) (old new body : List ℕ) (skip size : ℕ) (taken : View)
-    → IsFrameAt prefix range old skip size → body ≡ drop skip (take size old) → TakesFrame prefix range had has old new (Ok (Some taken)) → body ≡ taken.bytes
-taken_same prefix range had has old new body skip size taken front same is =
-    same ∙ (one_front prefix (drop skip (take size old)) taken.bytes (drop size old ++ is.read) new front.admitted.small is.front.0.small
-    (sym (front_more prefix range old is.read skip size front) ∙ is.front.1)).0
-
--- where one is, one is taken
-pub taken_some : (prefix : Prefix) (range : RangeCfg) (had has : Option (List ℕ)) (old new : List ℕ) (skip size : ℕ) → IsFrameAt prefix range old skip size
-    → TakesFrame prefix range had has old new (Ok None) → ⊥
-taken_some prefix range had has old new skip size front is =
-    never_lacks prefix range old is.read skip size Open front
-    (subst (λ (w : List ℕ). LacksFrame prefix range w Open) (sym is.front.0) (nothing_is_open prefix range))
-
--- where one is, no error lies in the input
-pub taken_fault : (prefix : Prefix) (range : RangeCfg) (had has : Option (List ℕ)) (old new : List ℕ) (skip size : ℕ) (error : FrameError)
-    → IsFrameAt prefix range old skip size → TakesFrame prefix range had has old new (Err error) → IfInput error ⊥
-taken_fault prefix range had has old new skip size Cut front is = never_lacks prefix range old is.read skip size Open front is.front.2
-taken_fault prefix range had has old new skip size (Bad error) front is = never_lacks prefix range old is.read skip size (end.Bad error) front is.front.1
-taken_fault prefix range had has old new skip size (Io error) front is = tt
-taken_fault prefix range had has old new skip size Memory front is = tt
-taken_fault prefix range had has old new skip size TooLong front is = tt
-
--- a beginning of it was sent
-pub held_begun : (prefix to : Prefix) (range : RangeCfg) (had : Option (List ℕ)) (old body : List ℕ) (skip size : ℕ) (held holds : Option (List ℕ))
-    → IsFrameAt prefix range old skip size → body ≡ drop skip (take size old) → HasSent held holds (frame_written to body)
-    → BeginsHeld prefix to range had old held holds
-held_begun prefix to range had old body skip size held holds front is sent =
-    let there = drop skip (take size old) in
-    record {
-      body = view_of_bytes there;
-      left = drop size old;
-      taken = held_taken prefix range had old (drop size old) there front.admitted front.whole;
-      sent = subst (λ w. HasSent held holds (frame_written to w)) (is ∙ sym (view_of_bytes-bytes there)) sent;
-    }
-
 -- ---- the state of an echo
 
 -- what came was sent so far, and the reader's and the writer's fields are as they were
@@ -427,10 +371,6 @@ kept_on prefix to range (Some text) (Some left) old now held mid holds is keeps 
   fits = is.fits;
   sent = flushed held mid holds (all_written to is.done) is.sent keeps;
 }
-
--- a reader and a writer that stay are as they were
-pub stays_as : {F T : Type 0} (from now_from : F) (to now_to : T) (P : F → T → Type 0) → now_from ≡ from → now_to ≡ to → P from to → P now_from now_to
-stays_as from now_from to now_to P same_from same_to is = subst (λ t. P now_from t) (sym same_to) (subst (λ f. P f to) (sym same_from) is)
 
 -- a flush sends nothing
 pub idles : {prefix now_prefix to now_to : Prefix} {range now_range : RangeCfg} {a b : Option (List ℕ)} {old now : List ℕ} {held mid : Option (List ℕ)}
@@ -491,3 +431,10 @@ pub broken : {prefix now_prefix to now_to : Prefix} {range now_range : RangeCfg}
     → TakesFrame now_prefix now_range b c now new (Err error) → IfSome a (λ text. EndsFrames prefix to range (old ++ text) held holds (Err error))
 broken {prefix} {now_prefix} {to} {now_to} {range} {now_range} {a} {b} {old} {now} {new} {held} {holds} c error is took =
     frames_broken prefix now_prefix to now_to range now_range a b c old now new held holds error is.same is.echoes took
+
+-- a stream fails, or memory
+pub failed : {prefix now_prefix to now_to : Prefix} {range now_range : RangeCfg} {a b : Option (List ℕ)} {old now : List ℕ} {held mid : Option (List ℕ)}
+    (holds : Option (List ℕ)) (error : FrameError) → IsEchoing prefix now_prefix to now_to range now_range a b old now held mid
+    → IfInput error ⊥ → IfSome a (λ text. EndsFrames prefix to range (old ++ text) held holds (Err error))
+failed {prefix} {now_prefix} {to} {now_to} {range} {now_range} {a} {b} {old} {now} {held} {mid} holds error is never =
+    not_ended prefix to range a old held holds error never

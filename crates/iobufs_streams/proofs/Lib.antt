@@ -1,4 +1,3 @@
 pub mod EchoLaws
-pub mod OnceLaws
 pub mod StreamLaws
 pub mod UnsentLaws

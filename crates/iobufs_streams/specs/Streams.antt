@@ -12,8 +12,6 @@
 --     TakesFrame
 --     IsFirstOf            the result by the frames of the stream: the first went
 --     HasSent              a writer was sent a prefix of some bytes
---     SendsHeld,           the first held frame was taken, and a writer was sent it, written with another prefix; or a
---     BeginsHeld           prefix of it
 --     SendsFrames          a writer was sent a prefix of the frames of some bytes, written with another prefix
 --     EndsAfter,           and all of them, if no more bytes follow, or a frame that is cut or bad: the error then lies
 --     EndsFrames, IfInput  in the input
@@ -117,19 +115,6 @@ IsFirstOf prefix range frames stop rest (Err error) left = IsFramed prefix range
 -- a writer was sent a beginning of a text
 abbrev pub HasSent : Option (List ℕ) → Option (List ℕ) → List ℕ → Type 0
 HasSent held holds text = (behind : List ℕ) × IsSent held holds text behind
-
--- the first held frame was taken, and a writer was sent it, written with another prefix
-pub record SendsHeld (prefix to : Prefix) (range : RangeCfg) (had has : Option (List ℕ)) (old new : List ℕ) (held holds : Option (List ℕ)) : Type 0 where
-  pub body : View
-  pub taken : TakesFrame prefix range had has old new (Ok (Some body))
-  pub sent : Appends held holds (frame_written to body.bytes)
-
--- it is there, and a writer was sent a beginning of it
-pub record BeginsHeld (prefix to : Prefix) (range : RangeCfg) (had : Option (List ℕ)) (old : List ℕ) (held holds : Option (List ℕ)) : Type 0 where
-  pub body : View
-  pub left : List ℕ
-  pub taken : TakesFrame prefix range had had old left (Ok (Some body))
-  pub sent : HasSent held holds (frame_written to body.bytes)
 
 -- a writer was sent a beginning of the frames of a text, each of them written with another prefix
 abbrev pub SendsFrames : Prefix → Prefix → RangeCfg → List ℕ → Option (List ℕ) → Option (List ℕ) → Type 0

@@ -1,31 +1,28 @@
 //! Frames that are sent back as they come.
-ghost use Rattle.std.specs.Prelude.{◌≡◌, ◌⊎◌, ◌++◌, [], ◌≤◌, drop, length, IsTrue, IfErr, IfNone, IfOk, IfSome, OnErr, OnOk, false};
+ghost use Rattle.std.specs.Prelude.{◌≡◌, ◌⊎◌, ◌++◌, [], IsTrue, IfErr, IfNone, IfOk, IfSome, OnOk};
 ghost use Rattle.std.specs.Io.KnownBytes.{Appends, Keeps};
 ghost use Rattle.iobufs_frames.specs.Frames.{HasFrame, frame_written};
-ghost use Rattle.iobufs_streams.specs.Streams.{BeginsHeld, EndsFrames, HasSent, IfInput, SendsFrames, SendsHeld, TakesFrame, held_bytes, held_prefix};
+ghost use Rattle.iobufs_streams.specs.Streams.{EndsFrames, HasSent, IfInput, SendsFrames, TakesFrame, held_bytes, held_prefix};
 
 use crate::error::FrameError;
 use crate::reader::FrameReader;
 use crate::writer::FrameWriter;
-use bytes::Buf;
 use iobufs::bufs::IoBufs;
 use iobufs_core::buf::IoBuf;
 use iobufs_core::codec::BufError;
 use std::alloc::Global;
 use std::io::{Read, Write};
 
-// Sends a frame, of which the first `n` bytes went.
-#[inline(never)]
+// Sends one frame.
 #[tactic(auto, using(crate::proofs::EchoLaws::sending))]
 fn send_frame<W: Write + Drop>(
     alloc: Global,
     to: &mut FrameWriter<W>,
     body: IoBuf,
-    n: usize,
 ) -> Result<(), FrameError>
-    requires { (to.old.rest.bytes ≡ []) × (n ≤ length (frame_written to.old.prefix body.bytes)) }
-    ensures sent { HasSent (W.contents to.old.to) (W.contents to.new.to) (drop n (frame_written to.old.prefix body.bytes)) }
-    ensures all { OnOk result (Appends (W.contents to.old.to) (W.contents to.new.to) (drop n (frame_written to.old.prefix body.bytes))) }
+    requires { to.old.rest.bytes ≡ [] }
+    ensures sent { HasSent (W.contents to.old.to) (W.contents to.new.to) (frame_written to.old.prefix body.bytes) }
+    ensures all { OnOk result (Appends (W.contents to.old.to) (W.contents to.new.to) (frame_written to.old.prefix body.bytes)) }
     ensures empty { OnOk result (to.new.rest.bytes ≡ []) }
     ensures prefix { to.new.prefix ≡ to.old.prefix }
     ensures most { to.new.most ≡ to.old.most }
@@ -37,49 +34,7 @@ fn send_frame<W: Write + Drop>(
             _ => FrameError::Memory,
         });
     }
-    to.rest.advance(n);
     to.send(alloc).map_err(FrameError::Io)
-}
-
-// Sends the first held frame from where it is, and returns whether there is one. If the writer takes a part of it, the frame
-// is taken, and the writer keeps the rest.
-#[inline(always)]
-fn send_held<R: Read + Drop, W: Write + Drop>(
-    alloc: Global,
-    from: &mut FrameReader<R>,
-    to: &mut FrameWriter<W>,
-) -> Result<bool, FrameError>
-    requires { to.old.rest.bytes ≡ [] }
-    ensures sent { IfOk result (λ some. IsTrue some → SendsHeld (held_prefix from.old.held) to.old.prefix from.old.range (R.remaining from.old.from)
-        (R.remaining from.new.from) (held_bytes from.old.held) (held_bytes from.new.held) (W.contents to.old.to) (W.contents to.new.to)) }
-    ensures none { IfOk result (λ some. some ≡ false → (from.new ≡ from.old) × (to.new ≡ to.old)) }
-    ensures part { OnErr result (BeginsHeld (held_prefix from.old.held) to.old.prefix from.old.range (R.remaining from.old.from) (held_bytes from.old.held)
-        (W.contents to.old.to) (W.contents to.new.to)) }
-    ensures cause { IfErr result (λ error. IfInput error ⊥) }
-    ensures empty { OnOk result (to.new.rest.bytes ≡ []) }
-    ensures from_prefix { held_prefix from.new.held ≡ held_prefix from.old.held }
-    ensures range { from.new.range ≡ from.old.range }
-    ensures prefix { to.new.prefix ≡ to.old.prefix }
-    ensures most { to.new.most ≡ to.old.most }
-{
-    let Ok(Some(front)) = from.held.front(&from.range) else {
-        return Ok(false);
-    };
-    let body = &from.held.as_slice()[front.skip..front.size];
-    match to.send_at_once(body) {
-        Ok(()) => {
-            from.held.advance(front.size);
-            Ok(true)
-        }
-        Err(n) => match from.next(alloc) {
-            Ok(Some(body)) => match send_frame(alloc, to, body, n) {
-                Ok(()) => Ok(true),
-                Err(error) => Err(error),
-            },
-            Ok(None) => Ok(false),
-            Err(error) => Err(error),
-        },
-    }
 }
 
 // Takes the next frame. What was sent is flushed before a read, and before an error is returned.
@@ -118,9 +73,7 @@ fn next_flushed<R: Read + Drop, W: Write + Drop>(
 
 /// Sends each frame back as soon as it is whole, with its length as the writer writes it, until the input ends between
 /// two frames. After an error, the sent bytes are a prefix of these frames; if both write lengths alike, a prefix of
-/// the input. If the input ends, inside a frame or not, or a frame is bad, all frames before are sent and flushed. If a
-/// write fails, the rest of the frame is in `rest`. If an allocation fails right after, the frame is still held instead,
-/// though its first bytes went.
+/// the input. If the input ends, inside a frame or not, or a frame is bad, all frames before are sent and flushed.
 pub fn echo<R: Read + Drop, W: Write + Drop>(
     alloc: Global,
     from: &mut FrameReader<R>,
@@ -143,11 +96,8 @@ pub fn echo<R: Read + Drop, W: Write + Drop>(
     ensures most { to.new.most ≡ to.old.most }
 {
     for _ in 0..u64::MAX {
-        if send_held(alloc, from, to)? {
-            continue;
-        }
         match next_flushed(alloc, from, to) {
-            Ok(Some(body)) => send_frame(alloc, to, body, 0)?,
+            Ok(Some(body)) => send_frame(alloc, to, body)?,
             Ok(None) => return Ok(()),
             Err(error) => return Err(error),
         }

@@ -1,5 +1,5 @@
 //! Frames as lists of chunks, for writes of any size.
-ghost use Rattle.std.specs.Prelude.{◌≡◌, ◌≢◌, ◌+◌, ◌-◌, ◌^◌, ◌<◌, ◌≤◌, [], length, nat_eq, take, IsTrue, IsOk, IfErr, IfOk, IsErrAnd, OnErr, OnOk};
+ghost use Rattle.std.specs.Prelude.{◌≡◌, ◌≢◌, ◌+◌, ◌-◌, ◌^◌, ◌<◌, ◌≤◌, [], length, nat_eq, IsTrue, IsOk, IfErr, IfOk, IsErrAnd, OnErr, OnOk};
 ghost use Rattle.std.specs.IoError.{error_kind};
 ghost use Rattle.std.specs.declared.io.ErrorKind.TheVariants.{Interrupted};
 ghost use Rattle.std.specs.Io.KnownBytes.{Appends, Keeps, WriteAppends};
@@ -177,41 +177,6 @@ impl<W: Write + Drop> FrameWriter<W> {
             left -= n;
         }
         Ok(())
-    }
-
-    /// Sends a frame of a body that is borrowed, if the writer takes its length and it by one write each. If not, returns how
-    /// many bytes it took: `put` the body, `advance` the `rest` by them, and `send`. So an error of the writer comes again.
-    #[inline(always)]
-    pub fn send_at_once(&mut self, body: &[u8]) -> Result<(), usize>
-        ensures all { OnOk result (Appends (W.contents self.old.to) (W.contents self.new.to) (frame_written self.old.prefix body.now)) }
-        ensures some { IfErr result (λ n. (n ≤ length (frame_written self.old.prefix body.now))
-            × Appends (W.contents self.old.to) (W.contents self.new.to) (take n (frame_written self.old.prefix body.now))) }
-        ensures fits { IfErr result (λ n. 0 < n → (length body.now ≤ self.old.most) × (length body.now < prefix_limit self.old.prefix)
-            × (length (frame_written self.old.prefix body.now) < 2 ^ 64)) }
-        ensures rest { self.new.rest ≡ self.old.rest }
-        ensures prefix { self.new.prefix ≡ self.old.prefix }
-        ensures most { self.new.most ≡ self.old.most }
-        ensures flushed { IsTrue self.new.is_flushed → self.new ≡ self.old }
-    {
-        let len = body.len();
-        let is_long = len > self.most || !self.prefix.fits(len);
-        if is_long {
-            return Err(0);
-        }
-        let length = self.prefix.head(len);
-        if length.len() > usize::MAX - len {
-            return Err(0);
-        }
-        self.is_flushed = false;
-        let n = self.to.write(length.as_slice()).unwrap_or(0);
-        if n < length.len() {
-            return Err(n);
-        }
-        if len == 0 {
-            return Ok(());
-        }
-        let more = self.to.write(body).unwrap_or(0);
-        if more < len { Err(n + more) } else { Ok(()) }
     }
 
     /// Flushes the writer, unless nothing was sent since the last `flush`.
