@@ -1,6 +1,6 @@
 //! bench [--sums] [NAME..]
 //!
-//! The workloads of one buffer, of texts and of parts, which do what those of these names in `crates/iobufs_bench` do. Prints
+//! The workloads of one buffer, of an `IoBufs` and of an `IoBufsMut`, with the names of those in `crates/iobufs_bench`. Prints
 //! the nanoseconds an operation of each, or with `--sums` what one run of each saw, and its operations.
 use iobufs::{IoBuf, IoBufMut, IoBufs, IoBufsMut};
 use std::env;
@@ -39,7 +39,7 @@ fn text(n: usize) -> IoBufs {
     views(n).into()
 }
 
-/// How many texts of n chunks a run has.
+/// How many `IoBufs` of n chunks a run has.
 fn count(n: usize) -> usize {
     (4096 / n).clamp(2, 512)
 }

@@ -74,7 +74,7 @@ impl Read for Record {
     }
 }
 
-/// What isn't sent yet: chunks, which are written several at a time.
+/// Chunks that aren't sent yet, written several at a time.
 struct Sender<W> {
     out: W,
     unsent: IoBufs,

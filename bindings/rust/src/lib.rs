@@ -17,8 +17,9 @@
 //! ```
 //!
 //! The buffers are those of commonware-runtime (`src/iobuf`), *the original*: names, arguments and panics are the same. A name in
-//! brackets is that of its trait; *(own)* marks a call that it lacks. Without the feature `bytes` the methods of that crate's traits are methods
-//! here. If an allocation fails, the process ends, as it does if one of std's collections can't allocate. `try_with_capacity`,
+//! brackets is that of the original's trait. Without the feature `bytes` the methods of that crate's traits are methods here.
+//!
+//! If an allocation fails, the process ends, as it does if one of std's collections can't allocate. `try_with_capacity`,
 //! `try_zeroed` and `try_copy_from_slice` return an error instead. Clones, splits and appends allocate too: headers, and lists of
 //! chunks.
 //!
@@ -28,15 +29,18 @@
 //!
 //! With the feature `bytes` (1.9 or later) the buffers have the traits `Buf` and `BufMut` of that crate. A `Bytes` or `BytesMut`
 //! becomes a view, and a view a `Bytes`, without a copy. Bytes that are put by `chunk_mut` and `advance_mut` are copied once more
-//! than by `put_slice`, since the library lends no space that isn't readable.
+//! than by `put_slice`, since only readable bytes can be borrowed.
 //!
-//! These differ from the original: `copy_to_bytes` and `encode` return a `Bytes` with the feature alone, otherwise an `IoBuf` and an
-//! `IoBufMut`; `TryGetError` is this crate's, since that of `bytes` begins with its version 1.10; `set_len` is safe, and new bytes are zero; an alignment is tested and not promised; `put` of any reader needs the feature. `as_mut_ptr` is
-//! missing, since space that isn't readable has no address here: in place of writing there before `set_len(n)`, put the bytes, or
-//! call `set_len(n)` first and write over the zeros by `as_mut()`. Values (`codec`) are numbers, lengths, views, and types of a
-//! caller's own.
+//! These differ from the original:
+//! - `copy_to_bytes` and `encode` return a `Bytes` with the feature, otherwise an `IoBuf` and an `IoBufMut`.
+//! - `as_single` and `as_single_mut` lend the bytes, not the buffer.
+//! - `set_len` is safe, and new bytes are zero. `as_mut_ptr` is missing, since space that isn't readable has no address: put the bytes,
+//!   or call `set_len(n)` first and write over the zeros by `as_mut()`.
+//! - An alignment is tested and not promised.
+//! - `put` of any reader needs the feature. `TryGetError` is this crate's: that of `bytes` begins with its version 1.10.
+//! - The codec's traits are this crate's (`codec`), and no call is a `const fn`.
 //!
-//! A view has interior mutability, which clippy tells of at a `HashMap<IoBuf, _>`: its hash and order are those of the bytes, which
+//! A view has interior mutability, which clippy reports at a `HashMap<IoBuf, _>`: its hash and order are those of the bytes, which
 //! never change. `ignore-interior-mutability = ["iobufs::IoBuf"]` in `clippy.toml` says so.
 #![deny(unsafe_code)]
 #![warn(clippy::undocumented_unsafe_blocks)]
@@ -66,7 +70,7 @@ pub use view::IoBuf;
 #[cfg(feature = "bytes")]
 use traits::Scratch;
 
-/// Without the feature `bytes` nothing is lent.
+/// Without the feature `bytes` there is no scratch buffer.
 #[cfg(not(feature = "bytes"))]
 #[derive(Default)]
 struct Scratch {}
@@ -93,7 +97,7 @@ const PAST: &str = "cannot advance past end of buffer";
 /// Why a value was not read (the codec's `Error`).
 #[derive(Clone, Copy, Debug, PartialEq, Eq)]
 pub enum Error {
-    /// Fewer bytes are left than were asked for.
+    /// Fewer bytes are left than the value has.
     EndOfBuffer,
     /// The bytes are no varint.
     InvalidVarint,
@@ -105,22 +109,22 @@ pub enum Error {
     InvalidEnum(u8),
     /// This type doesn't admit the bytes, for this reason.
     Invalid(&'static str, &'static str),
-    /// So many bytes are left after a value that has to be all of them.
+    /// A value that has to be all bytes has this many after it.
     ExtraData(usize),
 }
 
 /// A destination was longer than the bytes left.
 #[derive(Clone, Copy, Debug, PartialEq, Eq)]
 pub struct TryGetError {
-    /// How many bytes were asked for.
+    /// The number of bytes requested.
     pub requested: usize,
-    /// How many were left.
+    /// The number of bytes left.
     pub available: usize,
 }
 
 impl fmt::Display for TryGetError {
     fn fmt(&self, f: &mut fmt::Formatter<'_>) -> fmt::Result {
-        write!(f, "{} bytes were asked for, and {} are left", self.requested, self.available)
+        write!(f, "{} bytes were requested, and {} are left", self.requested, self.available)
     }
 }
 
@@ -129,7 +133,7 @@ impl std::error::Error for TryGetError {}
 /// Memory for a buffer couldn't be allocated, or no buffer has this size.
 #[derive(Clone, Copy, Debug, PartialEq, Eq)]
 pub struct AllocError {
-    /// How many bytes were asked for.
+    /// The number of bytes requested.
     pub bytes: usize,
 }
 
@@ -162,7 +166,7 @@ pub fn length_size(n: usize) -> usize {
     sys::iobufs_length_size(n)
 }
 
-/// Ends the process, as Rust's collections do if an allocation fails. Says of how many bytes, if the call asked for bytes.
+/// Ends the process, as Rust's collections do if an allocation fails. Prints how many bytes were requested, if that is known.
 #[cold]
 fn out_of_memory(bytes: Option<usize>) -> ! {
     if let Some(layout) = bytes.and_then(|n| Layout::array::<u8>(n).ok()) {
@@ -265,7 +269,7 @@ fn read(status: u8, length: impl FnOnce() -> usize) -> Result<(), Error> {
     }
 }
 
-/// Equality with bytes, as the original has it, and with text, in both directions, by the method `has`.
+/// Equality with bytes, as the original has it, and with strings, in both directions, by the method `has`.
 macro_rules! equals_bytes {
     ($buffer:ident) => {
         crate::equals_bytes! { $buffer, [] [u8], [] &[u8], [const N: usize] [u8; N], [const N: usize] &[u8; N], [] Vec<u8>, [] str,
@@ -353,7 +357,7 @@ macro_rules! derefs {
 }
 pub(crate) use derefs;
 
-/// What writable buffers and a builder have alike: puts at the end, by these calls.
+/// Puts at the end, by these calls: for writable buffers and a builder.
 macro_rules! puts {
     ($room:path, $bytes:path, $length:path; $($number:ty, $put:ident, $call:path;)*) => {
         /// Returns how many bytes may still be put (`BufMut`).
@@ -411,7 +415,7 @@ macro_rules! try_copy {
 }
 pub(crate) use try_copy;
 
-/// What `IoBuf` and `IoBufs` have alike: reads from the front, by the calls of their names.
+/// Reads from the front, by the calls of their names: for `IoBuf` and `IoBufs`.
 macro_rules! gets {
     ($($number:ty, $get:ident, $try_get:ident;)*) => {
         /// Returns whether there are no bytes.

@@ -14,34 +14,34 @@ use std::sync::Arc;
 
 // SAFETY: the signatures are those of the header, with a handle for a pointer to one (`sys` says which duties that meets).
 unsafe extern "C" {
-    fn iobuf_from_static(text: *const u8, n: usize, out: &mut At<Iobuf>);
+    fn iobuf_from_static(src: *const u8, n: usize, out: &mut At<Iobuf>);
     safe fn iobuf_clone_init(src: &mut Look<Iobuf>, out: &mut Blank<Iobuf>) -> u8;
     safe fn iobuf_split_to_init(src: &mut At<Iobuf>, at: usize, out: &mut Blank<Iobuf>) -> u8;
     safe fn iobuf_slice_init(src: &mut Look<Iobuf>, lo: usize, hi: usize, out: &mut Blank<Iobuf>) -> u8;
     safe fn iobuf_read_view(src: &mut At<Iobuf>, lo: usize, hi: usize, out: &mut At<Iobuf>) -> u8;
 
     safe fn iobufs_from_view(src: &mut At<Iobuf>, out: &mut At<Iobufs>);
-    safe fn iobufs_clone(text: &mut Look<Iobufs>, out: &mut At<Iobufs>) -> u8;
-    safe fn iobufs_append(text: &mut At<Iobufs>, piece: &mut At<Iobuf>) -> u8;
-    safe fn iobufs_prepend(text: &mut At<Iobufs>, piece: &mut At<Iobuf>) -> u8;
-    safe fn iobufs_split_to_init(text: &mut At<Iobufs>, at: usize, out: &mut Blank<Iobufs>) -> u8;
-    safe fn iobufs_slice(text: &mut Look<Iobufs>, lo: usize, hi: usize, out: &mut At<Iobufs>) -> u8;
-    safe fn iobufs_advance(text: &mut At<Iobufs>, n: usize) -> u8;
-    fn iobufs_copy_to_slice(text: &mut At<Iobufs>, dst: *mut u8, n: usize) -> u8;
-    safe fn iobufs_take_init(text: &mut At<Iobufs>, n: usize, out: &mut Blank<Iobuf>) -> u8;
-    safe fn iobufs_coalesce(text: &mut At<Iobufs>, out: &mut At<Iobuf>) -> u8;
-    safe fn iobufs_try_into_single(text: &mut At<Iobufs>, out: &mut At<Iobuf>) -> u8;
-    safe fn iobufs_read_length(text: &mut At<Iobufs>, lo: usize, hi: usize, out: &mut usize) -> u8;
-    safe fn iobufs_read_view(text: &mut At<Iobufs>, lo: usize, hi: usize, out: &mut At<Iobuf>) -> u8;
-    safe fn iobufs_get_u8(text: &mut At<Iobufs>, out: &mut u8) -> u8;
-    safe fn iobufs_get_u16(text: &mut At<Iobufs>, out: &mut u16) -> u8;
-    safe fn iobufs_get_u32(text: &mut At<Iobufs>, out: &mut u32) -> u8;
-    safe fn iobufs_get_u64(text: &mut At<Iobufs>, out: &mut u64) -> u8;
+    safe fn iobufs_clone(bufs: &mut Look<Iobufs>, out: &mut At<Iobufs>) -> u8;
+    safe fn iobufs_append(bufs: &mut At<Iobufs>, view: &mut At<Iobuf>) -> u8;
+    safe fn iobufs_prepend(bufs: &mut At<Iobufs>, view: &mut At<Iobuf>) -> u8;
+    safe fn iobufs_split_to_init(bufs: &mut At<Iobufs>, at: usize, out: &mut Blank<Iobufs>) -> u8;
+    safe fn iobufs_slice(bufs: &mut Look<Iobufs>, lo: usize, hi: usize, out: &mut At<Iobufs>) -> u8;
+    safe fn iobufs_advance(bufs: &mut At<Iobufs>, n: usize) -> u8;
+    fn iobufs_copy_to_slice(bufs: &mut At<Iobufs>, dst: *mut u8, n: usize) -> u8;
+    safe fn iobufs_take_init(bufs: &mut At<Iobufs>, n: usize, out: &mut Blank<Iobuf>) -> u8;
+    safe fn iobufs_coalesce(bufs: &mut At<Iobufs>, out: &mut At<Iobuf>) -> u8;
+    safe fn iobufs_try_into_single(bufs: &mut At<Iobufs>, out: &mut At<Iobuf>) -> u8;
+    safe fn iobufs_read_length(bufs: &mut At<Iobufs>, lo: usize, hi: usize, out: &mut usize) -> u8;
+    safe fn iobufs_read_view(bufs: &mut At<Iobufs>, lo: usize, hi: usize, out: &mut At<Iobuf>) -> u8;
+    safe fn iobufs_get_u8(bufs: &mut At<Iobufs>, out: &mut u8) -> u8;
+    safe fn iobufs_get_u16(bufs: &mut At<Iobufs>, out: &mut u16) -> u8;
+    safe fn iobufs_get_u32(bufs: &mut At<Iobufs>, out: &mut u32) -> u8;
+    safe fn iobufs_get_u64(bufs: &mut At<Iobufs>, out: &mut u64) -> u8;
 
-    safe fn iobufs_builder_push(builder: &mut At<Builder>, piece: &mut At<Iobuf>) -> u8;
+    safe fn iobufs_builder_push(builder: &mut At<Builder>, view: &mut At<Iobuf>) -> u8;
     safe fn iobufs_builder_finish(builder: &mut At<Builder>, out: &mut At<Iobufs>) -> u8;
 
-    safe fn iobufs_frames_feed(frames: &mut At<Frames>, piece: &mut At<Iobuf>) -> u8;
+    safe fn iobufs_frames_feed(frames: &mut At<Frames>, view: &mut At<Iobuf>) -> u8;
     safe fn iobufs_frames_next(frames: &mut At<Frames>, lo: usize, hi: usize, out: &mut At<Iobuf>, wrong: &mut usize) -> u8;
 }
 
@@ -82,7 +82,7 @@ impl View {
         view
     }
 
-    /// Makes a view of the bytes of `owner`, which is asked for them once.
+    /// Makes a view of the bytes of `owner`, whose `as_ref` is called once.
     pub(crate) fn of_owner<T: AsRef<[u8]> + Send + Sync + 'static>(owner: T) -> Self {
         let owner = Arc::new(owner);
         let (bytes, mut view): (&[u8], _) = ((*owner).as_ref(), View::new());
@@ -278,7 +278,7 @@ impl<K: Kind> Chunked<K> {
         chunks.list.reserve(1);
         let status = call(&mut self.memory.at(), &mut view.at());
         if status == sys::OK {
-            // That of no bytes is dropped.
+            // The owner of an empty view is dropped.
             drop(chunks.moved(len, front, view.owner.take()));
         }
         status
@@ -379,9 +379,9 @@ cuts! {
 }
 
 #[inline]
-fn copy_to(text: &mut At<Iobufs>, dst: &mut [u8]) -> u8 {
+fn copy_to(bufs: &mut At<Iobufs>, dst: &mut [u8]) -> u8 {
     // SAFETY: duty 4: the slice's pointer isn't null, it outlives the call, and its bytes may be written.
-    unsafe { iobufs_copy_to_slice(text, dst.as_mut_ptr(), dst.len()) }
+    unsafe { iobufs_copy_to_slice(bufs, dst.as_mut_ptr(), dst.len()) }
 }
 
 impl Chunked<Iobufs> {
@@ -402,7 +402,7 @@ impl Chunked<Iobufs> {
     #[inline]
     pub(crate) fn prepend(&mut self, view: &mut View) -> u8 {
         if self.owners.is_some() || view.is_lent() {
-            // The positions of chunks that are gone are given anew.
+            // The positions of chunks that are gone are used again.
             self.settle();
             let len = self.len();
             return self.put_owned(view, Some(len), |to, view| iobufs_prepend(to, view));
@@ -522,7 +522,8 @@ impl Chunks {
         None
     }
 
-    /// Returns the owner of the last `n` bytes that were taken before the last `left`, if one chunk has them all: otherwise they were copied.
+    /// Returns the owner of the last `n` bytes that were taken before the last `left`, if one chunk has them all: otherwise they were
+    /// copied.
     fn owner_of(&self, n: usize, left: usize) -> Option<Owner> {
         let end = self.end - left as i128;
         let start = end - n as i128;

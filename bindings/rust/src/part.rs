@@ -9,7 +9,7 @@ use std::num::NonZeroUsize;
 
 const LAYOUT: &str = "alignment must be a power of two and the size must fit a layout";
 
-/// One chunk of storage to write, of a fixed capacity. It shares its storage with nobody.
+/// One chunk of storage to write, of a fixed capacity, which no other buffer shares.
 ///
 /// Space that isn't readable has no address, so `as_mut_ptr` is missing. Put the bytes, or make zeros readable and write over them:
 /// ```
@@ -77,19 +77,19 @@ impl IoBufMut {
         out
     }
 
-    /// Makes an empty buffer of this capacity, or returns an error if that fails. (own)
+    /// Makes an empty buffer of this capacity, or returns an error if that fails.
     pub fn try_with_capacity(capacity: usize) -> Result<Self, AllocError> {
         let mut out = Self::none();
         tried(sys::iobufmut_with_alignment(capacity, 1, &mut out.at()), capacity, out)
     }
 
-    /// Makes a buffer of `len` zeros, or returns an error if that fails. (own)
+    /// Makes a buffer of `len` zeros, or returns an error if that fails.
     pub fn try_zeroed(len: usize) -> Result<Self, AllocError> {
         let mut out = Self::none();
         tried(sys::iobufmut_zeroed_with_alignment(len, 1, &mut out.at()), len, out)
     }
 
-    /// Copies these bytes, or returns an error if that fails. (own)
+    /// Copies these bytes, or returns an error if that fails.
     pub fn try_copy_from_slice(data: &[u8]) -> Result<Self, AllocError> {
         let mut out = Self::none();
         tried(out.at().copy_from(data), data.len(), out)

@@ -87,7 +87,7 @@ impl IoBufsMut {
         allocated(
             sys::iobufsmut_coalesce(&mut self.0.at(), &mut out.at()),
             len,
-            "the parts are too long for one buffer",
+            "the bytes are too many for one buffer",
         );
         out
     }

@@ -101,7 +101,7 @@ impl Drop for Block {
 }
 
 /// Takes frames from a reader: lengths, each followed by a body. A read fills the space of one block, and a body shares that
-/// block: it isn't copied, and keeps the whole block. (own)
+/// block: it isn't copied, and keeps the whole block.
 ///
 /// ```
 /// use iobufs::{FrameReader, FrameWriter};
@@ -172,10 +172,10 @@ impl<R: Read> FrameReader<R> {
 /// The bytes of a frame that aren't sent: the end of its length, and of its body.
 struct Unsent {
     head: [u8; HEAD],
-    /// Where the rest of the length starts and ends.
+    /// The start and the end of the rest of the length.
     start: u8,
     end: u8,
-    /// Whether the body was put as one chunk.
+    /// Records that the body was put as one chunk.
     is_single: bool,
     body: IoBufs,
     /// How many bytes both have.
@@ -213,12 +213,12 @@ impl Unsent {
     }
 }
 
-/// Sends frames to a writer: lengths, each followed by a body, whose chunks aren't copied. (own)
+/// Sends frames to a writer: lengths, each followed by a body, whose chunks aren't copied.
 pub struct FrameWriter<W> {
     to: W,
     prefix: Prefix,
     range: (usize, usize),
-    /// What was put and isn't sent. A frame has at least the byte of its length.
+    /// Frames that were put and aren't sent. A frame has at least the byte of its length.
     unsent: VecDeque<Unsent>,
     /// How many bytes at the front the writer took: more than none only while they are dropped, and after an owner's panic.
     taken: usize,

@@ -1,4 +1,4 @@
-//! What the library exports (`bindings/include/iobufs.h`), the memory of a buffer, and its handles.
+//! The library's exports (`bindings/include/iobufs.h`), the memory of a buffer, and its handles.
 //!
 //! `unsafe` is in this module and in `owner` alone. `iobufs.h` numbers the duties of a caller, and the comment of each block names
 //! those that it meets. A call is a `safe fn` if its types meet them all:
@@ -39,7 +39,7 @@ pub struct Blank<'a, K: Kind>(*mut MaybeUninit<K::Room>, PhantomData<&'a mut K>)
 #[repr(transparent)]
 pub struct Look<'a, K: Kind>(*mut MaybeUninit<K::Room>, PhantomData<&'a K>);
 
-/// Whether the sizes below are the library's.
+/// Records that the sizes below are the library's.
 static COMPARED: AtomicBool = AtomicBool::new(false);
 
 macro_rules! kinds {
@@ -197,15 +197,15 @@ unsafe extern "C" {
     fn iobufmut_copy_to_slice(part: &mut At<IobufMut>, dst: *mut u8, n: usize) -> u8;
     safe fn iobufmut_freeze_init(part: &mut At<IobufMut>, out: &mut Blank<Iobuf>) -> u8;
 
-    pub safe fn iobufs_drop(text: &mut At<Iobufs>);
-    pub safe fn iobufs_len(text: &mut Look<Iobufs>) -> usize;
-    pub safe fn iobufs_is_single(text: &mut Look<Iobufs>) -> bool;
-    pub safe fn iobufs_chunk_count(text: &mut Look<Iobufs>) -> usize;
-    safe fn iobufs_chunk(text: &mut Look<Iobufs>, out: &mut *const u8) -> usize;
-    safe fn iobufs_chunk_at(text: &mut Look<Iobufs>, i: usize, out: &mut *const u8) -> usize;
-    fn iobufs_chunks_from(text: &mut Look<Iobufs>, first: usize, out: *mut Chunk, n: usize) -> usize;
-    pub safe fn iobufs_byte_at(text: &mut Look<Iobufs>, i: usize, out: &mut u8) -> bool;
-    pub safe fn iobufs_locate(text: &mut Look<Iobufs>, at: usize, index: &mut usize, offset: &mut usize) -> u8;
+    pub safe fn iobufs_drop(bufs: &mut At<Iobufs>);
+    pub safe fn iobufs_len(bufs: &mut Look<Iobufs>) -> usize;
+    pub safe fn iobufs_is_single(bufs: &mut Look<Iobufs>) -> bool;
+    pub safe fn iobufs_chunk_count(bufs: &mut Look<Iobufs>) -> usize;
+    safe fn iobufs_chunk(bufs: &mut Look<Iobufs>, out: &mut *const u8) -> usize;
+    safe fn iobufs_chunk_at(bufs: &mut Look<Iobufs>, i: usize, out: &mut *const u8) -> usize;
+    fn iobufs_chunks_from(bufs: &mut Look<Iobufs>, first: usize, out: *mut Chunk, n: usize) -> usize;
+    pub safe fn iobufs_byte_at(bufs: &mut Look<Iobufs>, i: usize, out: &mut u8) -> bool;
+    pub safe fn iobufs_locate(bufs: &mut Look<Iobufs>, at: usize, index: &mut usize, offset: &mut usize) -> u8;
 
     pub safe fn iobufsmut_drop(parts: &mut At<IobufsMut>);
     pub safe fn iobufsmut_from_mut(part: &mut At<IobufMut>, out: &mut At<IobufsMut>);
@@ -444,7 +444,7 @@ impl<'a> Batch<'a> {
     /// Takes the chunks from the index `first` on, and returns how many there are.
     #[inline]
     pub fn fill(&mut self, mut of: Look<'a, Iobufs>, first: usize) -> usize {
-        // SAFETY: duty 4: the list has `BATCH` places.
+        // SAFETY: duty 4: the list has space for `BATCH` chunks.
         let n = unsafe { iobufs_chunks_from(&mut of, first, self.list.as_mut_ptr().cast(), BATCH) };
         self.left = BATCH - n;
         n

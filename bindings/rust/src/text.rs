@@ -41,7 +41,7 @@ impl IoBufs {
         self.0.len()
     }
 
-    /// Returns how many chunks keep an owner (`IoBuf::from_owner`). (own)
+    /// Returns how many chunks keep an owner (`IoBuf::from_owner`).
     pub fn owners(&self) -> usize {
         self.0.owners()
     }
@@ -82,20 +82,20 @@ impl IoBufs {
         self.is_single().then(|| self.chunk())
     }
 
-    /// Returns the byte at an offset, if there is one. (own)
+    /// Returns the byte at an offset, if there is one.
     pub fn byte_at(&self, i: usize) -> Option<u8> {
         let mut byte = 0;
         sys::iobufs_byte_at(&mut self.0.look(), i, &mut byte).then_some(byte)
     }
 
-    /// Returns the index of the chunk that contains an offset, and the distance from its start. (own)
+    /// Returns the index of the chunk that contains an offset, and the distance from its start.
     pub fn locate(&self, at: usize) -> Option<(usize, usize)> {
         let (mut index, mut offset) = (0, 0);
         let status = sys::iobufs_locate(&mut self.0.look(), at, &mut index, &mut offset);
         (status == sys::OK).then_some((index, offset))
     }
 
-    /// Returns the bytes of a range, which share their storage. Panics if it isn't within the bytes. (own)
+    /// Returns the bytes of a range, which share their storage. Panics if it isn't within the bytes.
     #[inline]
     #[track_caller]
     pub fn slice(&self, range: impl RangeBounds<usize>) -> Self {
@@ -107,7 +107,7 @@ impl IoBufs {
         IoBufs(slice)
     }
 
-    /// Keeps at most the first `len` bytes. (own)
+    /// Keeps at most the first `len` bytes.
     #[inline]
     pub fn truncate(&mut self, len: usize) {
         if len < self.len() {
@@ -115,26 +115,26 @@ impl IoBufs {
         }
     }
 
-    /// Keeps no byte. (own)
+    /// Keeps no byte.
     pub fn clear(&mut self) {
         *self = Self::default();
     }
 
-    /// Returns a copy of all bytes. (own)
+    /// Returns a copy of all bytes.
     pub fn to_vec(&self) -> Vec<u8> {
         let mut bytes = Vec::with_capacity(self.len());
         self.for_each_chunk(|chunk| bytes.extend_from_slice(chunk));
         bytes
     }
 
-    /// Takes the bytes from `at` on. Panics if there are fewer. (own)
+    /// Takes the bytes from `at` on. Panics if there are fewer.
     #[track_caller]
     pub fn split_off(&mut self, at: usize) -> Self {
         let front = self.split_to(at);
         mem::replace(self, front)
     }
 
-    /// Shows each chunk that holds bytes, in order.
+    /// Calls `visit` with each chunk that holds bytes, in order.
     pub fn for_each_chunk(&self, mut visit: impl FnMut(&[u8])) {
         let mut batch = Batch::new();
         for first in (0..).step_by(BATCH) {
@@ -154,7 +154,7 @@ impl IoBufs {
         mem::forget(chunk);
     }
 
-    /// Adds the chunks of another one at the end. (own)
+    /// Adds the chunks of another one at the end.
     #[track_caller]
     pub fn append_all(&mut self, other: IoBufs) {
         self.extend(other);
@@ -179,7 +179,7 @@ impl IoBufs {
     #[track_caller]
     pub fn coalesce(mut self) -> IoBuf {
         let (len, (view, status)) = (self.len(), self.0.coalesce());
-        allocated(status, len, "the text is too long for one buffer");
+        allocated(status, len, "the bytes are too many for one buffer");
         IoBuf(view)
     }
 
@@ -245,7 +245,7 @@ impl Clone for IoBufs {
     }
 }
 
-/// Compares the bytes of two lists of chunks, for every chunking, in place.
+/// Compares the bytes of two lists of chunks, for every chunking, without a copy.
 pub(crate) fn compare<'a>(mut ours: impl Iterator<Item = &'a [u8]>, mut theirs: impl Iterator<Item = &'a [u8]>) -> Ordering {
     let (mut a, mut b): (&[u8], &[u8]) = (&[], &[]);
     loop {
@@ -267,7 +267,7 @@ pub(crate) fn compare<'a>(mut ours: impl Iterator<Item = &'a [u8]>, mut theirs: 
     }
 }
 
-/// Whether they hold the same bytes, for every chunking.
+/// Compares the bytes, for every chunking.
 impl PartialEq for IoBufs {
     fn eq(&self, other: &Self) -> bool {
         self.len() == other.len() && self.cmp(other).is_eq()
@@ -323,7 +323,7 @@ impl From<IoBufMut> for IoBufs {
     }
 }
 
-/// What an `IoBuf` is made of, as its one chunk.
+/// Conversions by way of an `IoBuf`, as the one chunk.
 macro_rules! of_one_chunk {
     ($($from:ty),*) => {$(
         impl From<$from> for IoBufs {
@@ -344,9 +344,9 @@ impl<const N: usize> From<&'static [u8; N]> for IoBufs {
 
 impl<T: Into<IoBuf>> FromIterator<T> for IoBufs {
     fn from_iter<I: IntoIterator<Item = T>>(chunks: I) -> Self {
-        let mut text = IoBufs::default();
-        text.extend(chunks);
-        text
+        let mut bufs = IoBufs::default();
+        bufs.extend(chunks);
+        bufs
     }
 }
 
@@ -391,7 +391,7 @@ impl<const N: usize> From<[IoBuf; N]> for IoBufs {
     }
 }
 
-/// How the length before a frame is written. (own)
+/// How the length before a frame is written.
 #[derive(Clone, Copy, Debug, Default, PartialEq, Eq, Hash)]
 pub enum Prefix {
     /// A varint: seven bits a byte, the lowest first.
@@ -470,7 +470,7 @@ impl Frames {
         self.0.len()
     }
 
-    /// Returns how many chunks keep an owner (`IoBuf::from_owner`). (own)
+    /// Returns how many chunks keep an owner (`IoBuf::from_owner`).
     pub fn owners(&self) -> usize {
         self.0.owners()
     }

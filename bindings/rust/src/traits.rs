@@ -8,9 +8,8 @@ use bytes::{Buf, Bytes, BytesMut};
 use std::io::IoSlice;
 use std::mem;
 
-/// Bytes that `chunk_mut` lends; `advance_mut` puts the first of them into the buffer, and a put drops as many as it writes. The
-/// library lends only space that is readable, so what is written by way of `chunk_mut` is copied once more; the other calls of
-/// `BufMut` aren't.
+/// The bytes that `chunk_mut` returns; `advance_mut` puts the first of them into the buffer, and a put drops as many as it writes. Only
+/// readable bytes of the library can be borrowed, so those that are written to `chunk_mut` are copied once more.
 #[derive(Default)]
 pub struct Scratch {
     bytes: Vec<u8>,
@@ -18,7 +17,7 @@ pub struct Scratch {
     room: usize,
 }
 
-/// How many bytes are lent at a time, at most.
+/// The most bytes that `chunk_mut` returns.
 const LENT: usize = 1 << 16;
 
 impl Scratch {
@@ -35,7 +34,7 @@ impl Scratch {
         self.room -= used;
     }
 
-    /// Before a call that may drop bytes at the buffer's end: writes these over the first that were lent, as the puts did in the
+    /// Prepares for a call that may drop bytes at the buffer's end: writes these over the first of the scratch, as the puts did in the
     /// buffer. `state` is how many bytes fit, and the last that are readable.
     pub(crate) fn pass<'a>(&mut self, state: impl FnOnce() -> (usize, &'a [u8])) {
         if self.bytes.is_empty() {
@@ -49,7 +48,7 @@ impl Scratch {
     }
 }
 
-/// What `BufMut` does by way of a scratch (`sys` has the trait itself, which is unsafe).
+/// The calls of `BufMut` that use a scratch buffer (`sys` has the trait itself, which is unsafe).
 pub(crate) trait Lend: Sink {
     fn scratch(&mut self) -> &mut Scratch;
 

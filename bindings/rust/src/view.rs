@@ -33,7 +33,7 @@ impl IoBuf {
     }
 
     /// Makes a view of the bytes of `owner`, which aren't copied. They live until the last buffer made of it is dropped, on whatever
-    /// thread that is. A view of one byte keeps the whole owner. (own)
+    /// thread that is. A view of one byte keeps the whole owner.
     ///
     /// An `IoBufs`, a builder and frames drop the owner of a chunk with its last byte. `as_ref` is called once.
     pub fn from_owner<T: AsRef<[u8]> + Send + Sync + 'static>(owner: T) -> Self {
@@ -47,7 +47,7 @@ impl IoBuf {
         out
     }
 
-    /// Copies these bytes, or returns an error if that fails. (own)
+    /// Copies these bytes, or returns an error if that fails.
     pub fn try_copy_from_slice(data: &[u8]) -> Result<Self, AllocError> {
         let mut out = IoBuf::default();
         tried(out.0.at().copy_from(data), data.len(), out)
@@ -79,27 +79,27 @@ impl IoBuf {
         IoBuf(self.0.split_to(at, "split_to out of bounds"))
     }
 
-    /// Takes the bytes from `at` on, in the same storage. Panics if there are fewer. (own)
+    /// Takes the bytes from `at` on, in the same storage. Panics if there are fewer.
     #[track_caller]
     pub fn split_off(&mut self, at: usize) -> Self {
         let front = self.split_to(at);
         mem::replace(self, front)
     }
 
-    /// Keeps at most the first `len` bytes. (own)
+    /// Keeps at most the first `len` bytes.
     pub fn truncate(&mut self, len: usize) {
         if len < self.len() {
             *self = self.split_to(len);
         }
     }
 
-    /// Keeps no byte. (own)
+    /// Keeps no byte.
     pub fn clear(&mut self) {
         *self = Self::default();
     }
 
     /// Recovers the bytes as a buffer to write, with the spare capacity after them, if no other view shares their storage. A `Vec` that no
-    /// other buffer keeps is copied, with its room. Other owners' bytes are not recovered.
+    /// other buffer keeps is copied, with its capacity. Other owners' bytes are not recovered.
     #[inline]
     pub fn try_into_mut(mut self) -> Result<IoBufMut, Self> {
         if self.0.is_lent() {

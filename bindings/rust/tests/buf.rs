@@ -25,7 +25,7 @@ fn pattern(n: usize) -> Vec<u8> {
     PATTERN[..n].to_vec()
 }
 
-/// What a call returns, as text; an error if it panics. Panics of these tests' calls aren't printed.
+/// The result of a call, printed; an error if it panics. Panics of these tests' calls aren't printed.
 fn outcome<R: Debug>(call: impl FnOnce() -> R) -> Result<String, ()> {
     static QUIET: Once = Once::new();
     QUIET.call_once(|| std::panic::set_hook(Box::new(|panic| if panic.location().is_none_or(|at| at.file() == file!()) { eprintln!("{panic}") })));
@@ -92,7 +92,7 @@ const MAKES: [Make; 27] = [
     }),
 ];
 
-/// What is left of the bytes after the first two.
+/// The bytes after the first two.
 trait SplitOffTwo {
     fn split_off_two(self) -> Self;
 }
@@ -111,7 +111,7 @@ impl SplitOffTwo for IoBufs {
     }
 }
 
-/// A call of `Buf`, and its result as text.
+/// A call of `Buf`, and its result, printed.
 type Get = (&'static str, fn(&mut dyn Buf) -> String);
 
 macro_rules! gets {
@@ -241,7 +241,7 @@ written! {
     Builder, |builder: Builder| builder.finish().coalesce();
 }
 
-/// A name, and how a writer with room for so many bytes is made. It holds none.
+/// A name, and a function that makes an empty writer with this spare capacity.
 type MakeMut = (&'static str, fn(usize) -> Box<dyn Written>);
 
 const MAKES_MUT: [MakeMut; 10] = [
@@ -366,7 +366,7 @@ fn each_call_writes_as_of_a_slice() {
     }
 }
 
-// What is lent is the place of the next byte: a put comes over it, and what was lent after it stays.
+// The bytes of `chunk_mut` begin with the next one: a put overwrites the first of them, and the others stay.
 #[test]
 fn what_is_lent_is_the_next_place() {
     for (name, make) in MAKES_MUT {
@@ -374,7 +374,7 @@ fn what_is_lent_is_the_next_place() {
             let mut buf = make(MOST);
             buf.chunk_mut()[..lent].copy_from_slice(&pattern(lent));
             buf.put_slice(&vec![1; put]);
-            // SAFETY: so many bytes were written after those that are there.
+            // SAFETY: `n` bytes were written after those that are there.
             unsafe { buf.advance_mut(lent.saturating_sub(put)) };
             let wanted: Vec<u8> = vec![1; put].into_iter().chain(pattern(lent).into_iter().skip(put)).collect();
             assert_eq!(buf.written(), wanted, "{put} over {lent}, {name}");

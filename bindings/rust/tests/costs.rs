@@ -1,4 +1,4 @@
-//! What calls allocate for owners: as much as they take or drop needs, also of many chunks. The library's own allocations aren't
+//! Allocations of calls for owners: no more than what they take or drop needs, also of many chunks. The library's own allocations aren't
 //! counted here.
 use iobufs::{Frames, IoBuf, IoBufs};
 use std::alloc::{GlobalAlloc, Layout, System};

@@ -1,4 +1,4 @@
-//! What a user of `Bytes` tries first: conversions, comparisons, iterators, `Debug`, and values that are read back.
+//! The first things that a user of `Bytes` tries: conversions, comparisons, iterators, `Debug`, and values that are read back.
 use iobufs::codec::{Decode, Encode, EncodeExt, RangeCfg, Read};
 use iobufs::{Error, IoBuf, IoBufMut, IoBufs, IoBufsMut};
 use std::fmt::Debug;

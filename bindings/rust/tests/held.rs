@@ -50,7 +50,7 @@ unsafe extern "C" fn free(old: *mut c_void) {
     unsafe { __libc_free(old) }
 }
 
-/// Frames of one body, read at most so many bytes at a time. Each read compares the memory that was held since the last one
+/// Frames of one body, read at most `n` bytes at a time. Each read compares the memory that was held since the last one
 /// with the bytes that were held after that.
 struct Source<'a> {
     frame: Vec<u8>,

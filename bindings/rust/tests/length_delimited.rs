@@ -1,9 +1,9 @@
-//! What the tests of tokio-util ask of its `LengthDelimitedCodec`, asked of `FrameReader` and `FrameWriter`.
+//! The tests of tokio-util for its `LengthDelimitedCodec`, for `FrameReader` and `FrameWriter`.
 use iobufs::{Error, FrameError, FrameReader, FrameWriter, IoBufs, Prefix};
 use std::collections::VecDeque;
 use std::io::{self, ErrorKind, IoSlice, Read, Write};
 
-/// What a read gives, and how many bytes a write takes; `None` is one that would block.
+/// The result of a read, and how many bytes a write takes; `None` is one that would block.
 type Turns<T> = VecDeque<Option<T>>;
 
 struct From(Turns<&'static [u8]>);
@@ -37,7 +37,7 @@ impl Write for To {
     }
 }
 
-/// What a reader is asked for next.
+/// A call of a reader.
 #[derive(Debug, PartialEq)]
 enum Next {
     Frame(&'static [u8]),

@@ -106,7 +106,7 @@ fn ranges_of_lengths() {
     }
 }
 
-// The chunks of a text are taken 32 at a time.
+// The chunks of an `IoBufs` are taken 32 at a time.
 #[test]
 fn many_chunks() {
     for count in [0, 1, 31, 32, 33, 63, 64, 65, 100] {
@@ -117,13 +117,13 @@ fn many_chunks() {
     }
 }
 
-/// The bytes of a range, cut at each even place.
+/// The bytes of a range, cut at each even offset.
 fn cut(bytes: &[u8], range: Range<usize>) -> Vec<&[u8]> {
     let starts = range.clone().filter(|at| *at == range.start || at % 2 == 0);
     starts.map(|at| &bytes[at..range.end.min(at / 2 * 2 + 2)]).collect()
 }
 
-// Texts of up to six chunks of two bytes, split, read and sliced at each place, beside plain lists.
+// An `IoBufs` of up to six chunks of two bytes, split, read and sliced at each offset, compared with plain lists.
 #[test]
 fn texts_cut_at_each_place() {
     for bytes in (0..=6).map(|count| &b"abcdefghijkl"[..2 * count]) {
@@ -148,7 +148,7 @@ fn texts_cut_at_each_place() {
     }
 }
 
-// The chunks of a text, each byte and where it is, and a slice of one chunk.
+// The chunks of an `IoBufs`, each byte and its offset, and a slice of one chunk.
 #[test]
 fn bytes_and_chunks() {
     let (all, chunks): (&[u8], [&[u8]; 3]) = (b"abcdefghi", [b"abc", b"de", b"fghi"]);

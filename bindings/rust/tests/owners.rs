@@ -26,7 +26,7 @@ fn burn() {
     }
 }
 
-/// Runs a call with a panic at the `nth` run of foreign code, if there are as many; `None` if it panics.
+/// Runs a call with a panic at the `nth` run of foreign code, if there is one; `None` if it panics.
 fn tried<R>(nth: usize, call: impl FnOnce() -> R) -> Option<R> {
     static QUIET: Once = Once::new();
     QUIET.call_once(|| {
@@ -87,7 +87,7 @@ impl Drop for Owner {
     }
 }
 
-/// What foreign code gives.
+/// A result of foreign code.
 struct Foreign<T>(T);
 
 impl From<Foreign<IoBuf>> for IoBuf {
@@ -164,7 +164,7 @@ fn no_byte_is_copied() {
     assert_eq!((view.slice(3..).as_ptr(), view.clone().as_ptr()), (at.wrapping_add(3), at));
 }
 
-/// What a view of a `Vec` with four bytes and room for 64 is recovered as: the bytes, and the capacity.
+/// The bytes and the capacity that a view of a `Vec` with four bytes and a capacity of 64 is recovered with.
 #[test]
 fn recovery() {
     type Change = fn(&mut IoBuf) -> IoBuf;
@@ -255,10 +255,10 @@ fn who_is_kept() {
     assert!(Live::default().view(0, b"").is_empty());
 }
 
-// What is made of a text of many owners keeps those of its own bytes, and no other, once the text is gone.
+// A buffer that is made of an `IoBufs` with many owners keeps those of its own bytes, and no other, once that is gone.
 #[test]
 fn many_owners() {
-    /// A call on a text of so many bytes, and the range of these that its result has.
+    /// A call on an `IoBufs` of `n` bytes, and the range of these that its result has.
     type Call = (fn(IoBufs, usize) -> IoBufs, fn(usize) -> Range<usize>);
     let calls: [Call; 9] = [
         (|text, _| text.clone(), |n| 0..n),
@@ -370,7 +370,7 @@ fn an_owner_whose_drop_panics() {
     }
 }
 
-// Chunks that are gone and whose owners a panic has left are dropped before a chunk comes in their place.
+// Chunks that are gone and whose owners a panic has left are dropped before another chunk has their positions.
 #[test]
 fn owners_that_a_panic_leaves() {
     type Call = fn(&mut IoBufs) -> IoBuf;
@@ -431,7 +431,7 @@ fn pushes_that_panic() {
     }
 }
 
-/// After each of these advances, the text and the world keep these owners.
+/// After each of these advances, the `IoBufs` and the world keep these owners.
 fn assert_kept(mut text: IoBufs, live: &Live, advances: &[(usize, &[usize])]) {
     for (n, kept) in advances {
         text.advance(*n);
@@ -467,7 +467,7 @@ struct World {
     random: u64,
     /// How many chunks are put together at a time, at most.
     many: usize,
-    /// Whether foreign code panics at times.
+    /// Lets foreign code panic at times.
     panics: bool,
     live: Live,
     named: usize,
@@ -512,7 +512,7 @@ impl World {
         self.views.push((view, bytes, name));
     }
 
-    /// A text has these bytes, but that after a panic it may have those from before.
+    /// An `IoBufs` has these bytes; after a panic it may have those from before.
     fn changed(&mut self, t: usize, done: bool, after: Vec<u8>) {
         let (text, bytes) = &mut self.texts[t];
         if done || text.len() != bytes.len() {
@@ -571,7 +571,7 @@ impl World {
         }
     }
 
-    /// One random call on a text.
+    /// One random call on an `IoBufs`.
     fn on_text(&mut self, t: usize) {
         let (call, n) = (self.below(12), self.texts[t].1.len());
         let at = self.below(n + 1);
@@ -701,7 +701,7 @@ impl World {
         let (view, mut text) = (self.below(self.views.len() + 1), self.below(self.texts.len()));
         let mut kind = self.below(8);
         if self.many > 5 {
-            // Mostly a call on the text of the most owners, or one that makes such a text.
+            // Mostly a call on the `IoBufs` of the most owners, or one that makes such an `IoBufs`.
             kind = [1, 3, 4, 4, 4, 4, 6, 7][kind];
             let most = (0..self.texts.len()).max_by_key(|i| self.texts[*i].0.owners());
             text = most.filter(|_| view % 2 == 0).unwrap_or(text);
@@ -733,7 +733,7 @@ impl World {
         }
     }
 
-    /// Each buffer has its bytes, and just those owners live that a view keeps or a text shows. After a panic a call may have left
+    /// Each buffer has its bytes, and just those owners live that a view keeps or an `IoBufs` shows. After a panic a call may have left
     /// some to the next.
     fn check(&mut self) {
         if self.panics {
@@ -757,7 +757,7 @@ impl World {
     }
 }
 
-/// `ROUNDS` are how many, 200 unless it is set. In every other round foreign code panics; in some, texts have over 100 owners.
+/// `ROUNDS` are how many, 200 unless it is set. In every other round foreign code panics; in some, an `IoBufs` has over 100 owners.
 #[test]
 fn random_calls() {
     let rounds = std::env::var("ROUNDS").map_or(200, |n| n.parse().unwrap());

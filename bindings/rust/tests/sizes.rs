@@ -15,7 +15,7 @@ fn cut(bytes: &[u8], n: usize) -> IoBufs {
     bytes.chunks(n).map(IoBuf::copy_from_slice).collect()
 }
 
-/// The chunks of a text are those of the bytes, whichever call gives them.
+/// The chunks of an `IoBufs` are those of the bytes, whichever call returns them.
 fn assert_cut<'a>(text: &IoBufs, chunks: impl IntoIterator<Item = &'a [u8]>) {
     let wanted: Vec<&[u8]> = chunks.into_iter().filter(|it| !it.is_empty()).collect();
     let mut seen = Vec::new();

@@ -6,7 +6,7 @@ use std::io::{self, ErrorKind, IoSlice, Read, Write};
 use std::ops::Bound;
 use std::panic::{AssertUnwindSafe, catch_unwind};
 
-/// What a call of a stream does in place of moving bytes.
+/// An effect of a stream's call other than moving bytes.
 #[derive(Clone, Copy, Debug, PartialEq)]
 enum Fault {
     Interrupted,
@@ -24,7 +24,7 @@ struct Narrow {
     most: usize,
     fault: Option<(usize, Fault)>,
     calls: Vec<String>,
-    /// Where the chunks of the last write are.
+    /// The addresses of the chunks of the last write.
     chunks: Vec<*const u8>,
 }
 
@@ -114,7 +114,7 @@ fn read_frames(from: &mut FrameReader<Narrow>) -> (Vec<u8>, String) {
     }
 }
 
-/// What is read, the bodies, and how the reader ends, for lengths up to 8.
+/// The input, the bodies, and how the reader ends, for lengths up to 8.
 const READ: [(&[u8], &[u8], &str); 5] = [
     (b"\x03abc\0\x05hello", b"abc||hello|", "end"),
     (b"\x05hell", b"", "the input ends inside a frame"),

@@ -88,7 +88,7 @@ fn more_than_is_lent_at_a_time() {
     assert_eq!(part, [7; 10_000]);
 }
 
-// What was lent and then put over doesn't come back, when bytes at the end are dropped: a `BytesMut` has `xycd` then.
+// Bytes that were borrowed and then put over don't come back, when bytes at the end are dropped: a `BytesMut` has `xycd` then.
 #[test]
 fn what_was_lent_does_not_come_back() {
     fn lend<B: BufMut>(mut buf: B) -> B {
@@ -144,7 +144,7 @@ fn conversions_share() {
     assert_eq!((back.as_ptr(), &back[..]), (bytes.as_ptr().wrapping_add(1), &[2, 3][..]));
     drop((view, bytes));
     assert!(back.is_unique());
-    // So does the library's storage, and stays while the `Bytes` does.
+    // The library's storage does too, and stays while the `Bytes` does.
     let mut text = IoBufs::from([IoBuf::copy_from_slice(b"written"), IoBuf::from(BytesMut::from(&b"-more"[..]))]);
     let places: Vec<*const u8> = text.chunks().map(<[u8]>::as_ptr).collect();
     let (a, b) = (Buf::copy_to_bytes(&mut text, 7), Buf::copy_to_bytes(&mut text, 5));
@@ -187,14 +187,14 @@ struct Both<B> {
     random: Random,
     ours: B,
     theirs: BytesMut,
-    /// How many bytes were dropped from the front: a byte's place is counted from the first.
+    /// How many bytes were dropped from the front: offsets count from the first.
     gone: usize,
-    /// The places that were written by way of `chunk_mut`, and not advanced over.
+    /// The offsets that were written by way of `chunk_mut`, and not advanced over.
     lent: Range<usize>,
 }
 
 impl<B: Buf + BufMut> Both<B> {
-    /// The place of the next byte that is put.
+    /// The offset of the next byte that is put.
     fn next(&self) -> usize {
         self.gone + self.theirs.len()
     }
@@ -213,7 +213,7 @@ impl<B: Buf + BufMut> Both<B> {
             }
             1 if self.lent.contains(&next) => {
                 let n = self.random.below(self.lent.end - next + 1);
-                // SAFETY: so many bytes were written after those that are there.
+                // SAFETY: `n` bytes were written after those that are there.
                 unsafe { (ours.advance_mut(n), theirs.advance_mut(n)) };
             }
             2 => (ours.put_slice(&vec![byte; n]), theirs.put_slice(&vec![byte; n])).1,
@@ -249,7 +249,7 @@ impl<B: Buf + BufMut> Both<B> {
     }
 }
 
-/// Random calls, of which `cut` keeps so many of the readable bytes, and perhaps what was lent.
+/// Random calls, of which `cut` keeps some of the readable bytes, and perhaps the scratch.
 fn compare<B: Buf + BufMut>(make: fn() -> B, (cut, keeps): (fn(&mut B, usize), bool), bytes: fn(&B) -> Vec<u8>) {
     for seed in 0..500 {
         let theirs = BytesMut::with_capacity(2 * ROOM);

@@ -156,7 +156,7 @@ const LENGTHS: [Case; 14] = [
     (b"\xff\xff\xff\xff\xff\xff\xff\xff\xff\xff", ANY, Err(INVALID)),
 ];
 
-/// A value is read that takes so many bytes, or an error changes nothing.
+/// A value is read that takes this many bytes, or an error changes nothing.
 fn assert_read<T: Read + PartialEq + Debug, B: Source + Clone + PartialEq + Debug>(
     mut buf: B,
     cfg: &T::Cfg,
@@ -226,7 +226,7 @@ impl Generator {
     }
 }
 
-/// The bytes behind a length in a range, and how many the length takes, by the rules of varints.
+/// The bytes after a length in a range, and how many the length takes, by the rules of varints.
 fn plain(bytes: &[u8], range: RangeInclusive<usize>) -> Result<(&[u8], usize), Error> {
     let end = bytes.iter().take(10).position(|byte| *byte < 128);
     let end = end.ok_or(if bytes.len() < 10 { END } else { INVALID })?;
