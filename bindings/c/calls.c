@@ -289,6 +289,14 @@ static void texts(void) {
     CHECK(text_is(&t, "ghijk") && view_is(&v, ""));
     OK(iobufs_try_into_single(&t, &v));
     CHECK(view_is(&v, "ghijk") && text_is(&t, ""));
+    put_behind(&t, "ab"); put_behind(&t, "c"); put_behind(&u, "de"); put_behind(&u, "f"); put_behind(&u, "ghi");
+    OK(iobufs_append_all(&t, &u));
+    CHECK(text_is(&t, "abcdefghi") && iobufs_chunk_count(&t) == 5 && text_is(&u, ""));
+    OK(iobufs_append_all(&t, &u));
+    CHECK(text_is(&t, "abcdefghi") && text_is(&u, ""));
+    OK(iobufs_append_all(&u, &t));
+    CHECK(text_is(&u, "abcdefghi") && iobufs_chunk_count(&u) == 5 && text_is(&t, ""));
+    OK(iobufs_advance(&u, 9));
     OK(iobufmut_copy_from_slice(bytes("xyz"), 3, &p));
     OK(iobufs_from_mut(&p, &t));
     CHECK(text_is(&t, "xyz") && iobufmut_capacity(&p) == 0);

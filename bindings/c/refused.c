@@ -59,6 +59,7 @@ static iobufs_status slice(struct made *m) { return iobuf_slice(&m->view, 0, 1, 
 static iobufs_status text_clone(struct made *m) { return iobufs_clone(&m->text, &m->out_text); }
 static iobufs_status append(struct made *m) { return iobufs_append(&m->text, &m->view); }
 static iobufs_status prepend(struct made *m) { return iobufs_prepend(&m->text, &m->view); }
+static iobufs_status append_all(struct made *m) { return iobufs_append_all(&m->out_text, &m->text); }
 static iobufs_status text_split(struct made *m) { return iobufs_split_to(&m->text, 4, &m->out_text); }
 static iobufs_status text_slice(struct made *m) { return iobufs_slice(&m->text, 1, 5, &m->out_text); }
 static iobufs_status text_truncate(struct made *m) { return iobufs_truncate(&m->text, 5); }
@@ -106,6 +107,15 @@ static void shared_stays(struct made *m) { CHECK(view_is(&m->shared, "\3abc")); 
 static void text_stays(struct made *m) {
     CHECK(text_is(&m->text, "\5abcdefghi") && view_is(&m->view, "\3abc") && view_is(&m->out_view, "old") && text_is(&m->out_text, ""));
 }
+/* Both, in order, hold the bytes that one of them held. */
+static void both_stay(struct made *m) {
+    uint8_t all[10];
+    size_t n = iobufs_len(&m->out_text);
+    CHECK(n <= 10 && iobufs_len(&m->text) == 10 - n);
+    OK(iobufs_peek(&m->out_text, 0, all, n));
+    OK(iobufs_peek(&m->text, 0, all + n, 10 - n));
+    CHECK(!memcmp(all, "\5abcdefghi", 10));
+}
 static void builder_stays(struct made *m) { CHECK(iobufs_builder_remaining_mut(&m->builder) == 0 && view_is(&m->view, "\3abc")); }
 static void frames_stay(struct made *m) {
     CHECK(iobufs_frames_len(&m->frames) == 10 && view_is(&m->view, "\3abc") && view_is(&m->out_view, "old"));
@@ -121,6 +131,7 @@ static const struct { const char *name; run *call; kept *stays; } cases[] = {
     { "from_view", from_view, shared_stays }, { "freeze", freeze, given_up }, { "clone", clone, view_stays },
     { "split_to", split, view_stays }, { "take", take, view_stays }, { "slice", slice, view_stays },
     { "text clone", text_clone, text_stays }, { "append", append, text_stays }, { "prepend", prepend, text_stays },
+    { "append_all", append_all, both_stay },
     { "text split_to", text_split, text_stays }, { "text slice", text_slice, text_stays }, { "text truncate", text_truncate, text_stays }, { "text take", text_take, text_stays },
     { "text take_after", text_take_after, text_stays }, { "coalesce", coalesce, given_up },
     { "from_mut", text_from_mut, given_up }, { "parts freeze", parts_freeze, given_up },

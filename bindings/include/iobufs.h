@@ -11,7 +11,7 @@
  *     iobuf_drop(&view);
  *
  * A call that can fail returns a status (`iobufs_status`, named by `iobufs_strerror`), and the compiler warns if it isn't looked
- * at. A call that cannot fail returns its answer or nothing. Ranges, offsets and space are tested: if they don't fit, the
+ * at. A call that cannot fail returns its result or nothing. Ranges, offsets and space are tested: if they don't fit, the
  * status says so, and unless the comment says otherwise nothing has changed. A buffer that is moved into another leaves its
  * own handle empty; an empty handle may be used, and dropped, again. What an `out` handle held is dropped. Calls whose names
  * end in `_init` are the exception, and cheaper: their `out` names memory that holds no buffer yet, as uninitialized memory, and
@@ -103,7 +103,7 @@ struct iobufs_builder { uint64_t room[IOBUFS_BUILDER_SIZE / 8]; }; /* Builder: a
 struct iobufs_frames { uint64_t room[IOBUFS_FRAMES_SIZE / 8]; };   /* Frames: frames of bytes that come in chunks */
 struct iobufs_received { uint64_t room[IOBUFS_RECEIVED_SIZE / 8]; }; /* Received: frames of bytes that are read into one block, or none */
 
-/* Places. */
+/* Handles. */
 struct iobuf_at { struct iobuf *at; };
 struct iobufmut_at { struct iobufmut *at; };
 struct iobufs_at { struct iobufs *at; };
@@ -549,6 +549,33 @@ static inline uint32_t iobufs_swap32(uint32_t n) {
 }
 static inline uint64_t iobufs_swap64(uint64_t n) {
     return (uint64_t)iobufs_swap32((uint32_t)n) << 32 | iobufs_swap32((uint32_t)(n >> 32));
+}
+
+/* ---- one iobufs at the end of another ---- */
+
+/* Moves the chunks of `other` to the end of `bufs`, and leaves it empty. IOBUFS_TOO_LONG if the length would pass SIZE_MAX, and
+ * nothing has changed; memory: after IOBUFS_MEMORY some of the first chunks have moved, and the others stay. It is made of calls above:
+ * the chunks share their storage until they leave `other`. (own) */
+static inline IOBUFS_CHECKED iobufs_status iobufs_append_all(struct iobufs_at *bufs, struct iobufs_at *other) {
+    if (iobufs_len(bufs) > SIZE_MAX - iobufs_len(other)) return IOBUFS_TOO_LONG;
+    struct iobufs front_memory;
+    struct iobuf view_memory;
+    struct iobufs_at front = { &front_memory };
+    struct iobuf_at view = { &view_memory };
+    const uint8_t *at = NULL;
+    iobufs_status status = IOBUFS_OK;
+    iobufs_init(front.at);
+    iobuf_init(view.at);
+    for (size_t n; status == IOBUFS_OK && (n = iobufs_chunk(other, &at)) > 0;) {
+        status = iobufs_slice(other, 0, n, &front);
+        if (status == IOBUFS_OK) status = iobufs_try_into_single(&front, &view);
+        if (status == IOBUFS_OK) status = iobufs_append(bufs, &view);
+        if (status == IOBUFS_OK) status = iobufs_advance(other, n);
+    }
+    if (status == IOBUFS_OK) iobufs_drop(other);
+    iobufs_drop(&front);
+    iobuf_drop(&view);
+    return status;
 }
 
 /* ---- handles of memory that is made a buffer at once ---- */
