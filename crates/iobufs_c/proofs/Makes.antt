@@ -7,10 +7,10 @@ use base.Fraction.{full_share}
 use base.Stored.{Coded}
 use mir.Syntax.{Sym, Ty, Fn, Callee, named, local, value_local, ty_ptr, ty_ref, ty_unit, mut, block, seq, assign, place, rv_opd, copy, opd_unit, deref, field, return}
 use mir.Val.{Val, vptr, vstruct, vunit, of_list}
-use base.Logic.{SProp, ent, sep, never, emp, via, id⊢}
-use base.Fml.{Lft, GName, Share, ftrue, flft, fobs, fbor, froom}
+use base.Logic.{SProp, ent, never, emp, via, id⊢}
+use base.Fml.{Lft, GName, Share, ftrue, flft, fobs, fbor}
 use types.Logic.{Logic, sem}
-use types.Kit.{Item, ⋆, ‵, raw, ◌⊛◌, at_ret, Seq, Goal, ◌$◌, ◌∵◌, !, qed, by, move, keep, drop, split, join, fsplit, fsplit3, fjoin, fjoin3, fpick, fpack, rewrite, feq_i, feq_l, use2, suffices, frame, done}
+use types.Kit.{Item, ⋆, ‵, raw, ◌⊛◌, at_ret, ◌$◌, ◌∵◌, !, qed, by, move, keep, drop, split, join, fsplit, fsplit3, fjoin, fjoin3, fpick, fpack, rewrite, feq_i, feq_l, use2, suffices, frame, done}
 use types.Part.{whole, sub, look_in}
 use types.Run.{init, stop, fld, load, unit_lit, of_opd, assigns_last, first, blocks, exec, returns, enter}
 use types.ByLocal.{alloc_all, pass_all, free_all, look_at, get, through, sets, env}
