@@ -468,7 +468,8 @@ pub extern "C" fn iobufs_copy_to_slice(text: &mut TextAt, dst: &mut [u8]) -> u8
 #[unsafe(no_mangle)]
 pub extern "C" fn iobufs_peek(text: &mut TextAt, skip: usize, dst: &mut [u8]) -> u8
     ensures same { (text.new.at ≡ text.old.at) × (text.new.value ≡ text.old.value) }
-    ensures bytes { dst.new ≡ (if nat_le (skip + length dst.old) (text_len text.old.value) then take (length dst.old) (drop skip text.old.value.bytes) else dst.old) }
+    ensures bytes { dst.new ≡ (if nat_le (skip + length dst.old) (text_len text.old.value) then take (length dst.old) (drop skip text.old.value.bytes)
+        else dst.old) }
     ensures result { result ≡ (if nat_le (skip + length dst.old) (text_len text.old.value) then 0 else code_of Status.EndOfBuffer) }
 {
     let text = text.get();
