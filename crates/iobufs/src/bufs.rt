@@ -30,6 +30,7 @@ use iobufs_core::buf::{IoBuf, IoBufMut};
 use iobufs_core::codec::{BufError, Refused};
 use pieces::{Form, Pieces, START};
 use row::Row;
+pub use row::Run;
 pub use search::{Ends, Located, find_end};
 use std::alloc::{AllocError, Global};
 use std::marker::Model;
@@ -185,6 +186,17 @@ impl IoBufs {
         Chunks {
             text: self,
             next: 0,
+        }
+    }
+
+    /// Borrows the chunks from an index on as two runs, in order; of a single chunk none (own).
+    pub fn runs_from(&self, first: usize) -> (Run<'_>, Run<'_>)
+        ensures several { is_single self.now ≡ false → result.0 ++ result.1 ≡ drop first (text_chunks self.now) }
+        ensures single { is_single self.now ≡ true → result.0 ++ result.1 ≡ [] }
+    {
+        match &self.pieces.form {
+            Form::One(_) => (Run::none(), Run::none()),
+            Form::Many(row) => row.runs_from(first),
         }
     }
 

@@ -1,6 +1,6 @@
 -- Lists that are filled place by place: with the chunks of parts and their lengths, and with the buffers at places.
 use Rattle.std.proofs.Common.{◌≡◌, ℕ, zero, suc, ◌<◌, ◌≤◌, ◌+◌, ◌==◌, true, false, Option, None, replicate, slice_index_or, List, [], ◌∷◌, ◌++◌, length, map, take, drop, Some, slice_get, slice_set, arith, ap, sym, refl, ◌∙◌, length-take, take-append-drop, append-nil}
-use Rattle.std.proofs.Math.Seq.{map-set_same, take-append_seam}
+use Rattle.std.proofs.Math.Seq.{drop-append-add, map-set_same, take-append-add, take-append_seam}
 use Rattle.std.proofs.lemmas.Bool.Decides.{nat_tests}
 use Rattle.std.proofs.lemmas.Grind.{common_steps, replicate_next}
 use Rattle.iobufs_c.specs.Rows.{held_parts}
@@ -31,6 +31,32 @@ filled_more f g xs zs i x z inside at same so =
 -- the entries after the filled ones are unchanged
 pub rest_more : {X : Type 0} (xs old : List X) (i : ℕ) (x : X) → i < i + 1 → drop i xs ≡ drop i old → drop (i + 1) (slice_set xs i x) ≡ drop (i + 1) old
 rest_more xs old i x less so = drop-set-lt (i + 1) xs i x less ∙ sym (drop-drop 1 i xs) ∙ ap (drop 1) so ∙ drop-drop 1 i old
+
+-- ---- a list that is filled from two others, one after the other
+
+-- the first n of a list, and m of another: all of the first list, unless m is 0
+pub take_both : {X : Type 0} (xs ys : List X) (n m : ℕ) → n ≤ length xs → (n < length xs → m ≡ 0) → take (n + m) (xs ++ ys) ≡ take n xs ++ take m ys
+take_both [] ys zero m within full = let e : 0 + m ≡ m = omega arith in ap (λ k. take k ys) e
+take_both [] ys (suc n) m within full = absurd (omega (arith, within))
+take_both (x ∷ xs) ys zero m within full =
+    let none : m ≡ 0 = full (omega arith) in ap (λ k. take (0 + k) (x ∷ xs ++ ys)) none ∙ ap (λ k. take k ys) (sym none)
+take_both (x ∷ xs) ys (suc n) m within full =
+    let e : suc n + m ≡ suc (n + m) = omega arith in
+    ap (λ k. take k (x ∷ xs ++ ys)) e ∙ ap (λ zs. x ∷ zs) (take_both xs ys n m (omega (arith, within)) (λ less. full (omega (arith, less))))
+
+-- the first n entries of a list, and then m others
+pub filled_both : {X : Type 0} (xs ys post : List X) (n m : ℕ) → n ≤ length xs → post ≡ [] → take (n + m) (take n xs ++ (ys ++ post)) ≡ take n xs ++ take m ys
+filled_both xs ys post n m within none =
+    let size : length (take n xs) ≡ n = omega (arith, length-take n xs, within) in
+    ap (λ p. take (n + m) (take n xs ++ (ys ++ p))) none ∙ ap (λ zs. take (n + m) (take n xs ++ zs)) (append-nil ys)
+    ∙ ap (λ k. take (k + m) (take n xs ++ ys)) (sym size) ∙ take-append-add (take n xs) ys m
+
+-- the entries after these
+pub left_both : {X : Type 0} (xs ys post : List X) (n m : ℕ) → n ≤ length xs → post ≡ [] → drop (n + m) (take n xs ++ (ys ++ post)) ≡ drop m ys
+left_both xs ys post n m within none =
+    let size : length (take n xs) ≡ n = omega (arith, length-take n xs, within) in
+    ap (λ p. drop (n + m) (take n xs ++ (ys ++ p))) none ∙ ap (λ zs. drop (n + m) (take n xs ++ zs)) (append-nil ys)
+    ∙ ap (λ k. drop (k + m) (take n xs ++ ys)) (sym size) ∙ drop-append-add (take n xs) ys m
 
 -- ---- the pieces of parts
 

@@ -14,7 +14,7 @@ ghost use Rattle.iobufs_c.specs.Rows.{chunk_len, part_or_empty};
 use crate::part::PartAt;
 use crate::status::{Status, refusal};
 use crate::view::{ViewAt, ViewRoom};
-use iobufs::bufs::IoBufs;
+use iobufs::bufs::{IoBufs, Run};
 use iobufs_core::buf::IoBuf;
 use iobufs_core::codec::{Buf, OwnedBuf, Peek};
 use std::alloc::Global;
@@ -627,8 +627,26 @@ pub(crate) fn chunk_of(bytes: &[u8]) -> Chunk
     }
 }
 
-// Fills a list with the addresses and lengths of the chunks from `first` on, and returns how many it filled.
-fn fill_chunks(text: &IoBufs, first: usize, out: &mut [Chunk]) -> usize
+// Fills a list with the addresses and lengths of the first chunks of a run, and returns how many it filled.
+fn fill_run(run: &Run, out: &mut [Chunk]) -> usize
+    ensures count { result ≡ min (length out.old) (length run.now) }
+    ensures lengths { map (λ chunk. chunk.len) (take result out.new) ≡ map length (take result run.now) }
+    ensures rest { drop result out.new ≡ drop result out.old }
+{
+    let left = run.len();
+    let mut count = 0;
+    while count < out.len() && count < left {
+        let Some(chunk) = run.get(count) else {
+            return count;
+        };
+        out[count] = chunk_of(chunk);
+        count += 1;
+    }
+    count
+}
+
+// Fills a list as `fill_chunks` does, each chunk by its index.
+fn fill_each(text: &IoBufs, first: usize, out: &mut [Chunk]) -> usize
     ensures count { result ≡ min (length out.old) (length (text_chunks text.now) - first) }
     ensures lengths { map (λ chunk. chunk.len) (take result out.new) ≡ map length (take result (drop first (text_chunks text.now))) }
     ensures rest { drop result out.new ≡ drop result out.old }
@@ -643,6 +661,20 @@ fn fill_chunks(text: &IoBufs, first: usize, out: &mut [Chunk]) -> usize
         count += 1;
     }
     count
+}
+
+// Fills a list with the addresses and lengths of the chunks from `first` on, and returns how many it filled.
+fn fill_chunks(text: &IoBufs, first: usize, out: &mut [Chunk]) -> usize
+    ensures count { result ≡ min (length out.old) (length (text_chunks text.now) - first) }
+    ensures lengths { map (λ chunk. chunk.len) (take result out.new) ≡ map length (take result (drop first (text_chunks text.now))) }
+    ensures rest { drop result out.new ≡ drop result out.old }
+{
+    if text.is_single() {
+        return fill_each(text, first, out);
+    }
+    let (front, behind) = text.runs_from(first);
+    let count = fill_run(&front, out);
+    count + fill_run(&behind, &mut out[count..])
 }
 
 /// Fills a list for `writev` with the first chunks, and returns how many it filled.

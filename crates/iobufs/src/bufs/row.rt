@@ -39,6 +39,46 @@ impl Clone for Piece {
     }
 }
 
+/// Chunks of an `IoBufs` that are next to each other in memory. Its value is the list of their bytes.
+#[derive(Drop)]
+pub struct Run<'a> {
+    pieces: &'a [Piece],
+}
+
+impl<'a> Model for Run<'a> {
+    ghost use Rattle.std.specs.Prelude.{ℕ, List, map};
+
+    ghost Value = { List (List ℕ) };
+
+    ghost view = { λ r. map (λ piece. piece.view.bytes) r.pieces.now };
+}
+
+impl<'a> Run<'a> {
+    // No chunks.
+    pub(super) fn none() -> Run<'a>
+        ensures { result ≡ [] }
+    {
+        Run { pieces: &[] }
+    }
+
+    /// Returns the number of chunks (own).
+    pub fn len(&self) -> usize
+        ensures { result ≡ length self.now }
+    {
+        self.pieces.len()
+    }
+
+    /// Borrows a chunk by its index (own).
+    pub fn get(&self, i: usize) -> Option<&'a [u8]>
+        ensures { option_copied result ≡ slice_get self.now i }
+    {
+        match self.pieces.get(i) {
+            Some(piece) => Some(piece.view.as_ref()),
+            None => None,
+        }
+    }
+}
+
 /// Chunks that hold bytes, in a deque. Bytes that come or go at the front change the base and no end:
 ///
 /// ```text
@@ -149,6 +189,28 @@ impl Row {
         let (front, behind) = self.pieces.as_slices();
         let visit = show(front, visit);
         show(behind, visit);
+    }
+
+    /// The chunks from an index on.
+    pub(super) fn runs_from(&self, first: usize) -> (Run<'_>, Run<'_>)
+        ensures { result.0 ++ result.1 ≡ drop first (map (λ view. view.bytes) self.now.views) }
+    {
+        let (front, behind) = self.pieces.as_slices();
+        if first < front.len() {
+            return (
+                Run {
+                    pieces: &front[first..],
+                },
+                Run { pieces: behind },
+            );
+        }
+        let skip = (first - front.len()).min(behind.len());
+        (
+            Run {
+                pieces: &behind[skip..],
+            },
+            Run::none(),
+        )
     }
 
     /// Puts the bytes of all chunks into a buffer that has space for them.

@@ -1,20 +1,51 @@
-use Rattle.std.proofs.Common.{arith, ap, sym, ◌∙◌, length, drop}
-use Rattle.std.specs.Option.{option_copied}
-use Rattle.std.proofs.lemmas.Grind.{common_steps}
+use Rattle.std.proofs.Common.{◌≡◌, ◌≤◌, ◌<◌, ◌-◌, ◌++◌, ◌+◌, arith, ap, sym, drop, length, length-append, length-drop, length-take, map, take, ◌∙◌}
+use Rattle.std.proofs.lemmas.List.{drop_all, drop-drop, map-append, take_all}
 use Rattle.iobufs_core.specs.MarkedText.{text_chunks}
-use Rattle.iobufs_c.proofs.Chunks.{filled_more, get-drop, rest_more}
+use Rattle.iobufs_c.proofs.Chunks.{filled_both, left_both, take_both}
 use Rattle.iobufs_c.proofs.text.fill_chunks.Goals as goal
 
-pub loop-count-preserved : goal.loop-count-preserved
-loop-count-preserved c =
-    let inv = c.loop-count.invariant in
-    let i = c.loop-count.count in
-    let pieces = text_chunks c.args.text.now in
-    let at = get-drop c.args.first pieces i ∙ sym c.chunk_at.ensures ∙ ap option_copied c.in-Some.is in record {
-      size = grind (arith, common_steps, inv.size);
-      within = grind (arith, common_steps);
-      there = omega (arith);
-      lengths = filled_more (λ chunk. chunk.len) length c.loop-count.out (drop c.args.first pieces) i c.chunk_of.result c.in-Some.chunk.now
-          c.loop-count-test.true at c.chunk_of.ensures inv.lengths;
-      rest = rest_more c.loop-count.out c.args.out.now i c.chunk_of.result (omega arith) inv.rest;
-    }
+pub returns-clause-count : goal.returns-clause-count
+returns-clause-count c =
+    let front = c.runs_from-front.result.0 in let behind = c.runs_from-front.result.1 in let xs = c.fill_run-count.new.out in let n = c.fill_run-count.result in
+    let all = ap length (c.runs_from-front.ensures.several (sym c.is_single.ensures ∙ c.if-is_single.false)) in
+    omega (
+      arith,
+      all,
+      length-append front behind,
+      length-drop c.args.first (text_chunks c.args.text.now),
+      c.fill_run-count.ensures.count,
+      c.fill_run.ensures.count,
+      length-take (length xs - n) (drop n xs),
+      length-drop n xs,
+      c.fill_run-count.auto.out,
+    )
+
+pub returns-clause-lengths : goal.returns-clause-lengths
+returns-clause-lengths c =
+    let front = c.runs_from-front.result.0 in let behind = c.runs_from-front.result.1 in let xs = c.fill_run-count.new.out in
+    let ys = c.fill_run.new.out in let n = c.fill_run-count.result in let m = c.fill_run.result in
+    let several = c.runs_from-front.ensures.several (sym c.is_single.ensures ∙ c.if-is_single.false) in
+    let room : n ≤ length xs = omega (arith, c.fill_run-count.ensures.count, c.fill_run-count.auto.out) in
+    let size = length-take (length xs - n) (drop n xs) in
+    let full : n < length front → m ≡ 0 = λ less. omega (
+      arith,
+      less,
+      c.fill_run-count.ensures.count,
+      c.fill_run.ensures.count,
+      size,
+      length-drop n xs,
+      c.fill_run-count.auto.out,
+    ) in
+    ap (map (λ chunk. chunk.len)) (filled_both xs ys _ n m room (drop_all (length xs - n) (drop n xs) (omega (arith, length-drop n xs))))
+    ∙ map-append (λ chunk. chunk.len) (take n xs) (take m ys) ∙ ap (λ more. more ++ map (λ chunk. chunk.len) (take m ys)) c.fill_run-count.ensures.lengths
+    ∙ ap (λ more. map length (take n front) ++ more) c.fill_run.ensures.lengths ∙ sym (map-append length (take n front) (take m behind))
+    ∙ ap (map length) (sym (take_both front behind n m (omega (arith, c.fill_run-count.ensures.count)) full))
+    ∙ ap (λ chunks. map length (take (n + m) chunks)) several
+
+pub returns-clause-rest : goal.returns-clause-rest
+returns-clause-rest c =
+    let xs = c.fill_run-count.new.out in let ys = c.fill_run.new.out in let n = c.fill_run-count.result in let m = c.fill_run.result in
+    let room : n ≤ length xs = omega (arith, c.fill_run-count.ensures.count, c.fill_run-count.auto.out) in
+    let whole = take_all (length xs - n) (drop n xs) (omega (arith, length-drop n xs)) in
+    left_both xs ys _ n m room (drop_all (length xs - n) (drop n xs) (omega (arith, length-drop n xs))) ∙ c.fill_run.ensures.rest
+    ∙ ap (drop m) whole ∙ ap (drop m) c.fill_run-count.ensures.rest ∙ drop-drop m n c.args.out.now
