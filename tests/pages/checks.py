@@ -26,7 +26,7 @@ def words():
             found.update(WORD.findall(file.read_text()))
     others = [*(ROOT / "tests").rglob("*"), *CRATES.glob("*/stdout"), *(ROOT / "bench").iterdir(), *(ROOT / "bindings").rglob("*"), ROOT / "crates.txt", ROOT / "HANDLES"]
     for file in others:
-        if file.is_file() and file.suffix != ".md" and file.name != "docs" and "pages" not in file.parts:
+        if file.is_file() and file.suffix != ".md" and file.name != "docs" and "pages" not in file.relative_to(ROOT).parts:
             found.add(file.stem)
             found.update(WORD.findall(file.read_text(errors="ignore")))
     return found
