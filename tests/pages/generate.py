@@ -16,7 +16,7 @@ API = {
     "BufMut": "iobufs_core/src/codec/buf_mut.rt",
     "BufsMut, EncodeSize, Write, Read, Encode": "iobufs_core/src/codec/wire.rt iobufs_core/src/codec/encode.rt",
     "RangeCfg, lengths, find_end": "iobufs_core/src/codec/base.rt iobufs_core/src/codec/length.rt iobufs/src/bufs/search.rt",
-    "Frames, Prefix": "iobufs_frames/src/lib.rt iobufs_frames/src/lengths.rt",
+    "Frames, Prefix, Received": "iobufs_frames/src/lib.rt iobufs_frames/src/lengths.rt iobufs_frames/src/block.rt",
     "FrameReader, FrameWriter": "iobufs_streams/src/reader.rt iobufs_streams/src/writer.rt iobufs_streams/src/echo.rt",
     "FrameStream, FrameSink": "iobufs_async/src/stream.rt iobufs_async/src/sink.rt",
     "Look, ByParts, IntoParts, WriteParts": "iobufs_values/src/look.rt iobufs_values/src/parts.rt iobufs_values/src/as_item.rt",
@@ -36,6 +36,7 @@ SHORT = [
     (r"length (\w+)\.(?:now|old)", r"\1.len"),
     (r"(?:self|to)\.old\.rest\.bytes ≡ \[\]", "is_sent"),
     (r"n < prefix_limit self", "fits(n)"),
+    (r"self\.old\.space", "space"),
     (r"E\.probed ends\.old ≡ 0", "no probe was counted before"),
     (r"I\.can_next \w+", "the iterator can go on"),
     (r"IsFinite \(.*\)$", "the iterator ends"),
@@ -61,6 +62,9 @@ SURE = [
     (r"items_pushed .* ≡ 0", "nothing pushed"),
     (r"items_inline .* ≡ 0", "no inline bytes"),
     (r"length self ≡ 1|is_single self ≡ true", "single"),
+    (r"length body\.bytes ≤ self\.old\.most → .*", "at most `most` bytes that `fits`, in a frame below 2^64 bytes"),
+    (r"self\.old\.rest\.bytes ≡ \[\]", "all is sent"),
+    (r"IsTrue self\.old\.is_flushed", "nothing sent since the last"),
     (r"length self\.old\.state\.tables.*", "the space is there"),
 ]
 
