@@ -1,4 +1,4 @@
--- What a sink of frames was sent, as it is written out.
+-- The frames that a sink was sent, as it writes them.
 use Rattle.std.proofs.Common.{◌≡◌, List, [], ◌∷◌, ◌++◌, map, Result, Ok, Err, refl, ap, subst, sym, ◌∙◌, append_assoc, append-nil}
 use Rattle.futures.specs.declared.task.Poll.{Poll}
 use Rattle.futures.specs.declared.task.Poll.TheVariants.{Ready, Pending}

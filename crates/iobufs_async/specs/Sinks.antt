@@ -1,4 +1,4 @@
--- What a sink of frames was sent.
+-- The frames that a sink was sent.
 --     WasSent    from some state on, the writer was given the frames of these bodies, but for what is unsent
 use Rattle.std.specs.Prelude.{◌≡◌, List, ℕ, ◌++◌, map}
 use Rattle.tokio.specs.Io.Moved.{Passes}

@@ -16,7 +16,7 @@ use tokio::io::{AsyncRead, AsyncWrite};
 
 const RANGE: RangeCfg = RangeCfg { lo: 0, hi: 8 };
 
-// What a call of the script does.
+// A step of the script.
 #[derive(Clone, Copy)]
 enum Call {
     // A read gives these bytes, or as many as fit; at the end of the script it gives none.

@@ -24,7 +24,7 @@ A frame is a length as a varint (seven bits a byte, the lowest first) and a body
 Status: 0 if the input ends between two frames, 1 inside a frame, 2 at a bad length or for other arguments,
 3 if a stream or an allocation fails.";
 
-// What the arguments ask for.
+// The task that the arguments name.
 enum Asked {
     Echo,
     Help,

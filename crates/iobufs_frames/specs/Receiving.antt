@@ -1,4 +1,4 @@
--- What contracts see of received bytes.
+-- Received bytes, as contracts see them.
 --     ReceivedBytes    how the lengths are written, the bytes that were not taken, and how many more fit after them
 --     none_received    none of them, and no space
 --     KeepsSpace       a frame was taken: the space stays, or went with an emptied block

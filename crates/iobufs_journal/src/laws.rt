@@ -7,7 +7,7 @@ use crate::journal::JournalEnd;
 /// Bytes have one list of records, one end and one rest. Bytes of records have these records, and are whole. A whole
 /// journal with the first bytes of records after it has those of them that are whole, and isn't damaged: so a writer that
 /// ends at any byte leaves what was there and its first records. If one byte of a head changes, the records before it are
-/// found, and the journal is damaged, whatever follows.
+/// found, and the journal is damaged, whatever follows; by one other byte a first head may seem of an older format.
 pub fn journal_law()
     ensures one { (most : ℕ) (text : List ℕ) → most < 2 ^ 32 → HasOneJournal most text }
     ensures written { (most : ℕ) (text : List ℕ) (found written : List (List ℕ)) (end : JournalEnd) (rest : List ℕ) → most < 2 ^ 32 → AreShort most written

@@ -1,5 +1,5 @@
 // Frames to a writer, and from a reader to a writer. `tests/costs` has the numbers that are wanted: a frame that is put, sent
-// and flushed allocates nothing, and an echo allocates blocks alone.
+// and flushed allocates nothing, and an echo allocates blocks, and a header for each that is filled.
 use crate::word::{Ended, end_case, mark};
 use iobufs::bufs::IoBufs;
 use iobufs_core::buf::IoBuf;

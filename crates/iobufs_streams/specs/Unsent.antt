@@ -1,4 +1,4 @@
--- What contracts see of an unsent frame.
+-- An unsent frame, as contracts see it.
 --     UnsentBytes    what is left of its length and of its body, and the bytes of both
 --     unsent_rest    what is left of them after their first bytes; a body of which all went shares no block
 --     IsAdvanced     some bytes went, a few at a time

@@ -14,7 +14,8 @@ pub enum FrameError {
     /// The input ends inside a frame.
     #[error("the input ends inside a frame")]
     Cut,
-    /// The reader's error, or the writer's; never `ErrorKind::Interrupted`, after which it is tried again.
+    /// The reader's error, or the writer's; from a read or a write never `ErrorKind::Interrupted`, after which it is tried
+    /// again.
     #[error("{0}")]
     Io(io::Error),
     /// An allocation failed.

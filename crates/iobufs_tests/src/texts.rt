@@ -18,7 +18,7 @@ struct Case {
     before: usize,
     skip: usize,
     n: usize,
-    // What these are, as `owned` tells it, and the chunks that are left.
+    // Their kind, as `owned` tells it, and the chunks that are left.
     wanted: &'static [u8],
     left: &'static [u8],
 }

@@ -1,4 +1,4 @@
--- What a decoder of frames gives.
+-- The answers of a decoder of frames.
 --     gives_frames    a frame of a length in the range, with its body and what is after it; why there is none; and the end,
 --                     which a frame that was begun cuts
 use Rattle.std.specs.Prelude.{◌≡◌, ◌^◌, ◌<◌, ◌≤◌, [], ◌++◌, None, Ok, Err, length}

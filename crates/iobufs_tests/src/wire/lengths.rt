@@ -42,7 +42,7 @@ const LENGTHS: [Case; 10] = rows! {
     b"\xff\xff\xff\xff\xff\xff\xff\xff\x7f", ANY, Err(END), Ok(HIGH - 1);
 };
 
-// What was read, and whether the chunks are what that leaves: none, or all if it failed.
+// Reads a value, and tests that the right chunks are left: none, or all if it failed.
 fn read<T: Read<Cfg = RangeCfg> + Drop, B: OwnedBuf>(
     rt: &(impl Abort + AllocGlobal),
     buf: &mut B,

@@ -38,7 +38,10 @@ returns-in-Ok-None g c =
       ends = ends;
       all = all;
       begun = begun;
-      done = (rw c.in-Ok-None.field-0-is at c.in-Ok-None.ensures.ended, ap (λ (u : UnsentBytes). u.bytes) c.next_flushed.ensures.rest ∙ c.loop.invariant.nothing);
+      done = (
+        rw c.in-Ok-None.field-0-is at c.in-Ok-None.ensures.ended,
+        ap (λ (u : UnsentBytes). u.bytes) c.next_flushed.ensures.rest ∙ c.loop.invariant.nothing,
+      );
       input = tt;
       from_prefix = c.next_flushed.ensures.from_prefix ∙ c.loop.invariant.is.same.same_from;
       range = c.next_flushed.ensures.range ∙ c.loop.invariant.is.same.same_range;

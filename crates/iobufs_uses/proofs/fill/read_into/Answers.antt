@@ -49,7 +49,8 @@ returns-in-Ok-clause-ok g c =
       length-append (take len all) (got ++ post_of len k all),
       length-append got (post_of len k all),
     ) in
-    let before : take len all ≡ old.filled = ap (take len) same ∙ ap (λ m. take m (part_with_len old (part_capacity old)).filled) c.len-len.ensures ∙ kept old in
+    let before : take len all ≡ old.filled =
+    ap (take len) same ∙ ap (λ m. take m (part_with_len old (part_capacity old)).filled) c.len-len.ensures ∙ kept old in
     let filled : c.truncate.new.self.filled ≡ old.filled ++ take n got = ap (λ (p : Part). p.filled) c.truncate.ensures
     ∙ take-take (len + n) (length long) _ (omega (arith, fits, ap (λ (w : List ℕ). length w) c.as_mut.ensures.value))
     ∙ take-append-le (len + n) (put_mid len k all got) _ whole ∙ front len k all got n within few ∙ ap (λ w. w ++ take n got) before in
