@@ -19,7 +19,7 @@ API = {
     "Frames, Prefix, Received": "iobufs_frames/src/lib.rt iobufs_frames/src/lengths.rt iobufs_frames/src/block.rt",
     "FrameReader, FrameWriter": "iobufs_streams/src/reader.rt iobufs_streams/src/writer.rt iobufs_streams/src/echo.rt",
     "FrameStream, FrameSink": "iobufs_async/src/stream.rt iobufs_async/src/sink.rt",
-    "Look, ByParts, IntoParts, WriteParts": "iobufs_values/src/look.rt iobufs_values/src/parts.rt iobufs_values/src/as_item.rt",
+    "Look, ByParts, IntoParts": "iobufs_values/src/look.rt iobufs_values/src/parts.rt",
     "Machine": "iobufs_owner/src/owner.rt iobufs_owner/src/owner/reserve.rt",
     "Table": "iobufs_run/src/table.rt",
 }

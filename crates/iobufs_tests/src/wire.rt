@@ -2,6 +2,7 @@
 mod chunks;
 mod encode;
 mod lengths;
+mod message;
 mod parts;
 mod shard;
 mod values;

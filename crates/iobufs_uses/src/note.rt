@@ -6,8 +6,8 @@ ghost use Rattle.iobufs_core.specs.Wire.{view_written};
 use iobufs::EncodeExt;
 use iobufs::bufs::IoBufs;
 use iobufs_core::buf::IoBuf;
-use iobufs_core::codec::{BufMut, BufsMut, EncodeSize, Error, Write};
-use iobufs_values::{ByParts, List, Signed, WriteParts};
+use iobufs_core::codec::Error;
+use iobufs_values::{ByParts, List, Signed};
 use std::alloc::Global;
 
 /// A number, a byte and a body.
@@ -28,26 +28,6 @@ impl ByParts for Note {
         Note { number, kind, body }
     }
 }
-
-// [docs: item]
-impl WriteParts for Note {
-    fn parts_size(&self) -> Option<usize> {
-        (self.number, self.kind, &self.body).encode_size()
-    }
-
-    fn parts_inline_size(&self) -> usize {
-        (self.number, self.kind, &self.body).encode_inline_size()
-    }
-
-    fn write_parts<B: BufMut>(&self, buf: &mut B) {
-        (self.number, self.kind, &self.body).write(buf);
-    }
-
-    fn write_parts_bufs<B: BufsMut>(&self, buf: &mut B) -> Result<(), Error> {
-        (self.number, self.kind, &self.body).write_bufs(buf)
-    }
-}
-// [docs end]
 
 impl Note {
     /// Encodes the note. Its body is not copied.

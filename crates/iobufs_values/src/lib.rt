@@ -2,13 +2,12 @@
 //!
 //! - `look`: the trait `Look`, with `read_whole` and `decode_cfg` over it. `fault`: why a value is not decoded.
 //! - `numbers`, `views`, `option`, `several`: numbers and lengths; views, `Bytes` and arrays; `bool` and `Option`; tuples.
-//! - `parts`, `as_item`: types that are read and written as the tuple of their fields, also as an item.
+//! - `parts`: types that are read and written as the tuple of their fields.
 //! - `kinds`: a byte for the kind followed by a value, and a value of one of two kinds.
 //! - `specs/`: `Form` is what a value has to meet, in one record, and how each kind is decoded; `Forms` that each kind
 //!   meets it.
 #![tactic(auto)]
 
-mod as_item;
 mod fault;
 mod kinds;
 mod list;
@@ -20,7 +19,6 @@ mod several;
 mod signed;
 mod views;
 
-pub use as_item::{AsItem, WriteParts};
 pub use fault::Fault;
 pub use kinds::{Either, Kind, Tagged};
 pub use list::List;

@@ -3,13 +3,13 @@
 use crate::same::assert_same;
 use crate::wire::chunks::{ANY, UP_TO_9, chunks_of, concatenated, copied_bytewise, view};
 use crate::wire::encode::assert_written;
+use crate::wire::message::Message;
 use bytes::Bytes;
 use iobufs::EncodeExt;
 use iobufs::bufs::IoBufs;
 use iobufs_core::buf::IoBuf;
 use iobufs_core::codec::{Encode, Error, Peek, RangeCfg, Write};
-use iobufs_uses::note::Note;
-use iobufs_values::{AsItem, Fault, List, Look, Signed};
+use iobufs_values::{Fault, List, Look, Signed};
 use std::process::Abort;
 
 pub const END: Fault = Fault::Codec(Error::EndOfBuffer);
@@ -92,33 +92,20 @@ pub fn assert_whole<T: Look + Write + PartialEq + Drop>(
 }
 
 // The number 7, the kind 2 and the body `abc`.
-const NOTE: &[u8] = b"\0\0\0\x07\x02\x03abc";
-
-fn note(number: u32, body: &'static [u8]) -> AsItem<Note> {
-    AsItem {
-        value: Note {
-            number,
-            kind: 2,
-            body: view(body),
-        },
-    }
-}
+const MESSAGE: &[u8] = b"\0\0\0\x07\x02\x03abc";
 
 #[test]
-fn a_note_as_an_item(rt: HostRuntime) {
+fn a_message(rt: HostRuntime) {
+    let message = Message {
+        number: 7,
+        kind: 2,
+        body: view(b"abc"),
+    };
     let cfg = ((), (), UP_TO_9);
     let chunks: &[&[u8]] = &[b"\0\0\0\x07\x02\x03", b"abc"];
-    assert_whole(&rt, "a note", &note(7, b"abc"), &cfg, 6, chunks);
-    let mut shared = IoBuf::from(Bytes::from_static(NOTE));
-    assert_read(&rt, "a note in bytes", &mut shared, &cfg, &note(7, b"abc"));
-}
-
-#[test]
-fn a_list_of_notes(rt: HostRuntime) {
-    let values = vec![in rt.alloc(); note(7, b"abc"), note(8, b"")].expect(&rt, "two notes");
-    let cfg = (UP_TO_9, ((), (), UP_TO_9));
-    let chunks: &[&[u8]] = &[b"\x02\0\0\0\x07\x02\x03", b"abc", b"\0\0\0\x08\x02\0"];
-    assert_whole(&rt, "two notes", &List { values }, &cfg, 13, chunks);
+    assert_whole(&rt, "a message", &message, &cfg, 6, chunks);
+    let mut shared = IoBuf::from(Bytes::from_static(MESSAGE));
+    assert_read(&rt, "a message in bytes", &mut shared, &cfg, &message);
 }
 
 #[test]
