@@ -1,10 +1,10 @@
 /*
- * Calls at size and at their edges: chunks of up to 2 MiB, read through the pointer that is returned; empty ranges; lengths
+ * Calls at size and at their edges: chunks of up to 5 MiB, read through the pointer that is returned; empty ranges; lengths
  * and limits above 2^32; fronts that are no length. The bytes are those of `model`, and a chunk is a range of it.
  */
 #include "test.h"
 
-#define LONG ((size_t)2 << 20)
+#define LONG ((size_t)5 << 20)
 #define FAR ((size_t)1 << 33)
 
 static uint8_t model[LONG], room[LONG];
