@@ -71,11 +71,17 @@ fn lengths_are_written(rt: HostRuntime) -> Result<(), Fail> {
 type Case = (&'static [&'static [u8]], usize, &'static [u8]);
 
 const FRAMES: [Case; 6] = rows! {
+    // Frames of no chunk.
     &[], 1024, b"Open|";
+    // Two frames of no bytes.
     &[b"\0\0"], 1024, b"||Open|";
+    // Frames across five chunks.
     &[b"\x02", b"ab\x03", b"c", b"de\x84", b"\0"], 1024, b"ab|cde|Bad(InvalidVarint)|\x84\0";
+    // Those frames in one chunk.
     &[b"\x02ab\x03cde\x84\0"], 1024, b"ab|cde|Bad(InvalidVarint)|\x84\0";
+    // A frame whose length is not in the range.
     &[b"\x02ab\x03cde\x84\0"], 2, b"ab|Bad(InvalidLength(3))|\x03cde\x84\0";
+    // A frame and a length that goes on.
     &[b"\x02a", b"b\x84"], 1024, b"ab|Open|\x84";
 };
 

@@ -50,18 +50,24 @@ enum Adopted {
 // The adopted value, its bytes, those of the writable buffer, and its capacity. This is the capacity of the storage if
 // no other handle shares it, and else that of a copy. A `Bytes` of an empty list has no storage.
 const ADOPTED: [(Adopted, &'static [u8], &'static [u8], usize); 14] = [
+    // The capacity of an adopted list.
     (Adopted::List(100), b"abc", b"abc", 100),
     (Adopted::List(5), b"exact", b"exact", 5),
     (Adopted::List(64), b"", b"", 0),
+    // The capacity of an adopted rest.
     (Adopted::Rest(7), b"prefix-payload", b"payload", 14),
+    // The capacity of a copy of shared bytes.
     (Adopted::Shared, b"shared", b"shared", 6),
     (Adopted::Static, b"static", b"static", 6),
     (Adopted::Static, b"", b"", 0),
+    // The capacity of an adopted block.
     (Adopted::Block(100, 0), b"abc", b"abc", 100),
     (Adopted::Block(100, 7), b"prefix-payload", b"payload", 100),
     (Adopted::Block(64, 0), b"", b"", 64),
     (Adopted::Split(3), b"shared", b"sha", 3),
+    // A view becomes the buffer that it was.
     (Adopted::View(13), b"abc", b"abc", 16),
+    // A shared view is copied into a buffer.
     (Adopted::SharedView(13), b"abc", b"abc", 3),
     (Adopted::StaticView, b"abc", b"abc", 3),
 ];

@@ -128,11 +128,15 @@ fn inline_values(rt: HostRuntime) {
 // Lengths, as varints.
 const LENGTHS: [(usize, &'static [u8]); 7] = rows! {
     0, b"\0";
+    // The longest length of one byte.
     127, b"\x7f";
+    // The shortest length of two bytes.
     128, b"\x80\x01";
+    // Three hundred.
     300, b"\xac\x02";
     9223372036854775807, b"\xff\xff\xff\xff\xff\xff\xff\xff\x7f";
     9223372036854775808, b"\x80\x80\x80\x80\x80\x80\x80\x80\x80\x01";
+    // The longest length.
     usize::MAX, b"\xff\xff\xff\xff\xff\xff\xff\xff\xff\x01";
 };
 
@@ -145,7 +149,9 @@ fn lengths(rt: HostRuntime) {
 
 // Values that are too long to be encoded, each with the error.
 const TOO_LONG: [(Zeros, Error); 3] = rows! {
+    // More zeros than a number counts.
     Zeros { a: 1 << 63, b: 1 << 63, }, Error::TooLong;
+    // More zeros than a buffer has.
     Zeros { a: 1 << 63, b: 0 }, Error::BadLayout;
     Zeros { a: 1 << 62, b: 0 }, Error::Memory;
 };

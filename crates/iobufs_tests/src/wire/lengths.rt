@@ -30,15 +30,25 @@ type Case = (
 );
 
 const LENGTHS: [Case; 10] = rows! {
+    // A length of nothing.
     b"", UP_TO_1024, Err(END), Err(END);
+    // A length of none.
     b"\x00", UP_TO_1024, Ok(b""), Ok(0);
+    // A length in a range without numbers.
     b"\x00", NONE, Err(Error::InvalidLength(0)), Err(Error::InvalidLength(0));
+    // A length that has no end in nine bytes.
     b"\x80\x80\x80\x80\x80\x80\x80\x80\x80", UP_TO_1024, Err(END), Err(END);
+    // A length that ends with a zero.
     b"\x80\x80\x80\x80\x80\x80\x80\x80\x80\x00", ANY, Err(VARINT), Err(VARINT);
+    // A length of two to the sixty-third, outside the range.
     b"\x80\x80\x80\x80\x80\x80\x80\x80\x80\x01", UP_TO_1024, Err(TOO_HIGH), Err(TOO_HIGH);
+    // A length of two to the sixty-third.
     b"\x80\x80\x80\x80\x80\x80\x80\x80\x80\x01", ANY, Err(END), Ok(HIGH);
+    // A length that ends in a tenth byte above one.
     b"\xff\xff\xff\xff\xff\xff\xff\xff\xff\x7f", ANY, Err(VARINT), Err(VARINT);
+    // A length of ten bytes of ones.
     b"\xff\xff\xff\xff\xff\xff\xff\xff\xff\xff", ANY, Err(VARINT), Err(VARINT);
+    // The longest length of nine bytes.
     b"\xff\xff\xff\xff\xff\xff\xff\xff\x7f", ANY, Err(END), Ok(HIGH - 1);
 };
 

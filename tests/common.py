@@ -1,0 +1,60 @@
+"""What the scripts of this folder share: how they count and compare, run a program, and build the libraries that are loaded
+before one; and how each script that tries itself on false input says so."""
+import os
+import select
+import subprocess
+from pathlib import Path
+
+HERE = Path(__file__).resolve().parent
+TOP = HERE.parent
+CRATES = TOP / "crates"
+SECONDS = 120
+
+
+class Checks:
+    """How many checks passed; each that fails is told at once."""
+
+    def __init__(self):
+        self.passed = self.failed = 0
+
+    def say(self, name, faults):
+        """Counts a check that found these faults."""
+        self.passed += not faults
+        self.failed += bool(faults)
+        for fault in faults:
+            print(f"FAILED {name}: {fault}", flush=True)
+
+    def say_all(self, results):
+        for name, faults in results:
+            self.say(name, faults)
+
+    def find(self, name, faults, number=1):
+        """Counts a false input, in which this many faults have to be found."""
+        self.say(f"{name} that is false", [] if len(faults) == number else [f"{len(faults)} faults are found: {faults}"])
+
+    def end(self):
+        """Prints how many passed and failed, and answers the status."""
+        print(f"{self.passed} passed, {self.failed} failed")
+        return self.failed > 0
+
+
+def faults(got, wanted, names=("printed", "message", "status")):
+    return [f"{name} {str(a)[:80]}, not {str(b)[:80]}" for name, a, b in zip(names, got, wanted) if a != b]
+
+
+def library(name, room):
+    """The library of NAME.c, built in this folder."""
+    made = Path(room) / f"{name}.so"
+    subprocess.run(["cc", "-O2", "-shared", "-fPIC", "-o", made, HERE / f"{name}.c"], check=True)
+    return made
+
+
+def answer(stream, length):
+    """What a program writes until it has written so many bytes, or nothing comes for ten seconds."""
+    got = bytearray()
+    while len(got) < length and select.select([stream], [], [], 10)[0]:
+        piece = os.read(stream.fileno(), 1 << 16)
+        if not piece:
+            break
+        got += piece
+    return bytes(got)
