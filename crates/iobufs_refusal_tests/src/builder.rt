@@ -1,10 +1,10 @@
 // Pushes to a `Builder`, which hand back what they were given, and values that are encoded into chunks.
-use crate::made::shows;
 use crate::word::{Ended, end, mark};
 use bytes::Bytes;
 use iobufs::builder::{Builder, EncodeExt};
 use iobufs_core::buf::IoBuf;
 use iobufs_core::codec::{BufError, BufMut, BufsMut, Error, Write};
+use iobufs_made::shows;
 use std::alloc::Global;
 use std::process::Abort;
 

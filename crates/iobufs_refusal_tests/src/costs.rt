@@ -2,12 +2,12 @@
 // it leaves are those of the model: a list of bytes, cut at multiples of a length.
 use crate::costs::calls::{Args, Costed, Counted, Given};
 use crate::costs::shape::{Place, Shape};
-use crate::costs::stores::{ORIGINS, Origin, STORES, Store, parts_of, stored, stored_part, text};
 use crate::word::{Ended, mark};
 use iobufs::bufs::IoBufs;
 use iobufs::bufs_mut::IoBufsMut;
 use iobufs_core::buf::{IoBuf, IoBufMut};
 use iobufs_core::codec::BufError;
+use iobufs_made::stores::{ORIGINS, Origin, STORES, Store, parts_of, stored, stored_part, text};
 use std::alloc::Global;
 use std::fmt::Debug;
 use std::process::Abort;
@@ -18,7 +18,6 @@ mod drawn;
 mod held;
 mod shape;
 mod sizes;
-mod stores;
 
 // The lengths of the views and writable buffers.
 const LENGTHS: [usize; 5] = [64, 1000, 4097, 65537, 1048577];

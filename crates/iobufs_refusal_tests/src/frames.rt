@@ -1,10 +1,10 @@
 // Frames of bytes that come in pieces.
-use crate::made::shows;
 use crate::word::{Ended, end, end_case, mark};
 use iobufs::bufs::IoBufs;
 use iobufs_core::buf::IoBuf;
 use iobufs_core::codec::{BufError, Error, RangeCfg};
 use iobufs_frames::{ByteOrder, End, Frames, Prefix, Run, Width, framed_with};
+use iobufs_made::shows;
 use std::alloc::Global;
 use std::process::Abort;
 

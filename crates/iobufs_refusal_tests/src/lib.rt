@@ -37,8 +37,6 @@ mod frames;
 #[cfg(test)]
 mod machine;
 #[cfg(test)]
-mod made;
-#[cfg(test)]
 mod streams;
 #[cfg(test)]
 mod table;

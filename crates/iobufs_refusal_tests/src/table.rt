@@ -1,7 +1,7 @@
 // A table of names, and a run of commands. `tests/sessions` have each command with each allocation failing.
-use crate::made::shows;
 use crate::word::{Ended, end, mark};
 use iobufs_core::codec::BufError;
+use iobufs_made::shows;
 use iobufs_run::command::{Cmd, Kind, Piece, Refusal, Reply};
 use iobufs_run::table::{Slot, Table};
 use std::alloc::Global;

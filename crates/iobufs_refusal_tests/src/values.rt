@@ -1,11 +1,11 @@
 // Values that are written and read.
-use crate::made::{gathered, native, shows};
 use crate::word::{Ended, end, mark};
 use bytes::Bytes;
 use iobufs::bufs::IoBufs;
 use iobufs::builder::Builder;
 use iobufs_core::buf::IoBuf;
 use iobufs_core::codec::{BufError, BufMut, Encode, Error, RangeCfg, Read, Write};
+use iobufs_made::{native, shows, text};
 use iobufs_values::{Fault, List, Look};
 use std::alloc::Global;
 use std::process::Abort;
@@ -20,7 +20,7 @@ fn is_read<T: Read + PartialEq + Drop>(
     value: &T,
     left: &[&[u8]],
 ) {
-    let mut bufs = gathered(rt.alloc(), chunks).expect(rt, "a fixture");
+    let mut bufs = text(rt.alloc(), chunks).expect(rt, "a fixture");
     let (read, word) = lent!(
         *rt,
         T::read_cfg(rt.alloc(), &mut bufs, cfg),
@@ -91,7 +91,7 @@ fn written<T: Write>(rt: &(impl Print + Abort + AllocGlobal), value: &T, begun: 
 // A view has to be shared first, or its push fails: nothing is put before it is shared.
 #[test]
 fn a_native_view_is_written(rt: HostRuntime) {
-    let view = native(rt.alloc(), 8, b"xyz").expect(&rt, "a fixture");
+    let view = native(rt.alloc(), b"xyz", 5).expect(&rt, "a fixture");
     written(&rt, &view, &[b"ab\x03"])
 }
 
@@ -135,7 +135,7 @@ fn is_read_whole<T: Look + PartialEq + Drop>(
     value: &T,
     left: &[&[u8]],
 ) {
-    let mut bufs = gathered(rt.alloc(), chunks).expect(rt, "a fixture");
+    let mut bufs = text(rt.alloc(), chunks).expect(rt, "a fixture");
     let (read, word) = lent!(
         *rt,
         T::read_whole(rt.alloc(), &mut bufs, cfg),
@@ -150,7 +150,7 @@ const LISTED: [&'static [u8]; 3] = [b"\x02\x02wx\x02", b"y", b"z!"];
 
 #[test]
 fn a_list_of_bytes_is_read(rt: HostRuntime) {
-    let mut bufs = gathered(rt.alloc(), &LISTED).expect(&rt, "a fixture");
+    let mut bufs = text(rt.alloc(), &LISTED).expect(&rt, "a fixture");
     let (list, word) = lent!(
         rt,
         <List<Bytes> as Look>::read_whole(rt.alloc(), &mut bufs, &(RANGE, RANGE)),
@@ -250,8 +250,8 @@ fn fails<T: Look + Drop>(
 // A count allocates nothing, however large it is: space is made for values that are found.
 #[test]
 fn counts_that_lie_ask_for_nothing(rt: HostRuntime) {
-    let mut largest = gathered(rt.alloc(), &LARGEST).expect(&rt, "a fixture");
-    let mut many = gathered(rt.alloc(), &MANY).expect(&rt, "a fixture");
+    let mut largest = text(rt.alloc(), &LARGEST).expect(&rt, "a fixture");
+    let mut many = text(rt.alloc(), &MANY).expect(&rt, "a fixture");
     let (alloc, end_of_bytes) = (rt.alloc(), Error::EndOfBuffer);
     mark(&rt, "call");
     let outside = Error::InvalidLength(1 << 63);

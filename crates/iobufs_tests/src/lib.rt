@@ -18,8 +18,6 @@ mod generic;
 #[cfg(test)]
 mod located;
 #[cfg(test)]
-mod make;
-#[cfg(test)]
 mod owner;
 #[cfg(test)]
 mod parts;

@@ -1,9 +1,9 @@
 // Places found among the ends of chunks.
-use crate::make::text;
 use crate::same::assert_same;
 use iobufs::bufs::IoBufs;
 use iobufs_core::buf::IoBuf;
 use iobufs_core::codec::BufError;
+use iobufs_made::text;
 use std::alloc::Global;
 use std::test::Fail;
 

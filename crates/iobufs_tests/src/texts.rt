@@ -1,10 +1,12 @@
 // Texts of several chunks.
-use crate::make::{chunks, cut, part, text};
+ghost use Rattle.std.specs.Prelude.{◌≤◌, length};
+
 use crate::same::assert_same;
 use bytes::Bytes;
 use iobufs::bufs::IoBufs;
 use iobufs_core::buf::{IoBuf, IoBufMut};
 use iobufs_core::codec::{Buf, BufError, BufMut, OwnedBuf};
+use iobufs_made::{chunks, part, text};
 use std::alloc::{AllocError, Global};
 use std::process::Abort;
 use std::test::Fail;
@@ -171,6 +173,14 @@ const SAME_AS_THREE: [(&'static [u8], bool); 4] = [
     (b"abxdef", false),
     (b"abcdex", false),
 ];
+
+// The bytes up to a place, those up to another, and the rest.
+fn cut(bytes: &'static [u8], first: usize, second: usize) -> [&'static [u8]; 3]
+    requires order { first ≤ second }
+    requires inside { second ≤ length bytes.now }
+{
+    [&bytes[..first], &bytes[first..second], &bytes[second..]]
+}
 
 // Compares two texts, in both orders, and one of them with the bytes of the other.
 fn assert_compared(

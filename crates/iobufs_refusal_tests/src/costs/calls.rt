@@ -1,6 +1,5 @@
 // The calls.
 use crate::costs::shape::{Place, Shape};
-use crate::costs::stores::{block, cut, parts_of};
 use bytes::{Bytes, BytesMut};
 use iobufs::bufs::IoBufs;
 use iobufs::bufs_mut::IoBufsMut;
@@ -10,6 +9,7 @@ use iobufs_core::codec::{
     Buf, BufError, BufMut, BufsMut, Encode, Error, OwnedBytes, Peek, RangeCfg, Read, Refused,
 };
 use iobufs_frames::{ByteOrder, Frames, Head, Prefix, Received, Width, framed_with};
+use iobufs_made::stores::{block, cut, parts_of};
 use std::alloc::Global;
 use std::ops::Bound::{Excluded, Included};
 use std::{io, mem};

@@ -1,8 +1,8 @@
 // Lengths, numbers of chunks and offsets that are drawn by a word of the environment, so that no table shows which they are.
 use crate::costs::shape::Shape;
-use crate::costs::stores::{ORIGINS, STORES, Store};
 use crate::costs::{count_parts, count_rows, count_texts, count_views};
 use iobufs_core::codec::BufError;
+use iobufs_made::stores::{ORIGINS, STORES, Store};
 use std::alloc::Global;
 use std::env::Env;
 use std::test::Fail;

@@ -1,8 +1,8 @@
 // Each caller once, without allocation failure.
-use crate::make::{chunks, parts, text};
 use crate::same::assert_same;
 use iobufs_core::buf::IoBuf;
 use iobufs_core::codec::BufError;
+use iobufs_made::{chunks, parts, text};
 use iobufs_uses::frame::{echo, frame, read_frame};
 use iobufs_uses::send::send;
 use iobufs_uses::store::store;

@@ -1,10 +1,10 @@
 // Frames over readers and writers that take and give as they like.
-use crate::make::text;
 use crate::same::assert_same;
 use iobufs::bufs::IoBufs;
 use iobufs_core::buf::IoBufMut;
 use iobufs_core::codec::{Buf, BufError, Error, RangeCfg};
 use iobufs_frames::{ByteOrder, Prefix, Width};
+use iobufs_made::text;
 use iobufs_streams::adapters::Writer;
 use iobufs_streams::echo::echo;
 use iobufs_streams::error::FrameError;

@@ -1,5 +1,7 @@
-// Buffers as tests make them, and what they hold as tests compare it.
-ghost use Rattle.std.specs.Prelude.{◌≤◌, length};
+// Buffers as the tests make them, and what they hold as the tests compare it: of each kind of storage in `stores`.
+#![tactic(auto)]
+
+pub mod stores;
 
 use iobufs::bufs::IoBufs;
 use iobufs::bufs_mut::IoBufsMut;
@@ -15,6 +17,16 @@ pub fn part(alloc: Global, bytes: &[u8], spare: usize) -> Result<IoBufMut, BufEr
     let mut part = IoBufMut::with_capacity(alloc, capacity)?;
     part.put_slice(bytes);
     Ok(part)
+}
+
+// Native storage with these bytes and so much spare capacity.
+pub fn native(alloc: Global, bytes: &[u8], spare: usize) -> Result<IoBuf, BufError> {
+    part(alloc, bytes, spare)?.freeze()
+}
+
+// Another view of the same bytes.
+pub fn twin_of(view: &IoBuf) -> Result<IoBuf, BufError> {
+    Ok(view.clone()?)
 }
 
 // Writable buffers in a row, each as its bytes and its spare capacity.
@@ -49,10 +61,16 @@ pub fn chunks(alloc: Global, text: &IoBufs) -> Result<Vec<u8>, AllocError> {
     Ok(shown)
 }
 
-// The bytes up to a place, those up to another, and the rest.
-pub fn cut(bytes: &'static [u8], first: usize, second: usize) -> [&'static [u8]; 3]
-    requires order { first ≤ second }
-    requires inside { second ≤ length bytes.now }
-{
-    [&bytes[..first], &bytes[first..second], &bytes[second..]]
+// Whether these are the chunks.
+pub fn shows(text: &IoBufs, chunks: &[&[u8]]) -> bool {
+    if text.chunk_count() != chunks.len() {
+        return false;
+    }
+    for (i, chunk) in chunks.iter().enumerate() {
+        match text.chunk_at(i) {
+            Some(shown) if shown == *chunk => (),
+            _ => return false,
+        }
+    }
+    true
 }

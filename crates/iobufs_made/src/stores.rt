@@ -1,5 +1,5 @@
 // Where bytes are stored.
-use crate::made::{native, part, twin_of};
+use crate::{native, part, twin_of};
 use bytes::{Bytes, BytesMut};
 use iobufs::bufs::IoBufs;
 use iobufs_core::buf::{IoBuf, IoBufMut};
@@ -54,7 +54,7 @@ fn aligned(alloc: Global, bytes: &[u8]) -> Result<IoBufMut, BufError> {
 // Native storage that holds the bytes twice, with room for so many more.
 fn twice(alloc: Global, bytes: &[u8], more: usize) -> Result<IoBufMut, BufError> {
     let n = bytes.len();
-    let mut twice = part(alloc, n.saturating_add(n).saturating_add(more), bytes)?;
+    let mut twice = part(alloc, bytes, n.saturating_add(more))?;
     if twice.remaining_mut() >= n {
         twice.put_slice(bytes);
     }
@@ -96,7 +96,7 @@ pub fn stored(
         Store::Bytes | Store::SharedBytes => IoBuf::from(Bytes::copy_from_slice(alloc, bytes)?),
         Store::Emptied => drained(IoBuf::copy_from_slice(alloc, bytes)?),
         Store::Full | Store::SharedFull => IoBuf::copy_from_slice(alloc, bytes)?,
-        Store::Roomy => native(alloc, bytes.len().saturating_add(bytes.len()), bytes)?,
+        Store::Roomy => native(alloc, bytes, bytes.len())?,
         Store::Advanced => advanced(alloc, bytes)?.freeze()?,
         Store::Aligned => aligned(alloc, bytes)?.freeze()?,
         Store::Half => return halves(alloc, bytes),
@@ -144,7 +144,7 @@ pub fn block(alloc: Global, bytes: &[u8]) -> Result<(BytesMut, BytesMut), BufErr
 
 pub fn stored_part(alloc: Global, origin: Origin, bytes: &[u8]) -> Result<IoBufMut, BufError> {
     match origin {
-        Origin::Roomy => part(alloc, bytes.len().saturating_add(bytes.len()), bytes),
+        Origin::Roomy => part(alloc, bytes, bytes.len()),
         Origin::Advanced => advanced(alloc, bytes),
         Origin::Aligned => aligned(alloc, bytes),
         Origin::Full => IoBufMut::copy_from_slice(alloc, bytes),
