@@ -3,6 +3,7 @@ before one; and how each script that tries itself on false input says so."""
 import os
 import select
 import subprocess
+from functools import cache
 from pathlib import Path
 
 HERE = Path(__file__).resolve().parent
@@ -36,6 +37,13 @@ class Checks:
         """Prints how many passed and failed, and answers the status."""
         print(f"{self.passed} passed, {self.failed} failed")
         return self.failed > 0
+
+
+@cache
+def uses():
+    """Each crate of crates.txt with those that it uses, the kit's too."""
+    rows = [line.split("#")[0].partition(":") for line in (TOP / "crates.txt").read_text().splitlines()]
+    return {name.split()[0]: used.split() for name, colon, used in rows if colon}
 
 
 def faults(got, wanted, names=("printed", "message", "status")):

@@ -5,7 +5,7 @@ from collections import Counter
 from functools import cache
 from pathlib import Path
 
-from tree import CRATES, ROOT, prose, sources
+from pages.tree import CRATES, ROOT, prose, sources
 
 KIT = Path("/opt/rattle/rattle")
 KIT_CRATES = ("alloc", "bytes", "clap", "core", "std", "std_alloc", "std_collections", "std_io", "thiserror")

@@ -1,8 +1,8 @@
 """The generated parts of the pages: between `<!-- generated: NAME -->` and `<!-- end -->` stands what `PARTS[NAME]` makes."""
 import re
 
-from tree import CRATES, MARKED, ROOT, by_layer, declarations, direct, layer, purpose, uses
-from trusted import contracts
+from pages.tree import CRATES, MARKED, ROOT, by_layer, declarations, direct, layer, purpose, uses
+from pages.trusted import contracts
 
 # ---- docs/API.md
 

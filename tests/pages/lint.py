@@ -1,7 +1,7 @@
 """The rules of style that a script can see, each with its ceiling: hits in a thousand words of a page's prose, or in all."""
 import re
 
-from tree import CRATES, PAGES, prose, sources
+from pages.tree import CRATES, PAGES, prose, sources
 
 PLACE = r"\bbehind\b|\bin front\b|\bstands?\b|\blies?\b"
 # A rule, its pattern, and how many hits a thousand words may have.

@@ -1,10 +1,10 @@
 """What the other modules read: pages, sources, declarations, and how crates use each other."""
 import re
 from functools import cache
-from pathlib import Path
 
-ROOT = Path(__file__).resolve().parent.parent.parent
-CRATES = ROOT / "crates"
+import common
+from common import CRATES, TOP as ROOT
+
 PAGES = [ROOT / "README.md", *sorted((ROOT / "docs").glob("*.md")), *sorted((ROOT / "bench").glob("*.md"))]
 MARKED = r"<!-- generated: ([^>]*) -->\n(.*?)<!-- end -->"
 
@@ -26,8 +26,7 @@ def sources(folder):
 @cache
 def uses():
     """Each crate with the crates of this repository that it uses."""
-    rows = [line.split("#")[0].partition(":") for line in (ROOT / "crates.txt").read_text().splitlines()]
-    used = {name.split()[0]: deps.split() for name, colon, deps in rows if colon}
+    used = common.uses()
     return {name: [dep for dep in deps if dep in used] for name, deps in used.items()}
 
 

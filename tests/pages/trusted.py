@@ -2,7 +2,7 @@
 import re
 from functools import cache
 
-from tree import CRATES, uses
+from pages.tree import CRATES
 
 TOKEN = re.compile(r"[^\s(){}\[\],;.|λ:=]+|[(){}\[\],;.|λ:=]")
 IMPORT = re.compile(r"(?:ghost |pub )?use (?:Rattle\.)?([\w.'\-]+?)(?:\.\{(.*)\})?(?: as (\w+))?;?$")
@@ -110,14 +110,3 @@ def contracts():
     for name, source, function, without in CONTRACTS:
         found = trusted(CRATES / source, function, without)
         yield name, len(found), sum(map(len, found.values()))
-
-
-def kinds():
-    """For each crate the lines of its specs/ that are definitions, and those that are lemmas or rules."""
-    for crate in sorted(uses()):
-        counts = [0, 0]
-        for file in (CRATES / crate / "specs").rglob("*.antt"):
-            for text in declared(file.read_text().splitlines()).values():
-                is_definition = re.match(r"(?:abbrev|unfoldable|(?:pub )?(?:record|data)) ", text[0]) is not None
-                counts[not is_definition] += len(text)
-        yield crate, *counts
