@@ -1,14 +1,20 @@
 // [docs: start]
 // A log of entries, sent as frames: a whole crate to begin with.
-ghost use Rattle.std.specs.Prelude.{◌≡◌, ◌++◌, [], ◌∷◌, IfOk, OnOk};
+ghost use Rattle.std.specs.Prelude.{◌≡◌, ◌++◌, [], ◌∷◌, None, Ok, Option, Result, Some, IfNone, IfOk, IfSome, OnErr, OnOk};
 ghost use Rattle.std.specs.Int.{w64, to_be_bytes};
+ghost use Rattle.std.specs.Io.KnownBytes.{Appends};
+ghost use Rattle.iobufs.specs.Sending.{IsSent};
+ghost use Rattle.iobufs_core.specs.View.{View};
 ghost use Rattle.iobufs_core.specs.Wire.{view_written};
+ghost use Rattle.iobufs_frames.specs.Frames.{frame_written};
+ghost use Rattle.iobufs_streams.specs.Streams.{TakesFrame};
+ghost use Rattle.iobufs_values.specs.Form.{IsDecodedBack};
 
 use iobufs::bufs::IoBufs;
 use iobufs_core::buf::IoBuf;
 use iobufs_core::codec::{Error, RangeCfg};
 use iobufs_streams::{FrameError, FrameReader, FrameWriter};
-use iobufs_values::{ByParts, Fault, IntoParts};
+use iobufs_values::{ByParts, Fault, IntoParts, Look};
 use std::alloc::Global;
 use std::io::{self, Read, Write};
 
@@ -61,8 +67,11 @@ pub fn encoded(alloc: Global, entry: Entry) -> Result<IoBufs, Error>
 
 /// Decodes all bytes as an entry, which shares them.
 pub fn decoded(alloc: Global, body: &IoBuf) -> Result<Entry, Fault>
-    ensures { IfOk result (λ entry. body.now.bytes
+    ensures bytes { IfOk result (λ entry. body.now.bytes
         ≡ to_be_bytes w64 entry.number ++ ((entry.flags ∷ []) ++ (view_written entry.key ++ view_written entry.value))) }
+    ensures back { (entry : Entry) → ⟦<(u64, u8, IoBuf, IoBuf) as Look>⟧.admits CFG (entry.number, entry.flags, entry.key, entry.value)
+        → body.now.bytes ≡ to_be_bytes w64 entry.number ++ ((entry.flags ∷ []) ++ (view_written entry.key ++ view_written entry.value))
+        → IsDecodedBack (λ x y. ⟦<(u64, u8, IoBuf, IoBuf) as Look>⟧.same (x.number, x.flags, x.key, x.value) (y.number, y.flags, y.key, y.value)) entry result }
 {
     Entry::decode_cfg(alloc, body, &CFG)
 }
@@ -81,27 +90,39 @@ pub enum LogError {
     Frame(#[from] FrameError),
 }
 
-/// Sends an entry as a frame, after the rest of the frame before it.
-pub fn send<W: Write + Drop>(
+/// Puts an entry as a frame, once the frame before it is sent; `to.send` sends it. If it fails, the entry is dropped.
+pub fn put<W: Write + Drop>(
     alloc: Global,
     to: &mut FrameWriter<W>,
     entry: Entry,
 ) -> Result<(), LogError>
-    ensures { OnOk result (to.new.rest.bytes ≡ []) }
+    ensures before { OnOk result (Appends (W.contents to.old.to) (W.contents to.new.to) to.old.rest.bytes) }
+    ensures put { OnOk result (to.new.rest.bytes ≡ frame_written to.old.prefix
+        (to_be_bytes w64 entry.number ++ ((entry.flags ∷ []) ++ (view_written entry.key ++ view_written entry.value)))) }
+    ensures dropped { OnErr result (IsSent (W.contents to.old.to) (W.contents to.new.to) to.old.rest.bytes to.new.rest.bytes) }
 {
     to.send(alloc)?;
     let body = encoded(alloc, entry).map_err(Fault::Codec)?;
     to.put(alloc, body)
         .map_err(|refused| Fault::from(refused.cause))?;
-    to.send(alloc)?;
     Ok(())
 }
 
-/// Receives the next entry; `None` at the end of the input.
+/// Receives the next entry; `None` at the end of the input. `LogError::Entry` drops a body that is no entry; another error
+/// loses no byte.
 pub fn receive<R: Read + Drop>(
     alloc: Global,
     from: &mut FrameReader<R>,
-) -> Result<Option<Entry>, LogError> {
+) -> Result<Option<Entry>, LogError>
+    ensures entry { IfOk result (λ found. IfSome found (λ entry. (body : View) × (body.bytes
+        ≡ to_be_bytes w64 entry.number ++ ((entry.flags ∷ []) ++ (view_written entry.key ++ view_written entry.value)))
+        × TakesFrame from.old.held.prefix from.old.range (R.remaining from.old.from) (R.remaining from.new.from) from.old.held.bytes
+        from.new.held.bytes (Ok (Some body)))) }
+    ensures end { IfOk result (λ found. IfNone found (TakesFrame from.old.held.prefix from.old.range (R.remaining from.old.from)
+        (R.remaining from.new.from) from.old.held.bytes from.new.held.bytes (Ok None))) }
+    ensures failed { OnErr result ((taken : Result (Option View) FrameError) × TakesFrame from.old.held.prefix from.old.range (R.remaining from.old.from)
+        (R.remaining from.new.from) from.old.held.bytes from.new.held.bytes taken) }
+{
     let Some(body) = from.next(alloc)? else {
         return Ok(None);
     };
@@ -119,7 +140,8 @@ fn entries_come_back(rt: HostRuntime) {
             key: IoBuf::from(b"key".as_slice()),
             value: IoBuf::from(b"value".as_slice()),
         };
-        send(rt.alloc(), &mut to, entry).expect(&rt, "an entry is sent");
+        put(rt.alloc(), &mut to, entry).expect(&rt, "an entry is put");
+        to.send(rt.alloc()).expect(&rt, "an entry is sent");
     }
     let sent = to.to.as_slice();
     let mut from = FrameReader::new(rt.alloc(), sent, RangeCfg { lo: 0, hi: 1 << 17 }).expect(
@@ -131,8 +153,13 @@ fn entries_come_back(rt: HostRuntime) {
             .expect(&rt, "an entry")
             .expect(&rt, "an entry");
         assert_eq!(rt;
-            (entry.number, entry.key.as_ref()),
-            (number, b"key".as_slice())
+            (
+                entry.number,
+                entry.flags,
+                entry.key.as_ref(),
+                entry.value.as_ref()
+            ),
+            (number, 1, b"key".as_slice(), b"value".as_slice())
         );
     }
     assert!(rt;
