@@ -86,7 +86,14 @@ static void lent(void) {
     iobufs_drop(&t); iobufs_frames_drop(&f); iobuf_drop(&v);
 }
 
-/* Results that are written into memory which holds no buffer: what is there first would crash if it was dropped. */
+/* The address of a view's bytes. */
+static const uint8_t *chunk_of(const struct iobuf_at *view) {
+    const uint8_t *at = NULL;
+    iobuf_chunk(view, &at);
+    return at;
+}
+
+/* Results that are written into memory which holds no buffer: what is there first would crash if it was dropped. None is copied. */
 static void in_memory(void) {
     struct iobuf memory, more;
     struct iobufmut part;
@@ -94,24 +101,27 @@ static void in_memory(void) {
     struct iobuf_at out = { &memory }, rest = { &more };
     struct iobufmut_at p = { &part };
     struct iobufs_at t = { &texts };
+    const uint8_t *at = NULL;
+    uint8_t *written = NULL;
     VIEW(a); TEXT(u); PARTS(s);
 #define ANY(handle) memset((handle).at, 0xa5, sizeof *(handle).at)
     HELLO(a);
     ANY(out); OK(iobuf_clone_init(&a, &out));
-    CHECK(view_is(&out, "hello world") && view_is(&a, "hello world"));
+    CHECK(view_is(&out, "hello world") && view_is(&a, "hello world") && chunk_of(&out) == chunk_of(&a));
     ANY(rest); CHECK(iobuf_split_to_init(&out, 12, &rest) == IOBUFS_OUT_OF_RANGE && view_is(&out, "hello world"));
     ANY(rest); OK(iobuf_split_to_init(&out, 5, &rest));
-    CHECK(view_is(&rest, "hello") && view_is(&out, " world"));
+    CHECK(view_is(&rest, "hello") && view_is(&out, " world") && chunk_of(&rest) == chunk_of(&a) && chunk_of(&out) == chunk_of(&a) + 5);
     iobuf_drop(&rest); ANY(rest);
     CHECK(iobuf_slice_init(&a, 4, 12, &rest) == IOBUFS_OUT_OF_RANGE && iobuf_slice_init(&a, 4, 2, &rest) == IOBUFS_OUT_OF_RANGE);
     OK(iobuf_slice_init(&a, 4, 7, &rest));
-    CHECK(view_is(&rest, "o w") && view_is(&a, "hello world"));
+    CHECK(view_is(&rest, "o w") && view_is(&a, "hello world") && chunk_of(&rest) == chunk_of(&a) + 4);
     iobuf_drop(&out);
     ANY(p); CHECK(iobuf_try_into_mut_init(&a, &p) == IOBUFS_DECLINED && view_is(&a, "hello world"));
     iobuf_drop(&rest); ANY(p); OK(iobuf_try_into_mut_init(&a, &p));
     CHECK(part_is(&p, "hello world") && view_is(&a, ""));
+    CHECK(iobufmut_chunk(&p, &written) == 11);
     ANY(out); OK(iobufmut_freeze_init(&p, &out));
-    CHECK(view_is(&out, "hello world") && iobufmut_capacity(&p) == 0);
+    CHECK(view_is(&out, "hello world") && iobufmut_capacity(&p) == 0 && chunk_of(&out) == written);
     ANY(rest); OK(iobufmut_freeze_init(&p, &rest));
     CHECK(view_is(&rest, ""));
     iobufs_from_view(&out, &u);
@@ -119,16 +129,58 @@ static void in_memory(void) {
     ANY(t); OK(iobufs_split_to_init(&u, 6, &t));
     CHECK(text_is(&t, "hello ") && text_is(&u, "world"));
     ANY(out); CHECK(iobufs_take_init(&u, 6, &out) == IOBUFS_END_OF_BUFFER && text_is(&u, "world"));
+    CHECK(iobufs_chunk(&u, &at) == 5);
     ANY(out); OK(iobufs_take_init(&u, 2, &out));
-    CHECK(view_is(&out, "wo") && text_is(&u, "rld"));
+    CHECK(view_is(&out, "wo") && text_is(&u, "rld") && chunk_of(&out) == at);
     iobufs_drop(&t);
     OK(iobufmut_copy_from_slice(bytes("xyz"), 3, &p));
     iobufsmut_from_mut(&p, &s);
+    CHECK(iobufsmut_chunk(&s, &written) == 3);
     ANY(t); OK(iobufsmut_freeze_init(&s, &t));
-    CHECK(text_is(&t, "xyz") && iobufsmut_capacity(&s) == 0);
+    CHECK(text_is(&t, "xyz") && iobufsmut_capacity(&s) == 0 && iobufs_chunk(&t, &at) == 3 && at == written);
     iobufs_drop(&t); ANY(t); OK(iobufsmut_freeze_init(&s, &t));
     CHECK(text_is(&t, ""));
-    iobuf_drop(&out); iobuf_drop(&rest); iobufs_drop(&t); iobuf_drop(&a); iobufmut_drop(&p); iobufs_drop(&u); iobufsmut_drop(&s);
+    iobuf_deinit(&out); ANY(out); OK(iobuf_clone_init(&a, &out));
+    CHECK(view_is(&out, ""));
+    iobuf_deinit(&out); iobuf_deinit(&rest); iobufs_drop(&t); iobuf_deinit(&a); iobufmut_drop(&p); iobufs_drop(&u); iobufsmut_drop(&s);
+}
+
+/* Results that replace a buffer: none is copied either. */
+static void in_place(void) {
+    const uint8_t *at = NULL;
+    uint8_t *written = NULL;
+    VIEW(a); VIEW(b); VIEW(c); PART(p); TEXT(t); TEXT(u); PARTS(s);
+    HELLO(a);
+    OK(iobuf_slice(&a, 0, 4, 2, 0, &b));
+    CHECK(chunk_of(&b) == chunk_of(&a) + 4);
+    OK(iobuf_clone(&a, &b));
+    CHECK(chunk_of(&b) == chunk_of(&a));
+    OK(iobuf_split_to(&b, 5, &c));
+    CHECK(chunk_of(&c) == chunk_of(&a) && chunk_of(&b) == chunk_of(&a) + 5);
+    OK(iobuf_take(&b, 2, &c));
+    CHECK(chunk_of(&c) == chunk_of(&a) + 5 && chunk_of(&b) == chunk_of(&a) + 7);
+    OK(iobufmut_copy_from_slice(bytes("xyz"), 3, &p));
+    CHECK(iobufmut_chunk(&p, &written) == 3);
+    OK(iobufmut_freeze(&p, &b));
+    CHECK(chunk_of(&b) == written);
+    OK(iobufmut_copy_from_slice(bytes("xyz"), 3, &p));
+    CHECK(iobufmut_chunk(&p, &written) == 3);
+    iobufsmut_from_mut(&p, &s);
+    OK(iobufsmut_freeze(&s, &t));
+    CHECK(iobufs_chunk(&t, &at) == 3 && at == written);
+    OK(iobufs_clone(&t, &u));
+    CHECK(iobufs_chunk(&u, &at) == 3 && at == written);
+    OK(iobufs_slice(&t, 1, 3, &u));
+    CHECK(iobufs_chunk(&u, &at) == 2 && at == written + 1);
+    OK(iobufs_split_to(&t, 1, &u));
+    CHECK(iobufs_chunk(&t, &at) == 2 && at == written + 1 && iobufs_chunk(&u, &at) == 1 && at == written);
+    OK(iobufs_coalesce(&t, &b));
+    CHECK(chunk_of(&b) == written + 1);
+    OK(iobufmut_copy_from_slice(bytes("xyz"), 3, &p));
+    CHECK(iobufmut_chunk(&p, &written) == 3);
+    OK(iobufs_from_mut(&p, &t));
+    CHECK(iobufs_chunk(&t, &at) == 3 && at == written);
+    iobuf_drop(&a); iobuf_drop(&b); iobuf_drop(&c); iobufs_drop(&t); iobufs_drop(&u);
 }
 
 /* The memory moves, and the buffer with it. */
@@ -551,7 +603,7 @@ static void statuses(void) {
 }
 
 int main(void) {
-    sizes(); views(); lent(); in_memory(); moved(); buffers(); texts(); parts(); builders(); lengths(); numbers(); frames(); received();
+    sizes(); views(); lent(); in_memory(); in_place(); moved(); buffers(); texts(); parts(); builders(); lengths(); numbers(); frames(); received();
     prefixes(); statuses();
     return 0;
 }

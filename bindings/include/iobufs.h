@@ -20,7 +20,7 @@
  *
  * The caller's duties, which nothing tests:
  *  1. A handle names memory that an `.._init` made a buffer of (`out` of a call that ends in `_init` names other memory, of the
- *     size and the alignment below; a buffer that is there leaks). Memory is freed only after a `.._drop` (or
+ *     size and the alignment below; a buffer that is there leaks). Memory is freed only after a `.._drop` or `.._deinit` (or
  *     what the buffer holds is leaked). It may be moved (memcpy), and the buffer with it; never two copies may be used.
  *  2. The handles and other pointers of one call don't overlap: `iobuf_clone(&a, &a)` is not allowed.
  *  3. One call at a time uses a buffer. Another thread may use it after what orders the two (a lock, a thread's start or
@@ -149,6 +149,8 @@ size_t iobuf_align(void);
 void iobuf_init(struct iobuf *at);
 /* Drops the bytes; the empty view is left. (Drop) */
 void iobuf_drop(struct iobuf_at *src);
+/* Drops the bytes as iobuf_drop does, and leaves no view: the memory is as before `iobuf_init`, and may be freed. (Drop) */
+void iobuf_deinit(struct iobuf_at *src);
 /* A copy of n bytes; memory except for 0 bytes. (IoBuf::copy_from_slice) */
 IOBUFS_CHECKED iobufs_status iobuf_copy_from_slice(const uint8_t *src, size_t n, struct iobuf_at *out);
 /* A view of n bytes, not copied, which live until the last buffer made of them is dropped (duty 4). No memory. (From<&'static [u8]>) */
@@ -157,7 +159,7 @@ void iobuf_from_static(const uint8_t *text, size_t n, struct iobuf_at *out);
 size_t iobuf_len(const struct iobuf_at *src);
 /* Whether there are none. (IoBuf::is_empty) */
 bool iobuf_is_empty(const struct iobuf_at *src);
-/* Writes a pointer to the bytes, if there are any, and returns how many there are. (AsRef, Buf::chunk) */
+/* Writes a pointer to the bytes, and returns how many there are; of none it isn't NULL, and may not be read. (AsRef, Buf::chunk) */
 size_t iobuf_chunk(const struct iobuf_at *src, const uint8_t **out);
 /* Writes the byte at offset i, and returns whether there is one. (own) */
 bool iobuf_byte_at(const struct iobuf_at *src, size_t i, uint8_t *out);
@@ -224,8 +226,8 @@ bool iobufmut_is_empty(const struct iobufmut_at *part);
 size_t iobufmut_capacity(const struct iobufmut_at *part);
 /* How many bytes may still be put. (BufMut::remaining_mut) */
 size_t iobufmut_remaining_mut(const struct iobufmut_at *part);
-/* Writes a pointer to the readable bytes, if there are any, and returns how many there are; they may be overwritten there.
- * (AsRef, AsMut) */
+/* Writes a pointer to the readable bytes, as iobuf_chunk does, and returns how many there are; they may be overwritten there.
+ * If there is no buffer, it writes none. (AsRef, AsMut) */
 size_t iobufmut_chunk(struct iobufmut_at *part, uint8_t **out);
 /* Appends bytes; IOBUFS_OUT_OF_RANGE if they don't fit. No memory. (BufMut::put_slice) */
 IOBUFS_CHECKED iobufs_status iobufmut_put_slice(struct iobufmut_at *part, const uint8_t *src, size_t n);
@@ -285,9 +287,9 @@ bool iobufs_eq(const struct iobufs_at *bufs, const struct iobufs_at *other);
 bool iobufs_is_single(const struct iobufs_at *bufs);
 /* The number of chunks that hold bytes. (chunk_count) */
 size_t iobufs_chunk_count(const struct iobufs_at *bufs);
-/* Writes a pointer to the first chunk, if there are bytes, and returns its length. (Buf::chunk) */
+/* Writes a pointer to the first chunk, as iobuf_chunk does, and returns its length. (Buf::chunk) */
 size_t iobufs_chunk(const struct iobufs_at *bufs, const uint8_t **out);
-/* Writes a pointer to chunk i, counted from 0, and returns its length; 0 if there is none. (chunk_at) */
+/* Writes a pointer to chunk i, counted from 0, and returns its length; 0 if there is none, and it writes nothing. (chunk_at) */
 size_t iobufs_chunk_at(const struct iobufs_at *bufs, size_t i, const uint8_t **out);
 /* Fills a list of n for writev with the first chunks, and returns how many it filled. No memory.
  * iobufs_advance then takes the count that writev returns. (Buf::chunks_vectored) */
@@ -362,11 +364,11 @@ size_t iobufsmut_remaining_mut(const struct iobufsmut_at *parts);
 size_t iobufsmut_part_count(const struct iobufsmut_at *parts);
 /* Whether there is just one. (is_single) */
 bool iobufsmut_is_single(const struct iobufsmut_at *parts);
-/* Writes a pointer to the first chunk of the readable bytes, if there are any, and returns its length; it may be
- * overwritten there. (Buf::chunk) */
+/* Writes a pointer to the first chunk of the readable bytes, as iobuf_chunk does, and returns its length; it may be
+ * overwritten there. If there are no parts, it writes none. (Buf::chunk) */
 size_t iobufsmut_chunk(struct iobufsmut_at *parts, uint8_t **out);
-/* Writes a pointer to the readable bytes of part i, if it has some, and its capacity (0 if there is no part i), and
- * returns how many they are. (own) */
+/* Writes a pointer to the readable bytes of part i, as iobuf_chunk does, and its capacity, and returns how many they are; if
+ * there is no part i, writes no pointer and the capacity 0. (own) */
 size_t iobufsmut_part_at(struct iobufsmut_at *parts, size_t i, uint8_t **out, size_t *capacity);
 /* Fills a list of n for readv (or writev) with the first chunks of the readable bytes, and returns how many it
  * filled. No memory. To read into parts, set their length first. (Buf::chunks_vectored) */

@@ -163,7 +163,7 @@ fn recover() -> Run {
     })
 }
 
-fn joined(n: usize, join: fn(&mut IoBufs, IoBuf)) -> Run {
+fn joined(n: usize, join: impl Fn(&mut IoBufs, IoBuf)) -> Run {
     let lists: Vec<Vec<IoBuf>> = (0..count(n)).map(|_| views(n)).collect();
     let mut texts = Vec::with_capacity(lists.len());
     let (ns, operations, _) = timed(n * lists.len(), || {
@@ -180,7 +180,7 @@ fn joined(n: usize, join: fn(&mut IoBufs, IoBuf)) -> Run {
 }
 
 /// Texts from whose front `step` takes `size` bytes as often as it can; and what is done with the rest.
-fn drained(n: usize, size: usize, step: fn(&mut IoBufs) -> u64, rest: usize) -> Run {
+fn drained(n: usize, size: usize, step: impl Fn(&mut IoBufs) -> u64, rest: usize) -> Run {
     let mut texts: Vec<IoBufs> = (0..count(n)).map(|_| text(n)).collect();
     let turns = 256 * n / size;
     timed(texts.len() * (turns + rest), || {

@@ -15,6 +15,7 @@ use std::sync::Arc;
 // SAFETY: the signatures are those of the header, with a handle for a pointer to one (`sys` says which duties that meets).
 unsafe extern "C" {
     fn iobuf_from_static(src: *const u8, n: usize, out: &mut At<Iobuf>);
+    fn iobuf_deinit(src: &mut At<Iobuf>);
     safe fn iobuf_clone_init(src: &mut Look<Iobuf>, out: &mut Blank<Iobuf>) -> u8;
     safe fn iobuf_split_to_init(src: &mut At<Iobuf>, at: usize, out: &mut Blank<Iobuf>) -> u8;
     safe fn iobuf_slice_init(src: &mut Look<Iobuf>, lo: usize, hi: usize, out: &mut Blank<Iobuf>) -> u8;
@@ -194,7 +195,8 @@ impl Drop for View {
         if self.owner.is_some() {
             return self.drop_both();
         }
-        sys::iobuf_drop(&mut self.at());
+        // SAFETY: duty 1: the memory isn't used after this, since the view is being dropped.
+        unsafe { iobuf_deinit(&mut self.at()) };
     }
 }
 
@@ -202,9 +204,11 @@ impl View {
     /// Drops the view, and then the owner of its bytes.
     #[cold]
     fn drop_both(&mut self) {
-        sys::iobuf_drop(&mut self.at());
-        // SAFETY: it isn't used after this, since the view is being dropped.
-        unsafe { ManuallyDrop::drop(&mut self.owner) }
+        // SAFETY: neither is used after this, since the view is being dropped (duty 1).
+        unsafe {
+            iobuf_deinit(&mut self.at());
+            ManuallyDrop::drop(&mut self.owner)
+        }
     }
 }
 

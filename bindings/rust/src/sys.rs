@@ -162,7 +162,6 @@ pub const INVALID_LENGTH: u8 = 7;
 // drop an owner's, are declared in `owner`, except for those of a receive block: its bytes are the library's.
 unsafe extern "C" {
     safe fn iobuf_align() -> usize;
-    pub safe fn iobuf_drop(src: &mut At<Iobuf>);
     fn iobuf_copy_from_slice(src: *const u8, n: usize, out: &mut At<Iobuf>) -> u8;
     pub safe fn iobuf_len(src: &mut Look<Iobuf>) -> usize;
     safe fn iobuf_chunk(src: &mut Look<Iobuf>, out: &mut *const u8) -> usize;

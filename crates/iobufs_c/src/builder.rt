@@ -4,6 +4,7 @@ ghost use Rattle.std.specs.Borrow.{sem, Lends, full_share};
 ghost use Rattle.std.specs.Option.{option_map};
 ghost use Rattle.std.specs.Ptr.{lies_at, room_at};
 ghost use Rattle.iobufs.specs.Building.{Building, building_items, building_push, building_put, building_room, empty_building, finished, room_for_pushes};
+ghost use Rattle.iobufs_core.specs.Items.{items_inline};
 ghost use Rattle.iobufs_core.specs.View.{default_view};
 ghost use Rattle.iobufs_c.specs.Codes.{IsDoneUnless, code_of};
 ghost use Rattle.iobufs_c.specs.Rows.{builder_row, building_or_empty};
@@ -204,6 +205,7 @@ pub extern "C" fn iobufs_builder_finish(builder: &mut BuilderAt, out: &mut TextA
     ensures value { out.new.value ≡ (if result == 0 then finished (building_or_empty builder.old.value) else out.old.value) }
     ensures memory { IsDoneUnless result Status.Memory }
     ensures nothing { building_items (building_or_empty builder.old.value) ≡ [] → result ≡ 0 }
+    ensures no_inline { items_inline (building_items (building_or_empty builder.old.value)) ≡ 0 → result ≡ 0 }
 {
     let Some(builder) = mem::replace(builder.get(), None) else {
         *out.get() = IoBufs::default();

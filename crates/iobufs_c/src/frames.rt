@@ -1,9 +1,9 @@
 // Frames at their places.
-ghost use Rattle.std.specs.Prelude.{◌≡◌, ◌⊎◌, ℕ, ◌+◌, ◌≤◌, ◌<◌, ◌^◌, ◌==◌, if◌then◌else◌, ◌++◌, length, drop, nat_le, false, Ok, Some, IfNone, IfSome};
+ghost use Rattle.std.specs.Prelude.{◌≡◌, ◌⊎◌, ℕ, ◌+◌, ◌≤◌, ◌<◌, ◌^◌, ◌==◌, if◌then◌else◌, ◌++◌, length, drop, nat_le, false, true, Ok, Some, IfNone, IfSome};
 ghost use Rattle.std.specs.Borrow.{sem, Lends, full_share};
 ghost use Rattle.std.specs.Ptr.{lies_at, room_at};
-ghost use Rattle.iobufs_core.specs.MarkedText.{text_append, text_len, text_rest};
-ghost use Rattle.iobufs_core.specs.View.{default_view};
+ghost use Rattle.iobufs_core.specs.MarkedText.{is_single, text_append, text_len, text_rest};
+ghost use Rattle.iobufs_core.specs.View.{IsFreelyShared, default_view};
 ghost use Rattle.iobufs_frames.specs.Frames.{HasBodyBytes, IsNext, LacksFrame, frame_written};
 ghost use Rattle.iobufs_frames.specs.Prefixes.{prefix_limit, prefix_written};
 ghost use Rattle.iobufs_frames.specs.contracts.Frames.{the_row as frames_row};
@@ -107,6 +107,8 @@ pub extern "C" fn iobufs_frames_rest(frames: &mut FramesAt, out: &mut TextAt) ->
     ensures at { out.new.at ≡ out.old.at }
     ensures value { out.new.value ≡ (if result == 0 then frames.old.value.rest else out.old.value) }
     ensures memory { IsDoneUnless result Status.Memory }
+    ensures free { is_single frames.old.value.rest ≡ true
+        → IsFreelyShared (record { bytes = frames.old.value.rest.bytes; mark = frames.old.value.rest.mark }) → result ≡ 0 }
 {
     match frames.get().rest().clone() {
         Ok(text) => {
@@ -127,6 +129,7 @@ pub extern "C" fn iobufs_frames_feed(alloc: Global, frames: &mut FramesAt, piece
     ensures too_long { 2 ^ 64 ≤ text_len frames.old.value.rest + length piece.old.value.bytes → result ≡ code_of Status.TooLong }
     ensures memory { text_len frames.old.value.rest + length piece.old.value.bytes < 2 ^ 64 → IsDoneUnless result Status.Memory }
     ensures nothing { length piece.old.value.bytes ≡ 0 → result ≡ 0 }
+    ensures onto_nothing { length frames.old.value.rest.bytes ≡ 0 → result ≡ 0 }
 {
     let view = mem::take(piece.get());
     match frames.get().feed(alloc, view) {

@@ -7,7 +7,7 @@ ghost use Rattle.iobufs_core.specs.MarkedText.{of_view, text_advanced, text_rest
 ghost use Rattle.iobufs_core.specs.Part.{part_put};
 ghost use Rattle.iobufs_core.specs.Spelling.{spell};
 ghost use Rattle.iobufs_core.specs.View.{view_advanced, view_rest};
-ghost use Rattle.iobufs_core.specs.Wire.{IsLengthRead, IsViewFault, IsViewRead, view_written};
+ghost use Rattle.iobufs_core.specs.Wire.{HasStaticView, IsLengthRead, IsViewFault, IsViewRead, view_written};
 ghost use Rattle.iobufs_c.specs.Codes.{IsReadCode, IsViewReadCode, code_of};
 ghost use Rattle.iobufs_c.specs.Rows.{building_or_empty, part_or_empty, parts_of};
 
@@ -166,6 +166,7 @@ pub extern "C" fn iobufs_read_view(
     ensures invalid { result ≡ code_of Status.InvalidVarint → IsViewFault text.old.value (record { lo = lo; hi = hi }) Error.InvalidVarint }
     ensures outside { result ≡ code_of Status.InvalidLength → (n : ℕ) × IsViewFault text.old.value (record { lo = lo; hi = hi }) (Error.InvalidLength n) }
     ensures memory { result ≡ code_of Status.Memory → IsViewFault text.old.value (record { lo = lo; hi = hi }) Error.Memory }
+    ensures static_text { HasStaticView text.old.value (record { lo = lo; hi = hi }) → result ≡ 0 }
     ensures causes { IsViewReadCode result }
 {
     let range = RangeCfg { lo, hi };
@@ -196,6 +197,7 @@ pub extern "C" fn iobuf_read_view(
     ensures outside { result ≡ code_of Status.InvalidLength
         → (n : ℕ) × IsViewFault (of_view src.old.value) (record { lo = lo; hi = hi }) (Error.InvalidLength n) }
     ensures memory { result ≡ code_of Status.Memory → IsViewFault (of_view src.old.value) (record { lo = lo; hi = hi }) Error.Memory }
+    ensures static_text { HasStaticView (of_view src.old.value) (record { lo = lo; hi = hi }) → result ≡ 0 }
     ensures causes { IsViewReadCode result }
 {
     let range = RangeCfg { lo, hi };

@@ -10,12 +10,12 @@ ghost use Rattle.iobufs_c.specs.Codes.{IsDoneUnless, code_of};
 ghost use Rattle.iobufs_c.specs.Rows.{part_or_empty, part_row, part_written_at};
 
 use crate::status::{Status, refusal};
-use crate::view::{ViewAt, ViewRoom};
+use crate::view::{ViewAt, ViewRoom, address};
 use iobufs_core::buf::{IoBuf, IoBufMut};
 use iobufs_core::codec::{Buf, BufError, BufMut};
 use std::alloc::Global;
 use std::marker::{Model, Send};
-use std::{mem, ptr};
+use std::mem;
 
 /// The handle of a writable buffer, or of none, in the caller's memory. No buffer reads as one of capacity 0.
 #[repr(C)]
@@ -341,9 +341,7 @@ pub extern "C" fn iobufmut_chunk(part: &mut PartAt, out: &mut *mut u8) -> usize
         return 0;
     };
     let chunk = part.as_ref();
-    if !chunk.is_empty() {
-        *out = ptr::from_ref(&chunk[0]) as *mut u8;
-    }
+    *out = address(chunk) as *mut u8;
     chunk.len()
 }
 

@@ -12,13 +12,14 @@ ghost use Rattle.iobufs_c.specs.Rows.{chunk_len, held_parts, parts_of, parts_row
 use crate::part::{PartAt, fits};
 use crate::status::{Status, refusal};
 use crate::text::{Chunk, TextAt, TextRoom, chunk_of};
+use crate::view::address;
 use iobufs::bufs::IoBufs;
 use iobufs::bufs_mut::IoBufsMut;
 use iobufs_core::buf::IoBufMut;
 use iobufs_core::codec::{Buf, BufMut};
 use std::alloc::{AllocError, Global};
 use std::marker::{Model, Send};
-use std::{mem, ptr};
+use std::mem;
 
 /// The handle of an `IoBufsMut`, or of none, in the caller's memory. None reads as one buffer of capacity 0.
 #[repr(C)]
@@ -231,9 +232,7 @@ pub extern "C" fn iobufsmut_chunk(parts: &mut PartsAt, out: &mut *mut u8) -> usi
         return 0;
     };
     let chunk = parts.chunk();
-    if !chunk.is_empty() {
-        *out = ptr::from_ref(&chunk[0]) as *mut u8;
-    }
+    *out = address(chunk) as *mut u8;
     chunk.len()
 }
 
@@ -259,9 +258,7 @@ pub extern "C" fn iobufsmut_part_at(
     };
     *capacity = part.capacity();
     let chunk = part.as_ref();
-    if !chunk.is_empty() {
-        *out = ptr::from_ref(&chunk[0]) as *mut u8;
-    }
+    *out = address(chunk) as *mut u8;
     chunk.len()
 }
 
@@ -500,6 +497,7 @@ pub extern "C" fn iobufsmut_coalesce(alloc: Global, parts: &mut PartsAt, out: &m
     ensures single { length (parts_of parts.old.value) ≡ 1 → result ≡ 0 }
     ensures bad_layout { 1 < length (parts_of parts.old.value) → 2 ^ 63 ≤ length (parts_filled (parts_of parts.old.value)) → result ≡ code_of Status.BadLayout }
     ensures memory { length (parts_filled (parts_of parts.old.value)) < 2 ^ 63 → IsDoneUnless result Status.Memory }
+    ensures nothing { length (parts_filled (parts_of parts.old.value)) ≡ 0 → result ≡ 0 }
 {
     let Some(parts) = mem::replace(parts.get(), None) else {
         *out.get() = None;

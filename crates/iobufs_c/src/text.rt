@@ -1,5 +1,5 @@
 // Bytes in several chunks, reached by their handles.
-ghost use Rattle.std.specs.Prelude.{◌≡◌, ◌+◌, ◌-◌, ◌≤◌, ◌<◌, ◌^◌, ◌==◌, if◌then◌else◌, length, take, drop, map, min, nat_le, slice_get, Ok, Err, Option, Some, None, true, false};
+ghost use Rattle.std.specs.Prelude.{◌≡◌, ℕ, ◌+◌, ◌-◌, ◌≤◌, ◌<◌, ◌^◌, ◌==◌, ◌++◌, ◌∷◌, [], List, if◌then◌else◌, length, take, drop, map, min, nat_le, slice_get, Ok, Err, Option, Some, None, true, false};
 ghost use Rattle.std.specs.Borrow.{sem, Lends, full_share};
 ghost use Rattle.std.specs.Ptr.{lies_at, room_at};
 ghost use Rattle.iobufs.specs.Located.{greatest_key, keys_upto};
@@ -7,19 +7,19 @@ ghost use Rattle.iobufs.specs.contracts.bufs.IoBufs.{the_row as text_row};
 ghost use Rattle.iobufs_core.specs.Chunks.{first_chunk};
 ghost use Rattle.iobufs_core.specs.MarkedText.{MarkedText, chunk_count as count_of, default_text, is_single, of_view, taken_view, text_advanced, text_append, text_chunks, text_coalesced, text_len, text_prepend, text_rest, text_split_front};
 ghost use Rattle.iobufs_core.specs.Part.{part_frozen};
-ghost use Rattle.iobufs_core.specs.View.{default_view};
+ghost use Rattle.iobufs_core.specs.View.{IsFreelyShared, default_view, static_mark};
 ghost use Rattle.iobufs_c.specs.Codes.{IsDoneUnless, code_of};
 ghost use Rattle.iobufs_c.specs.Rows.{chunk_len, part_or_empty};
 
 use crate::part::PartAt;
 use crate::status::{Status, refusal};
-use crate::view::{ViewAt, ViewRoom};
+use crate::view::{ViewAt, ViewRoom, address};
 use iobufs::bufs::{IoBufs, Run};
 use iobufs_core::buf::IoBuf;
 use iobufs_core::codec::{Buf, OwnedBuf, Peek};
 use std::alloc::Global;
 use std::marker::{Model, Send};
-use std::{mem, ptr};
+use std::mem;
 
 /// The handle of an `IoBufs` in the caller's memory.
 #[repr(C)]
@@ -170,6 +170,7 @@ pub extern "C" fn iobufs_clone(text: &mut TextAt, out: &mut TextAt) -> u8
     ensures at { out.new.at ≡ out.old.at }
     ensures value { out.new.value ≡ (if result == 0 then text.old.value else out.old.value) }
     ensures memory { IsDoneUnless result Status.Memory }
+    ensures free { is_single text.old.value ≡ true → IsFreelyShared (record { bytes = text.old.value.bytes; mark = text.old.value.mark }) → result ≡ 0 }
 {
     match text.get().clone() {
         Ok(other) => {
@@ -223,9 +224,7 @@ pub extern "C" fn iobufs_chunk(text: &mut TextAt, out: &mut *const u8) -> usize
     ensures value { result ≡ length (first_chunk (text_chunks text.old.value)) }
 {
     let chunk = text.get().chunk();
-    if !chunk.is_empty() {
-        *out = ptr::from_ref(&chunk[0]);
-    }
+    *out = address(chunk);
     chunk.len()
 }
 
@@ -238,9 +237,7 @@ pub extern "C" fn iobufs_chunk_at(text: &mut TextAt, i: usize, out: &mut *const 
     let Some(chunk) = text.get().chunk_at(i) else {
         return 0;
     };
-    if !chunk.is_empty() {
-        *out = ptr::from_ref(&chunk[0]);
-    }
+    *out = address(chunk);
     chunk.len()
 }
 
@@ -342,6 +339,11 @@ pub extern "C" fn iobufs_split_to(
     ensures inside { at ≤ text_len text.old.value → IsDoneUnless result Status.Memory }
     ensures nothing { at ≡ 0 → result ≡ 0 }
     ensures whole { at ≡ text_len text.old.value → result ≡ 0 }
+    ensures first { at ≤ text_len text.old.value → at ≡ length (first_chunk (text_chunks text.old.value)) → result ≡ 0 }
+    ensures static_text { at ≤ text_len text.old.value → at ≤ length (first_chunk (text_chunks text.old.value))
+        → (taken_view text.old.value 0 at).mark ≡ static_mark → result ≡ 0 }
+    ensures last { (front : List (List ℕ)) (chunk : List ℕ) → text_chunks text.old.value ≡ front ++ chunk ∷ []
+        → at + length chunk ≡ text_len text.old.value → result ≡ 0 }
 {
     let text = text.get();
     if at > text.len() {
@@ -372,6 +374,11 @@ pub extern "C" fn iobufs_split_to_init(
     ensures inside { at ≤ text_len text.old.value → IsDoneUnless result Status.Memory }
     ensures nothing { at ≡ 0 → result ≡ 0 }
     ensures whole { at ≡ text_len text.old.value → result ≡ 0 }
+    ensures first { at ≤ text_len text.old.value → at ≡ length (first_chunk (text_chunks text.old.value)) → result ≡ 0 }
+    ensures static_text { at ≤ text_len text.old.value → at ≤ length (first_chunk (text_chunks text.old.value))
+        → (taken_view text.old.value 0 at).mark ≡ static_mark → result ≡ 0 }
+    ensures last { (front : List (List ℕ)) (chunk : List ℕ) → text_chunks text.old.value ≡ front ++ chunk ∷ []
+        → at + length chunk ≡ text_len text.old.value → result ≡ 0 }
 {
     let text = text.get();
     if at > text.len() {
@@ -401,6 +408,7 @@ pub extern "C" fn iobufs_slice(
     ensures outside { text_len text.old.value < hi → result ≡ code_of Status.OutOfRange }
     ensures inside { lo ≤ hi → hi ≤ text_len text.old.value → IsDoneUnless result Status.Memory }
     ensures nothing { lo ≡ hi → hi ≤ text_len text.old.value → result ≡ 0 }
+    ensures static_text { lo ≤ hi → hi ≤ text_len text.old.value → (taken_view text.old.value lo (hi - lo)).mark ≡ static_mark → result ≡ 0 }
 {
     let text = text.get();
     if lo > hi || hi > text.len() {
@@ -424,6 +432,10 @@ pub extern "C" fn iobufs_truncate(alloc: Global, text: &mut TextAt, len: usize) 
     ensures unchanged { (result ≡ 0 → ⊥) → text.new.value ≡ text.old.value }
     ensures memory { IsDoneUnless result Status.Memory }
     ensures nothing { len ≡ 0 → result ≡ 0 }
+    ensures first { len ≡ length (first_chunk (text_chunks text.old.value)) → result ≡ 0 }
+    ensures static_text { len ≤ length (first_chunk (text_chunks text.old.value)) → (taken_view text.old.value 0 len).mark ≡ static_mark → result ≡ 0 }
+    ensures last { (front : List (List ℕ)) (chunk : List ℕ) → text_chunks text.old.value ≡ front ++ chunk ∷ []
+        → len + length chunk ≡ text_len text.old.value → result ≡ 0 }
 {
     match text.get().truncate(alloc, len) {
         Ok(()) => Status::Done.code(),
@@ -491,6 +503,8 @@ pub extern "C" fn iobufs_take(alloc: Global, text: &mut TextAt, n: usize, out: &
     ensures outside { text_len text.old.value < n → result ≡ code_of Status.EndOfBuffer }
     ensures inside { n ≤ text_len text.old.value → IsDoneUnless result Status.Memory }
     ensures nothing { n ≡ 0 → result ≡ 0 }
+    ensures whole { n ≤ text_len text.old.value → n ≡ length (first_chunk (text_chunks text.old.value)) → result ≡ 0 }
+    ensures static_text { n ≤ text_len text.old.value → (taken_view text.old.value 0 n).mark ≡ static_mark → result ≡ 0 }
 {
     let text = text.get();
     if n > text.len() {
@@ -520,6 +534,8 @@ pub extern "C" fn iobufs_take_init(
     ensures outside { text_len text.old.value < n → result ≡ code_of Status.EndOfBuffer }
     ensures inside { n ≤ text_len text.old.value → IsDoneUnless result Status.Memory }
     ensures nothing { n ≡ 0 → result ≡ 0 }
+    ensures whole { n ≤ text_len text.old.value → n ≡ length (first_chunk (text_chunks text.old.value)) → result ≡ 0 }
+    ensures static_text { n ≤ text_len text.old.value → (taken_view text.old.value 0 n).mark ≡ static_mark → result ≡ 0 }
 {
     let text = text.get();
     if n > text.len() {
@@ -546,6 +562,9 @@ pub extern "C" fn iobufs_take_after(
     ensures out { out.new.value ≡ (if result == 0 then taken_view text.old.value skip n else out.old.value) }
     ensures outside { text_len text.old.value < skip + n → result ≡ code_of Status.EndOfBuffer }
     ensures inside { skip + n ≤ text_len text.old.value → IsDoneUnless result Status.Memory }
+    ensures nothing { n ≡ 0 → skip ≤ text_len text.old.value → result ≡ 0 }
+    ensures whole { skip + n ≤ text_len text.old.value → skip ≡ 0 → n ≡ length (first_chunk (text_chunks text.old.value)) → result ≡ 0 }
+    ensures static_text { skip + n ≤ text_len text.old.value → (taken_view text.old.value skip n).mark ≡ static_mark → result ≡ 0 }
 {
     let text = text.get();
     let len = text.len();
@@ -615,14 +634,8 @@ pub struct Chunk {
 pub(crate) fn chunk_of(bytes: &[u8]) -> Chunk
     ensures { result.len ≡ length bytes.now }
 {
-    if bytes.is_empty() {
-        return Chunk {
-            base: ptr::null(),
-            len: 0,
-        };
-    }
     Chunk {
-        base: ptr::from_ref(&bytes[0]),
+        base: address(bytes),
         len: bytes.len(),
     }
 }

@@ -3,7 +3,7 @@ ghost use Rattle.std.specs.Prelude.{◌≡◌, ◌≤◌, ◌<◌, ◌==◌, if�
 ghost use Rattle.std.specs.Borrow.{sem, Lends, full_share};
 ghost use Rattle.std.specs.Ptr.{lies_at, room_at};
 ghost use Rattle.iobufs_core.specs.MarkedText.{of_view, taken_view};
-ghost use Rattle.iobufs_core.specs.View.{View, default_view, range_fits, static_mark, native_mark, view_advanced, view_rest, view_slice, view_split_front};
+ghost use Rattle.iobufs_core.specs.View.{IsFreelyShared, View, default_view, end_place, range_fits, start_place, static_mark, native_mark, view_advanced, view_rest, view_slice, view_split_front};
 ghost use Rattle.iobufs_core.specs.contracts.buf.view.IoBuf.{the_row as view_row};
 ghost use Rattle.std.specs.declared.ops.Bound.TheVariants.{Included, Excluded};
 ghost use Rattle.iobufs_c.specs.Codes.{IsDoneUnless, code_of};
@@ -14,8 +14,8 @@ use iobufs_core::buf::IoBuf;
 use iobufs_core::codec::{Buf, OwnedBuf};
 use std::alloc::Global;
 use std::marker::{Model, Send};
+use std::mem;
 use std::ops::Bound;
-use std::{mem, ptr};
 
 /// The handle of a view in the caller's memory.
 #[repr(C)]
@@ -72,6 +72,19 @@ impl ViewRoom {
     {
         unsafe { (self.at as *mut IoBuf).write(view) }
     }
+
+    /// Takes the view out of the memory, which holds none then.
+    pub(crate) fn take(&mut self) -> IoBuf
+        requires { self.old.value ≡ None → ⊥ }
+        ensures { (self.new.at ≡ self.old.at) × (self.new.value ≡ None) × (self.old.value ≡ Some result) }
+    {
+        unsafe { (self.at as *mut IoBuf).read() }
+    }
+}
+
+/// Returns the address of bytes. It isn't null, also of none.
+pub(crate) fn address(bytes: &[u8]) -> *const u8 {
+    bytes.as_ptr()
 }
 
 fn empty() -> IoBuf
@@ -114,6 +127,16 @@ pub extern "C" fn iobuf_drop(src: &mut ViewAt)
     *src.get() = IoBuf::default();
 }
 
+/// Drops the bytes, and the view: its memory holds none then.
+#[unsafe(no_mangle)]
+pub extern "C" fn iobuf_deinit(src: &mut ViewRoom)
+    requires { src.old.value ≡ None → ⊥ }
+    ensures at { src.new.at ≡ src.old.at }
+    ensures value { src.new.value ≡ None }
+{
+    src.take();
+}
+
 /// Returns the number of bytes.
 #[unsafe(no_mangle)]
 pub extern "C" fn iobuf_len(src: &mut ViewAt) -> usize
@@ -139,9 +162,7 @@ pub extern "C" fn iobuf_chunk(src: &mut ViewAt, out: &mut *const u8) -> usize
     ensures value { result ≡ length src.old.value.bytes }
 {
     let chunk = src.get().as_ref();
-    if !chunk.is_empty() {
-        *out = ptr::from_ref(&chunk[0]);
-    }
+    *out = address(chunk);
     chunk.len()
 }
 
@@ -178,6 +199,7 @@ pub extern "C" fn iobuf_clone(src: &mut ViewAt, out: &mut ViewAt) -> u8
     ensures at { out.new.at ≡ out.old.at }
     ensures value { out.new.value ≡ (if result == 0 then src.old.value else out.old.value) }
     ensures memory { IsDoneUnless result Status.Memory }
+    ensures free { IsFreelyShared src.old.value → result ≡ 0 }
 {
     match src.get().clone() {
         Ok(view) => {
@@ -196,6 +218,7 @@ pub extern "C" fn iobuf_clone_init(src: &mut ViewAt, out: &mut ViewRoom) -> u8
     ensures at { out.new.at ≡ out.old.at }
     ensures value { out.new.value ≡ (if result == 0 then Some src.old.value else None) }
     ensures memory { IsDoneUnless result Status.Memory }
+    ensures free { IsFreelyShared src.old.value → result ≡ 0 }
 {
     let Ok(view) = src.get().clone() else {
         return Status::Memory.code();
@@ -230,6 +253,7 @@ pub extern "C" fn iobuf_split_to(src: &mut ViewAt, at: usize, out: &mut ViewAt) 
     ensures inside { at ≤ length src.old.value.bytes → IsDoneUnless result Status.Memory }
     ensures nothing { at ≡ 0 → result ≡ 0 }
     ensures whole { at ≡ length src.old.value.bytes → result ≡ 0 }
+    ensures static_text { at ≤ length src.old.value.bytes → src.old.value.mark ≡ static_mark → result ≡ 0 }
 {
     let view = src.get();
     if at > view.len() {
@@ -255,6 +279,7 @@ pub extern "C" fn iobuf_split_to_init(src: &mut ViewAt, at: usize, out: &mut Vie
     ensures inside { at ≤ length src.old.value.bytes → IsDoneUnless result Status.Memory }
     ensures nothing { at ≡ 0 → result ≡ 0 }
     ensures whole { at ≡ length src.old.value.bytes → result ≡ 0 }
+    ensures static_text { at ≤ length src.old.value.bytes → src.old.value.mark ≡ static_mark → result ≡ 0 }
 {
     let view = src.get();
     if at > view.len() {
@@ -276,6 +301,9 @@ pub extern "C" fn iobuf_take(alloc: Global, src: &mut ViewAt, n: usize, out: &mu
     ensures out { out.new.value ≡ (if result == 0 then taken_view (of_view src.old.value) 0 n else out.old.value) }
     ensures outside { length src.old.value.bytes < n → result ≡ code_of Status.EndOfBuffer }
     ensures inside { n ≤ length src.old.value.bytes → IsDoneUnless result Status.Memory }
+    ensures nothing { n ≡ 0 → result ≡ 0 }
+    ensures whole { n ≡ length src.old.value.bytes → result ≡ 0 }
+    ensures static_text { n ≤ length src.old.value.bytes → (taken_view (of_view src.old.value) 0 n).mark ≡ static_mark → result ≡ 0 }
 {
     let view = src.get();
     if n > view.len() {
@@ -338,6 +366,10 @@ pub extern "C" fn iobuf_slice(
         range_fits from to (length src.old.value.bytes) ≡ false → result ≡ code_of Status.OutOfRange)) }
     ensures inside { IfSome (bound_from_c lo_kind lo) (λ from. IfSome (bound_from_c hi_kind hi) (λ to.
         range_fits from to (length src.old.value.bytes) ≡ true → IsDoneUnless result Status.Memory)) }
+    ensures nothing { IfSome (bound_from_c lo_kind lo) (λ from. IfSome (bound_from_c hi_kind hi) (λ to.
+        range_fits from to (length src.old.value.bytes) ≡ true → start_place from ≡ end_place to (length src.old.value.bytes) → result ≡ 0)) }
+    ensures static_text { IfSome (bound_from_c lo_kind lo) (λ from. IfSome (bound_from_c hi_kind hi) (λ to.
+        range_fits from to (length src.old.value.bytes) ≡ true → src.old.value.mark ≡ static_mark → result ≡ 0)) }
     ensures bad_start { IfNone (bound_from_c lo_kind lo) ((result ≡ code_of Status.BadKind) × (out.new.value ≡ out.old.value)) }
     ensures bad_end { IfNone (bound_from_c hi_kind hi) ((result ≡ code_of Status.BadKind) × (out.new.value ≡ out.old.value)) }
 {
@@ -368,6 +400,8 @@ pub extern "C" fn iobuf_slice_init(src: &mut ViewAt, lo: usize, hi: usize, out: 
     ensures backwards { hi < lo → result ≡ code_of Status.OutOfRange }
     ensures outside { length src.old.value.bytes < hi → result ≡ code_of Status.OutOfRange }
     ensures inside { lo ≤ hi → hi ≤ length src.old.value.bytes → IsDoneUnless result Status.Memory }
+    ensures nothing { lo ≡ hi → hi ≤ length src.old.value.bytes → result ≡ 0 }
+    ensures static_text { lo ≤ hi → hi ≤ length src.old.value.bytes → src.old.value.mark ≡ static_mark → result ≡ 0 }
 {
     let view = src.get();
     if lo > hi || hi > view.len() {
