@@ -2,7 +2,7 @@
 ghost use Rattle.std.specs.Prelude.{◌≡◌, ◌<◌, ◌==◌, if◌then◌else◌, ◌∷◌, [], length, take, replicate, ◌+◌, nat_le, Option, Some, None, IsTrue, true, false, MatchOption, Ok, Err};
 ghost use Rattle.std.specs.Borrow.{sem, Lends, full_share};
 ghost use Rattle.std.specs.Option.{option_map};
-ghost use Rattle.std.specs.Ptr.{lies_at, room_at};
+ghost use Rattle.std.specs.Ptr.{lies_at, null_ptr, room_at};
 ghost use Rattle.iobufs_core.specs.Part.{Part, empty_part, is_bad_layout as bad_layout, part_capacity, part_drained, part_frozen, part_put, part_truncated, part_with_len};
 ghost use Rattle.iobufs_core.specs.Recovery.{IsPartOf, IsRecovery};
 ghost use Rattle.iobufs_core.specs.View.{default_view};
@@ -330,12 +330,13 @@ pub extern "C" fn iobufmut_remaining_mut(part: &mut PartAt) -> usize
     }
 }
 
-/// Writes the address of the readable bytes, if there are any, and returns how many there are. No other buffer shares them,
+/// Writes the address of the readable bytes, if there is a buffer, and returns how many there are. No other shares them,
 /// so the caller may write there; no contract knows what.
 #[unsafe(no_mangle)]
 pub extern "C" fn iobufmut_chunk(part: &mut PartAt, out: &mut *mut u8) -> usize
     ensures same { (part.new.at ≡ part.old.at) × (part.new.value ≡ part.old.value) }
     ensures value { result ≡ length (part_or_empty part.old.value).filled }
+    ensures address { MatchOption part.old.value (out.new ≡ out.old) (λ _. out.new ≡ null_ptr → ⊥) }
 {
     let Some(part) = part.get() else {
         return 0;

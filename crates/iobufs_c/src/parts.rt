@@ -2,7 +2,7 @@
 ghost use Rattle.std.specs.Prelude.{◌≡◌, ◌⊎◌, ◌≤◌, ◌<◌, ◌^◌, ◌==◌, ◌∷◌, [], if◌then◌else◌, List, length, map, take, drop, min, replicate, nat_le, slice_get, Option, Some, None, Ok, IfOk, OnOk, OnErr, true, false, MatchOption};
 ghost use Rattle.std.specs.Borrow.{sem, Lends, full_share};
 ghost use Rattle.std.specs.Option.{option_map};
-ghost use Rattle.std.specs.Ptr.{lies_at, room_at};
+ghost use Rattle.std.specs.Ptr.{lies_at, null_ptr, room_at};
 ghost use Rattle.iobufs.specs.Parts.{kept_parts, parts_capacity, parts_chunks, parts_coalesced, parts_drained, parts_fill, parts_filled, parts_frozen, parts_overwritten, parts_spare, parts_with_len, single_part};
 ghost use Rattle.iobufs_core.specs.Chunks.{first_chunk};
 ghost use Rattle.iobufs_core.specs.Part.{Part, part_capacity};
@@ -221,12 +221,13 @@ pub extern "C" fn iobufsmut_is_single(parts: &mut PartsAt) -> bool
     }
 }
 
-/// Writes the address of the first chunk of the readable bytes, if there are any, and returns its length. No other buffer
+/// Writes the address of the first chunk of the readable bytes, if there is a buffer, and returns its length. No other buffer
 /// shares it, so the caller may write there; no contract knows what.
 #[unsafe(no_mangle)]
 pub extern "C" fn iobufsmut_chunk(parts: &mut PartsAt, out: &mut *mut u8) -> usize
     ensures same { (parts.new.at ≡ parts.old.at) × (parts.new.value ≡ parts.old.value) }
     ensures value { result ≡ length (first_chunk (parts_chunks (parts_of parts.old.value))) }
+    ensures address { MatchOption parts.old.value (out.new ≡ out.old) (λ _. out.new ≡ null_ptr → ⊥) }
 {
     let Some(parts) = parts.get() else {
         return 0;
@@ -236,7 +237,7 @@ pub extern "C" fn iobufsmut_chunk(parts: &mut PartsAt, out: &mut *mut u8) -> usi
     chunk.len()
 }
 
-/// Writes the address of the readable bytes of a buffer, if it has some, and its capacity; returns how many there are, and 0
+/// Writes the address of the readable bytes of a buffer, and its capacity; returns how many there are, and 0
 /// if there is no such buffer.
 #[unsafe(no_mangle)]
 pub extern "C" fn iobufsmut_part_at(
@@ -248,6 +249,7 @@ pub extern "C" fn iobufsmut_part_at(
     ensures same { (parts.new.at ≡ parts.old.at) × (parts.new.value ≡ parts.old.value) }
     ensures value { result ≡ chunk_len (option_map (λ part. part.filled) (slice_get (parts_of parts.old.value) i)) }
     ensures capacity { MatchOption (slice_get (parts_of parts.old.value) i) (capacity.new ≡ 0) (λ part. capacity.new ≡ part_capacity part) }
+    ensures address { (out.new ≡ out.old) ⊎ (out.new ≡ null_ptr → ⊥) }
 {
     *capacity = 0;
     let Some(parts) = parts.get() else {

@@ -1,7 +1,7 @@
 // Bytes in several chunks, reached by their handles.
-ghost use Rattle.std.specs.Prelude.{◌≡◌, ℕ, ◌+◌, ◌-◌, ◌≤◌, ◌<◌, ◌^◌, ◌==◌, ◌++◌, ◌∷◌, [], List, if◌then◌else◌, length, take, drop, map, min, nat_le, slice_get, Ok, Err, Option, Some, None, true, false};
+ghost use Rattle.std.specs.Prelude.{◌≡◌, ℕ, ◌+◌, ◌-◌, ◌≤◌, ◌<◌, ◌^◌, ◌==◌, ◌++◌, ◌∷◌, [], List, if◌then◌else◌, length, take, drop, map, min, nat_le, slice_get, Ok, Err, MatchOption, Option, Some, None, true, false};
 ghost use Rattle.std.specs.Borrow.{sem, Lends, full_share};
-ghost use Rattle.std.specs.Ptr.{lies_at, room_at};
+ghost use Rattle.std.specs.Ptr.{lies_at, null_ptr, room_at};
 ghost use Rattle.iobufs.specs.Located.{greatest_key, keys_upto};
 ghost use Rattle.iobufs.specs.contracts.bufs.IoBufs.{the_row as text_row};
 ghost use Rattle.iobufs_core.specs.Chunks.{first_chunk};
@@ -217,11 +217,12 @@ pub extern "C" fn iobufs_chunk_count(text: &mut TextAt) -> usize
     IoBufs::chunk_count(text.get())
 }
 
-/// Writes the address of the first chunk, if there are bytes, and returns its length.
+/// Writes the address of the first chunk, and returns its length.
 #[unsafe(no_mangle)]
 pub extern "C" fn iobufs_chunk(text: &mut TextAt, out: &mut *const u8) -> usize
     ensures same { (text.new.at ≡ text.old.at) × (text.new.value ≡ text.old.value) }
     ensures value { result ≡ length (first_chunk (text_chunks text.old.value)) }
+    ensures address { out.new ≡ null_ptr → ⊥ }
 {
     let chunk = text.get().chunk();
     *out = address(chunk);
@@ -233,6 +234,7 @@ pub extern "C" fn iobufs_chunk(text: &mut TextAt, out: &mut *const u8) -> usize
 pub extern "C" fn iobufs_chunk_at(text: &mut TextAt, i: usize, out: &mut *const u8) -> usize
     ensures same { (text.new.at ≡ text.old.at) × (text.new.value ≡ text.old.value) }
     ensures value { result ≡ chunk_len (slice_get (text_chunks text.old.value) i) }
+    ensures address { MatchOption (slice_get (text_chunks text.old.value) i) (out.new ≡ out.old) (λ _. out.new ≡ null_ptr → ⊥) }
 {
     let Some(chunk) = text.get().chunk_at(i) else {
         return 0;

@@ -1,7 +1,7 @@
 // Views, reached by their handles.
 ghost use Rattle.std.specs.Prelude.{◌≡◌, ◌≤◌, ◌<◌, ◌==◌, if◌then◌else◌, length, take, nat_le, slice_get, Option, Some, None, true, false, IfNone, IfSome};
 ghost use Rattle.std.specs.Borrow.{sem, Lends, full_share};
-ghost use Rattle.std.specs.Ptr.{lies_at, room_at};
+ghost use Rattle.std.specs.Ptr.{lies_at, null_ptr, room_at};
 ghost use Rattle.iobufs_core.specs.MarkedText.{of_view, taken_view};
 ghost use Rattle.iobufs_core.specs.View.{IsFreelyShared, View, default_view, end_place, range_fits, start_place, static_mark, native_mark, view_advanced, view_rest, view_slice, view_split_front};
 ghost use Rattle.iobufs_core.specs.contracts.buf.view.IoBuf.{the_row as view_row};
@@ -82,8 +82,10 @@ impl ViewRoom {
     }
 }
 
-/// Returns the address of bytes. It isn't null, also of none.
-pub(crate) fn address(bytes: &[u8]) -> *const u8 {
+/// Returns the address of bytes, also of none.
+pub(crate) fn address(bytes: &[u8]) -> *const u8
+    ensures { result ≡ null_ptr → ⊥ }
+{
     bytes.as_ptr()
 }
 
@@ -155,11 +157,12 @@ pub extern "C" fn iobuf_is_empty(src: &mut ViewAt) -> bool
     src.get().is_empty()
 }
 
-/// Writes the address of the bytes, if there are any, and returns how many there are.
+/// Writes the address of the bytes, and returns how many there are.
 #[unsafe(no_mangle)]
 pub extern "C" fn iobuf_chunk(src: &mut ViewAt, out: &mut *const u8) -> usize
     ensures same { (src.new.at ≡ src.old.at) × (src.new.value ≡ src.old.value) }
     ensures value { result ≡ length src.old.value.bytes }
+    ensures address { out.new ≡ null_ptr → ⊥ }
 {
     let chunk = src.get().as_ref();
     *out = address(chunk);

@@ -2,7 +2,7 @@
 use Rattle.std.proofs.Common.{[], ◌∷◌, ◌++◌, List, length, refl}
 use seplogic.Ra.Ura.{Ura}
 use mir.Val.{Val, vptr}
-use base.Logic.{SProp, ent, sep, emp, via, emp∗, comm∗}
+use base.Logic.{SProp, ent}
 use prog.Memory.{Memory}
 use prog.Routine.{Routine}
 use prog.Wp.{Calls, Loops, WpFn, Tables}
@@ -23,7 +23,7 @@ use denote.Triple.Clauses.{Clauses, closing}
 use denote.Triple.Entry.{alive}
 use denote.Triple.Spec.{Meets, triple_of}
 use denote.Triple.Table.{entered}
-use denote.Triple.Walked.{Stays, stay_dropped, walk_of, on_exit, ends_at, walk_Meets, Goes-dropped}
+use denote.Triple.Walked.{Stays, stay_dropped, says, walk_of, ends_at, walk_Meets, Goes-dropped}
 use denote.RawPtr.{block_ptr}
 use denote.Slice.{slice_val}
 use Rattle.iobufs_c.specs.contracts.view.address as F
@@ -54,8 +54,7 @@ module _ {M : Type 1} {𝓤 : Ura M} (𝓛 : Logic 𝓤) (at_mem : Memory → SP
         sets ! (addr ! (from ! (fld ! refl (hop ! (look_in_at ! 1 (sub ! 0 refl (whole !))) (stop !))))) refl (tt, tt) $
         returns ! (look_at ! 0 refl) $ free_all ! refl $
         suffices ! _ (ends_at 𝓛 F.ended stayed held z (vptr b o) (block_ptr b o) (tt, tt) (tt, tt)) $
-        let X : SProp 𝓤 = on_exit 𝓛 F.ended stayed z.0.0 z.0.1 z.0.4 (vptr b o) (block_ptr b o) a (tt, tt) in
-        suffices ! X (via 𝓤 (sep 𝓤 (emp 𝓤) X) (emp∗ 𝓤 X) (comm∗ 𝓤 (emp 𝓤) X)) $
+        says ! (λ e. cc) $
         feq_i ! (List Val) (vptr b o ∷ []) (vptr b o ∷ []) refl $ nothing ! $ nothing ! $ fjoin ! $ move ! (2 ∷ 0 ∷ 1 ∷ []) $ done !))))
 
   meets : (𝓣 : Tables 𝓤 H) → Meets 𝓛 F.ended.signature (WpFn 𝓤 H 𝓣.C 𝓣.Λ code.function) (closing 𝓛 F.ended held)
