@@ -37,7 +37,8 @@
 //! - `set_len` is safe, and new bytes are zero. `as_mut_ptr` is missing, since space that isn't readable has no address: put the bytes,
 //!   or call `set_len(n)` first and write over the zeros by `as_mut()`.
 //! - An alignment is tested and not promised.
-//! - `put` of any reader needs the feature. `TryGetError` is this crate's: that of `bytes` begins with its version 1.10.
+//! - `put` of any reader needs the feature. `TryGetError` is this crate's: that of `bytes` begins with its version 1.10. With that
+//!   version the trait's own `try_copy_to_slice` and `try_get_u16` .., as in `Buf::try_get_u16(&mut view)`, return that of `bytes`.
 //! - The codec's traits are this crate's (`codec`), and no call is a `const fn`.
 //!
 //! A view has interior mutability, which clippy reports at a `HashMap<IoBuf, _>`: its hash and order are those of the bytes, which
