@@ -99,6 +99,7 @@ pub extern "C" fn iobufs_read_length(
     ensures invalid { result ≡ code_of Status.InvalidVarint → IsLengthRead text.old.value.bytes (record { lo = lo; hi = hi }) (Err Error.InvalidVarint) }
     ensures outside { result ≡ code_of Status.InvalidLength
         → IsLengthRead text.old.value.bytes (record { lo = lo; hi = hi }) (Err (Error.InvalidLength out.new)) }
+    ensures out { (result == 0) ≡ false → (result == code_of Status.InvalidLength) ≡ false → out.new ≡ out.old }
     ensures causes { IsReadCode result }
 {
     let range = RangeCfg { lo, hi };
@@ -132,6 +133,7 @@ pub extern "C" fn iobuf_read_length(
     ensures invalid { result ≡ code_of Status.InvalidVarint → IsLengthRead src.old.value.bytes (record { lo = lo; hi = hi }) (Err Error.InvalidVarint) }
     ensures outside { result ≡ code_of Status.InvalidLength
         → IsLengthRead src.old.value.bytes (record { lo = lo; hi = hi }) (Err (Error.InvalidLength out.new)) }
+    ensures out { (result == 0) ≡ false → (result == code_of Status.InvalidLength) ≡ false → out.new ≡ out.old }
     ensures causes { IsReadCode result }
 {
     let range = RangeCfg { lo, hi };

@@ -270,6 +270,7 @@ pub extern "C" fn iobufs_locate(
     ensures result { result ≡ (if nat_le (text_len text.old.value) at then code_of Status.OutOfRange else 0) }
     ensures index { result ≡ 0 → index.new + 1 ≡ keys_upto text.old.value at }
     ensures offset { result ≡ 0 → greatest_key text.old.value at + offset.new ≡ at }
+    ensures unchanged { (result == 0) ≡ false → (index.new ≡ index.old) × (offset.new ≡ offset.old) }
 {
     let text = text.get();
     if at >= text.len() {
