@@ -36,7 +36,8 @@
  *     process with threads.
  *
  * "memory" in a comment: the call may allocate, and returns IOBUFS_MEMORY if that fails; if a comment says nothing of it,
- * the call doesn't allocate. "Memory none today": it doesn't allocate as it is, but no contract promises that.
+ * the call doesn't allocate. "Memory none today": it doesn't allocate as it is, but a contract promises that only for no bytes,
+ * for those of `iobuf_from_static`, and for a split or a take of all bytes.
  * The name in brackets is the original's; "own" if it has none.
  */
 #ifndef IOBUFS_H
