@@ -1,11 +1,11 @@
 -- The lines of a text, taken piece by piece, go as records in order; one that is too long ends that.
-use Rattle.std.specs.Prelude.{◌≡◌, ℕ, zero, suc, ◌+◌, ◌*◌, ◌-◌, ◌<◌, ◌≤◌, ◌==◌, if◌then◌else◌, Bool, true, false, Option, None, Some, IfSome, List, [], ◌∷◌, ◌++◌, length, take, drop, slice_index, refl}
+use Rattle.std.specs.Prelude.{◌≡◌, ◌⊎◌, ℕ, zero, suc, ◌+◌, ◌*◌, ◌-◌, ◌<◌, ◌≤◌, ◌==◌, if◌then◌else◌, Bool, true, false, Option, None, Some, IfSome, List, [], ◌∷◌, ◌++◌, length, take, drop, slice_index, refl}
 use Rattle.std.specs.Option.{unwrap_or}
 use Rattle.memchr.specs.Find.{IsFirstByte, is_byte}
 use Rattle.std.specs.Int.{w32, w64, to_be_bytes}
-use Rattle.std.specs.Io.KnownBytes.{Appends, Consumes, IsAtEnd}
-use Rattle.std.proofs.Common.{arith, ap, sym, subst, ◌∙◌, append_assoc, append-nil, length-append}
-use Rattle.std.proofs.KnownBytes.{Appends-nil, Appends-trans, Consumes-nil, Consumes-trans, Consumes-whole}
+use Rattle.std.specs.Io.KnownBytes.{Appends, Consumes, IsAtEnd, Keeps}
+use Rattle.std.proofs.Common.{arith, ap, inl, inr, sym, subst, ◌∙◌, append_assoc, append-nil, length-append}
+use Rattle.std.proofs.KnownBytes.{Appends-nil, Appends-trans, Consumes-kept, Consumes-nil, Consumes-trans, Consumes-whole}
 use Rattle.std.proofs.Math.Seq.{drop-append_seam, take-add, take-append-add}
 use Rattle.std.proofs.lemmas.Bool.{eqb-true, ne_eqb}
 use Rattle.std.proofs.lemmas.List.{drop_more, length-drop, length-take-le, nil_from_length, take_rest}
@@ -14,7 +14,7 @@ use Rattle.iobufs_journal.specs.Crc.{crc32}
 use Rattle.iobufs_journal.specs.Journal.{front, head, record_written, records_written, summed, version}
 use Rattle.iobufs_journal.specs.JournalLaws.{length-record, short_on, written_more}
 use Rattle.iobufs_journal.proofs.ScanLaws.{all_known}
-use Rattle.iobufs_journal.specs.Lines.{AreFirst, AreHeld, HasBegun, HasLongLine, IsAppended, IsCutShort, IsEnded, IsFinished, IsGoing, IsLast, IsLine, AreNext, TakesLines, last_of, lines_from, lines_of, most_bytes}
+use Rattle.iobufs_journal.specs.Lines.{AreFirst, AreHeld, AreWhole, HasBegun, HasLongLine, IsAppended, IsCutShort, IsEnded, IsFinished, IsGoing, IsLast, IsLine, AreNext, TakesLines, last_of, lines_from, lines_of, most_bytes}
 use Rattle.iobufs_journal.specs.declared.lines.Lines.{Lines}
 
 -- bytes put in turn are put at once
@@ -286,12 +286,23 @@ some_more a b c bytes at n next (inside, p) few q sum =
     let whole : take next bytes ≡ take at bytes ++ take n (drop at bytes) = ap (λ k. take k bytes) sum ∙ take-add at n bytes in
     (omega (arith, sum, few, inside, long, length-drop at bytes), subst (Appends a c) (sym whole) both)
 
+-- the lines that a piece ends are whole, also before one that is too long
+whole_next : (text begun : List ℕ) (is_long : Bool) (taken : List (List ℕ)) → AreNext text begun is_long taken → AreWhole text taken
+whole_next text begun true taken next more =
+    let long = next more in
+    (long.line ∷ long.more, long.next)
+whole_next text begun false taken next more = (lines_from begun more, next.1 more)
+
 -- only some of what is put was written
-pub cut_held : (a b c : Option (List ℕ)) (first next : ℕ) (written out : List ℕ) (P : List (List ℕ) → Type 0) → Appends a b written
-    → AreHeld first (written ++ out) next P → HasBegun b c out → IsCutShort first a c
-cut_held a b c first next written out P wrote is (n, some) = record {
+cut_held : (h j a b c : Option (List ℕ)) (first next : ℕ) (read written out : List ℕ) (P : List (List ℕ) → Type 0) → Consumes h j read → Appends a b written
+    → AreHeld first (written ++ out) next P
+    → ((taken : List (List ℕ)) → P taken → AreWhole read taken ⊎ (IsAtEnd j × (lines_of read ≡ taken))) → HasBegun b c out → IsCutShort h j first a c
+cut_held h j a b c first next read written out P took wrote is ended (n, some) = record {
+  read = read;
+  took = took;
   lines = is.taken;
   short = is.short;
+  ended = ended is.taken is.so;
   put = (
     length written + n,
     subst (Appends a c) (sym (take-append-add written out n) ∙ ap (take (length written + n)) is.put)
@@ -300,6 +311,47 @@ cut_held a b c first next written out P wrote is (n, some) = record {
 }
 
 -- nothing more was written
-pub cut_there : (h i a b : Option (List ℕ)) (first : ℕ) (now : Lines) → IsAppending h i a b first now → IsCutShort first a b
-cut_there h i a b first now so_far =
-    cut_held a b b first now.number so_far.written [] (AreNext so_far.read now.begun.items false) so_far.wrote so_far.going (0, Appends-nil b)
+pub cut_there : (h i j a b : Option (List ℕ)) (first : ℕ) (now : Lines) → IsAppending h i a b first now → Keeps i j → IsCutShort h j first a b
+cut_there h i j a b first now so_far kept =
+    cut_held h j a b b first now.number so_far.read so_far.written [] (AreNext so_far.read now.begun.items false)
+    (Consumes-kept h i j so_far.read so_far.took kept) so_far.wrote so_far.going
+    (λ taken so. inl (whole_next so_far.read now.begun.items false taken so)) (0, Appends-nil b)
+
+-- nothing was read
+pub cut_at_first : (h a : Option (List ℕ)) (first : ℕ) → IsCutShort h h first a a
+cut_at_first h a first = record {
+  read = [];
+  took = Consumes-nil h;
+  lines = [];
+  short = tt;
+  ended = inl (λ more. (lines_of more, refl));
+  put = (0, Appends-nil a);
+}
+
+-- or some of the lines of one more piece
+pub cut_piece : (h i j a b c : Option (List ℕ)) (piece out : List ℕ) (first : ℕ) (now new : Lines) (is_long : Bool) → IsAppending h i a b first now
+    → Consumes i j piece → TakesLines piece [] out now new is_long → HasBegun b c out → IsCutShort h j first a c
+cut_piece h i j a b c piece out first now new is_long so_far took takes some =
+    cut_held h j a b c first new.number (so_far.read ++ piece) so_far.written out (AreNext (so_far.read ++ piece) new.begun.items is_long)
+    (Consumes-trans h i j so_far.read piece so_far.took took) so_far.wrote (takes first so_far.read so_far.written so_far.going)
+    (λ taken so. inl (whole_next (so_far.read ++ piece) new.begun.items is_long taken so)) some
+
+-- or of the last line
+pub cut_last : (h i j a b c : Option (List ℕ)) (piece out : List ℕ) (first : ℕ) (now new : Lines) → IsAppending h i a b first now
+    → Consumes i j piece → piece ≡ [] → IsAtEnd j → IsFinished [] out now new → HasBegun b c out → IsCutShort h j first a c
+cut_last h i j a b c piece out first now new so_far took none at finished some =
+    let same : so_far.read ++ piece ≡ so_far.read = ap (λ w. so_far.read ++ w) none ∙ append-nil so_far.read in
+    cut_held h j a b c first new.number so_far.read so_far.written out (λ taken. IsLast so_far.read taken false)
+    (subst (Consumes h j) same (Consumes-trans h i j so_far.read piece so_far.took took)) so_far.wrote
+    (finished first so_far.read so_far.written so_far.going) (λ taken so. inr (at, so)) some
+
+-- a piece was read, and nothing more was written
+pub cut_read : (h i j a b : Option (List ℕ)) (piece : List ℕ) (first : ℕ) (now : Lines) → IsAppending h i a b first now → Consumes i j piece
+    → IsCutShort h j first a b
+cut_read h i j a b piece first now so_far took =
+    cut_held h j a b b first now.number (so_far.read ++ piece) so_far.written [] (AreNext so_far.read now.begun.items false)
+    (Consumes-trans h i j so_far.read piece so_far.took took) so_far.wrote so_far.going
+    (λ taken so. inl (λ more.
+    let whole = whole_next so_far.read now.begun.items false taken so (piece ++ more) in
+    (whole.0, ap lines_of (append_assoc so_far.read piece more) ∙ whole.1)))
+    (0, Appends-nil b)

@@ -11,9 +11,11 @@
 --                              may be none
 --     TakesLines               the lines of a piece are put as records, or one is too long
 --     IsAppended               these lines went to a writer as records, and why no more of them
---     HasBegun, IsCutShort     a writer took some of the first of these bytes; of the bytes of some records
-use Rattle.std.specs.Prelude.{◌≡◌, ℕ, ◌+◌, ◌<◌, ◌≤◌, ◌==◌, if◌then◌else◌, Bool, true, false, Option, List, [], ◌∷◌, ◌++◌, length, take, drop, slice_index}
-use Rattle.std.specs.Io.KnownBytes.{Appends}
+--     HasBegun                 a writer took some of the first of these bytes
+--     AreWhole                 these are the first lines, whatever follows
+--     IsCutShort               a writer took some of the first bytes of the records of lines that were read whole
+use Rattle.std.specs.Prelude.{◌≡◌, ◌⊎◌, ℕ, ◌+◌, ◌<◌, ◌≤◌, ◌==◌, if◌then◌else◌, Bool, true, false, Option, List, [], ◌∷◌, ◌++◌, length, take, drop, slice_index}
+use Rattle.std.specs.Io.KnownBytes.{Appends, Consumes, IsAtEnd}
 use Rattle.iobufs_core.specs.Part.{Part, part_put}
 use Rattle.iobufs_journal.specs.Journal.{AreShort, record_written, records_written}
 use Rattle.iobufs_journal.specs.declared.lines.Lines.{Lines}
@@ -104,8 +106,16 @@ pub record IsAppended (text : List ℕ) (first count : ℕ) (is_long : Bool) (he
 abbrev pub HasBegun : Option (List ℕ) → Option (List ℕ) → List ℕ → Type 0
 HasBegun held holds bytes = (n : ℕ) × Appends held holds (take n bytes)
 
--- it took some of the first bytes of records, numbered from one on
-pub record IsCutShort (first : ℕ) (held holds : Option (List ℕ)) : Type 0 where
+-- these are the first lines of a text, whatever follows
+abbrev pub AreWhole : List ℕ → List (List ℕ) → Type 0
+AreWhole text lines = (more : List ℕ) → (others : List (List ℕ)) × (lines_of (text ++ more) ≡ lines ++ others)
+
+-- It took some of the first bytes of records, numbered from one on. Their lines were read whole: a 10 ended each, or the input
+-- the last.
+pub record IsCutShort (had has : Option (List ℕ)) (first : ℕ) (held holds : Option (List ℕ)) : Type 0 where
+  pub read : List ℕ
+  pub took : Consumes had has read
   pub lines : List (List ℕ)
   pub short : AreShort most_bytes lines
+  pub ended : AreWhole read lines ⊎ (IsAtEnd has × (lines_of read ≡ lines))
   pub put : HasBegun held holds (records_written first lines)

@@ -103,7 +103,7 @@ impl Lines {
 
 /// Puts the lines of a reader into a writer as records, numbered from one on, until there are none or one is too long.
 /// Returns how many, and whether one is. Writes and flushes those of one read before the next. If it fails, the writer took
-/// some of the first bytes of records.
+/// some of the first bytes of the records of whole lines: a line that was begun is dropped, unless the input ended it.
 pub fn append<R: Read, W: Write>(
     alloc: Global,
     first: u64,
@@ -112,7 +112,7 @@ pub fn append<R: Read, W: Write>(
 ) -> Result<(u64, bool), Failure>
     ensures appended { IfOk result
         (λ done. IfSome (R.remaining from.old) (λ text. IsAppended text first done.0 done.1 (W.contents to.old) (W.contents to.new))) }
-    ensures torn { OnErr result (IsCutShort first (W.contents to.old) (W.contents to.new)) }
+    ensures torn { OnErr result (IsCutShort (R.remaining from.old) (R.remaining from.new) first (W.contents to.old) (W.contents to.new)) }
 {
     let mut lines = Lines {
         begun: Vec::with_capacity(alloc, MOST_LINE + PIECE)?,

@@ -1,6 +1,6 @@
 // A journal that is read from its front, piece by piece.
-ghost use Rattle.std.specs.Prelude.{◌≡◌, ◌+◌, ◌<◌, ◌≤◌, ◌++◌, [], ◌∷◌, IfOk, IfSome, OnOk, length, take};
-ghost use Rattle.std.specs.Io.KnownBytes.{Appends, Consumes, IsAtEnd};
+ghost use Rattle.std.specs.Prelude.{◌≡◌, ◌+◌, ◌<◌, ◌≤◌, ◌++◌, [], ◌∷◌, IfOk, IfSome, OnErr, OnOk, length, take};
+ghost use Rattle.std.specs.Io.KnownBytes.{Appends, Consumes, IsAtEnd, Keeps};
 ghost use Rattle.iobufs_journal.specs.Scan.{IsFilled, IsPrinted, settled};
 
 use crate::failure::{Failure, named, too_large};
@@ -30,6 +30,7 @@ pub fn read_into<R: Read>(
     ensures took { IfOk result (λ n. Consumes (R.remaining from.old) (R.remaining from.new) (take n piece.new)) }
     ensures end { IfOk result (λ n. n ≡ 0 → IsAtEnd (R.remaining from.new)) }
     ensures inside { IfOk result (λ n. n ≤ length piece.new) }
+    ensures kept { OnErr result (Keeps (R.remaining from.old) (R.remaining from.new)) }
     ensures same { length piece.new ≡ length piece.old }
 {
     for _ in 0..u64::MAX {

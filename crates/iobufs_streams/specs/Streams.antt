@@ -13,8 +13,13 @@
 --     IsFirstOf            the result by the frames of the stream: the first went
 --     HasSent              a writer was sent a prefix of some bytes
 --     SendsFrames          a writer was sent a prefix of the frames of some bytes, written with another prefix
---     EndsAfter,           and all of them, if no more bytes follow, or a frame that is cut or bad: the error then lies
---     EndsFrames, IfInput  in the input
+--     EndsAfter,           and all of them, if no more bytes follow, or a frame that is cut or bad
+--     EndsFrames
+--     IfUntaken            no frame is taken, and no stream failed
+--     IsTooLongFor         a body that a writer can't send
+--     SendsFrame           a frame was sent but for what is left of it; one that is too long wasn't
+--     AreSentBack,         frames were taken and sent back but for a rest; so by the result, which may be a frame that
+--     SendsBack            is taken and can't be sent
 use Rattle.std.specs.Prelude.{◌≡◌, ◌⊎◌, ℕ, ◌+◌, ◌^◌, ◌<◌, ◌≤◌, Bool, true, nat_eq, Option, None, Some, Result, Ok, Err, List, [], ◌++◌, length}
 use Rattle.std.specs.Io.KnownBytes.{Appends, Consumes, IsAtEnd}
 use Rattle.iobufs.specs.Sending.{IsSent}
@@ -23,12 +28,13 @@ use Rattle.iobufs_core.specs.declared.codec.base.Error.{Error}
 use Rattle.iobufs_core.specs.declared.codec.base.Error.TheVariants as error
 use Rattle.iobufs_core.specs.declared.codec.base.RangeCfg.{RangeCfg}
 use Rattle.iobufs_frames.specs.Receiving.{ReceivedBytes}
-use Rattle.iobufs_frames.specs.Frames.{CanFollow, FirstTaken, IsFramed, LacksFrame, all_written, frame_written}
+use Rattle.iobufs_frames.specs.Frames.{CanAllFollow, CanFollow, FirstTaken, IsFramed, LacksFrame, all_written, frame_written}
+use Rattle.iobufs_frames.specs.Prefixes.{prefix_limit}
 use Rattle.iobufs_frames.specs.declared.End.{End}
 use Rattle.iobufs_frames.specs.declared.End.TheVariants as end
 use Rattle.iobufs_frames.specs.declared.lengths.Prefix.{Prefix}
 use Rattle.iobufs_streams.specs.declared.error.FrameError.{FrameError}
-use Rattle.iobufs_streams.specs.declared.error.FrameError.TheVariants.{Bad, Cut, Memory, TooLong}
+use Rattle.iobufs_streams.specs.declared.error.FrameError.TheVariants.{Bad, Cut, Io, Memory, TooLong}
 
 -- the bytes that were read and not taken
 abbrev pub held_bytes : ReceivedBytes → List ℕ
@@ -121,11 +127,12 @@ abbrev pub SendsFrames : Prefix → Prefix → RangeCfg → List ℕ → Option 
 SendsFrames prefix to range text held holds = (frames : List (List ℕ)) (stop : End) (rest : List ℕ) → IsFramed prefix range text frames stop rest
     → HasSent held holds (all_written to frames)
 
--- the error lies in the input: its last frame is cut, or a frame is bad
-abbrev pub IfInput : FrameError → Type 0 → Type 0
-IfInput Cut P = P
-IfInput (Bad error) P = P
-IfInput error P = Unit {0}
+-- no frame is taken, and no stream failed: the last frame is cut, one is bad, or an allocation failed
+abbrev pub IfUntaken : FrameError → Type 0 → Type 0
+IfUntaken Cut P = P
+IfUntaken (Bad error) P = P
+IfUntaken Memory P = P
+IfUntaken error P = Unit {0}
 
 -- all frames were sent, if this is after them
 abbrev pub EndsAfter : Type 0 → End → List ℕ → Result (Unit {0}) FrameError → Type 0
@@ -138,3 +145,30 @@ EndsAfter all stop rest (Err error) = Unit {0}
 abbrev pub EndsFrames : Prefix → Prefix → RangeCfg → List ℕ → Option (List ℕ) → Option (List ℕ) → Result (Unit {0}) FrameError → Type 0
 EndsFrames prefix to range text held holds result = (frames : List (List ℕ)) (stop : End) (rest : List ℕ) → IsFramed prefix range text frames stop rest
     → EndsAfter (Appends held holds (all_written to frames)) stop rest result
+
+-- a body is longer than a limit, than its length can be written, or than a frame can be
+abbrev pub IsTooLongFor : Prefix → ℕ → List ℕ → Type 0
+IsTooLongFor to most body = (most < length body) ⊎ (prefix_limit to ≤ length body) ⊎ (2 ^ 64 ≤ length (frame_written to body))
+
+-- The frame of a body was sent, but for a rest that is left. One that is too long isn't sent.
+abbrev pub SendsFrame : Prefix → ℕ → List ℕ → Option (List ℕ) → Option (List ℕ) → List ℕ → Result (Unit {0}) FrameError → Type 0
+SendsFrame to most body held holds rest (Ok done) = IsSent held holds (frame_written to body) rest × (rest ≡ [])
+SendsFrame to most body held holds rest (Err (Io error)) = IsSent held holds (frame_written to body) rest × (0 < length rest)
+SendsFrame to most body held holds rest (Err TooLong) = IsTooLongFor to most body × (holds ≡ held) × (rest ≡ [])
+SendsFrame to most body held holds rest (Err error) = ⊥
+
+-- Frames were taken from the front of a text, and these bytes are left of it. They were sent, written with another prefix,
+-- but for a rest.
+pub record AreSentBack (prefix to : Prefix) (range : RangeCfg) (text left : List ℕ) (held holds : Option (List ℕ)) (rest : List ℕ) : Type 0 where
+  pub frames : List (List ℕ)
+  pub taken : text ≡ all_written prefix frames ++ left
+  pub fits : CanAllFollow prefix range frames
+  pub sent : IsSent held holds (all_written to frames) rest
+
+-- So of an echo. It is too long after 2^64 - 1 bytes, or if the frame that was taken last can't be sent: that one is lost.
+abbrev pub SendsBack : Prefix → Prefix → RangeCfg → ℕ → List ℕ → List ℕ → Option (List ℕ) → Option (List ℕ) → List ℕ → Result (Unit {0}) FrameError → Type 0
+SendsBack prefix to range most text left held holds rest (Err TooLong) =
+    ((2 ^ 64 ≤ length text + 1) × AreSentBack prefix to range text left held holds rest)
+    ⊎ ((body : List ℕ) × CanFollow prefix range body × IsTooLongFor to most body
+    × AreSentBack prefix to range text (frame_written prefix body ++ left) held holds rest)
+SendsBack prefix to range most text left held holds rest result = AreSentBack prefix to range text left held holds rest

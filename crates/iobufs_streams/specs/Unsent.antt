@@ -5,17 +5,17 @@
 use Rattle.std.specs.Prelude.{◌≡◌, ℕ, ◌-◌, List, [], ◌∷◌, length, drop}
 use Rattle.iobufs_core.specs.MarkedText.{MarkedText, text_rest}
 
--- what is left of a frame's length and of its body, and the bytes of both
+-- the unsent end of a frame's length, its unsent body, and the bytes of both
 pub record UnsentBytes : Type 0 where
   pub head : List ℕ
   pub body : MarkedText
   pub bytes : List ℕ
 
--- what is left after the first n bytes
+-- the unsent bytes after the first n of them
 abbrev pub unsent_rest : UnsentBytes → ℕ → UnsentBytes
 unsent_rest unsent n = record { head = drop n unsent.head; body = text_rest unsent.body (n - length unsent.head); bytes = drop n unsent.bytes }
 
--- what is left after so many bytes each time, the last first
+-- so after several counts in turn, the last first
 abbrev pub unsent_after : UnsentBytes → List ℕ → UnsentBytes
 unsent_after unsent [] = unsent
 unsent_after unsent (n ∷ before) = unsent_rest (unsent_after unsent before) n

@@ -21,7 +21,8 @@ pub enum FrameError {
     /// An allocation failed.
     #[error("out of memory")]
     Memory,
-    /// More than `usize::MAX` bytes are held and are no whole frame, or the writer's lengths can't express a body's.
+    /// More than `usize::MAX` bytes are held and are no whole frame, or a body is longer than the writer's limit or than
+    /// its lengths can say.
     #[error("the frame is too long")]
     TooLong,
 }
