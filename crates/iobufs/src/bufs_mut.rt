@@ -302,8 +302,9 @@ impl IoBufsMut {
         }
     }
 
-    /// Returns one buffer; several are copied, without spare capacity (`IoBufsMut::coalesce`). Fails with
-    /// `BufError::BadLayout` exactly if two or more hold more than `isize::MAX` bytes.
+    /// Returns one buffer; several are copied, without spare capacity (`IoBufsMut::coalesce`): into the first of two or
+    /// three, if all bytes fit it. Fails with `BufError::BadLayout` exactly if two or more hold more than `isize::MAX`
+    /// bytes.
     #[tactic(auto, using(crate::proofs::Parts::Coalesced::coalescing, crate::proofs::Parts::FewLaws::freezing_few))]
     pub fn coalesce(mut self, alloc: Global) -> Result<IoBufMut, BufError>
         ensures ok { IfOk result (λ part. part ≡ parts_coalesced self) }

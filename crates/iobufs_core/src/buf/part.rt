@@ -224,32 +224,6 @@ impl IoBufMut {
         Ok(IoBufMut::from_shell(Some(shell), storage, 0, limit))
     }
 
-    /// Acts as `with_capacity`, and takes over what a drained buffer keeps beside its storage, if there is any (own).
-    /// Fails as `with_capacity`.
-    pub fn with_capacity_from(
-        alloc: Global,
-        n: usize,
-        spent: &mut IoBufMut,
-    ) -> Result<IoBufMut, BufError>
-        ensures ok { IfOk result (λ b. b ≡ empty_part n) }
-        ensures bad_layout { IsTrue (bad_layout n 1) → result ≡ Err BufError.BadLayout }
-        ensures good_layout { bad_layout n 1 ≡ false → IsOkUnless result BufError.Memory }
-        ensures nothing { n ≡ 0 → IsOk result }
-        ensures same { spent.new ≡ spent.old }
-    {
-        if n == 0 {
-            return Ok(IoBufMut::default(alloc));
-        }
-        if is_bad_layout(n, 1) {
-            return Err(BufError::BadLayout);
-        }
-        let block = Vec::with_capacity(alloc, n)?;
-        match spent.shell.take() {
-            Some(shell) => Ok(IoBufMut::from_shell(Some(shell), block, 0, n)),
-            None => IoBufMut::with_shell(block, n),
-        }
-    }
-
     pub(super) fn from_shell(
         shell: Option<Arc<Vec<u8>>>,
         storage: Vec<u8>,
@@ -319,6 +293,13 @@ impl IoBufMut {
         ensures { self.new ≡ part_put self.old src.now }
     {
         self.storage.extend_from_slice(src).unwrap();
+    }
+
+    /// Keeps the bytes, and no spare capacity (own). The storage stays as it is.
+    pub fn drop_spare(&mut self)
+        ensures { self.new ≡ record { filled = self.old.filled; spare = 0 } }
+    {
+        self.limit = self.storage.len();
     }
 
     /// Keeps at most the first `n` bytes, and the capacity (`IoBufMut::truncate`).
