@@ -242,7 +242,3 @@ frozen-three p q r none one two all empty first second third =
     (add-text one two (part_frozen q) second full
     ∙ ap (λ (t : MarkedText). text_append t (part_frozen q))
     (add-text none one (part_frozen p) first start ∙ ap (λ (t : MarkedText). text_append t (part_frozen p)) (ap of_pieces empty ∙ of_pieces-none)))
-
--- a part freezes to all its bytes
-pub frozen-length : (p : Part) → length (part_frozen p).bytes ≡ length p.filled
-frozen-length p = grind (arith, nat_tests, common_steps)

@@ -87,13 +87,17 @@ impl Pieces {
     }
 
     /// The chunks of a row, at least one.
-    pub(super) fn from_row(row: Row) -> Pieces
+    #[inline(always)]
+    pub(super) fn from_row(mut row: Row) -> Pieces
         requires { 0 < length row.views }
         ensures { result ≡ row.views }
     {
-        let mut form = Form::Many(row);
-        form.settle();
-        Pieces { form }
+        if row.count() == 1 {
+            return Pieces::one(row.pop_front());
+        }
+        Pieces {
+            form: Form::Many(row),
+        }
     }
 
     pub(super) fn count(&self) -> usize

@@ -232,26 +232,10 @@ impl Row {
         ensures same_room { self.new.room ≡ self.old.room }
         ensures view { IsView piece }
     {
-        let len = self.len();
-        self.add_after(piece, len);
-    }
-
-    /// As `add`, after `len` bytes, which are all of the deque's. Returns how many there are then.
-    #[inline(always)]
-    pub(crate) fn add_after(&mut self, piece: IoBuf, len: usize) -> usize
-        requires total { len ≡ length (pieces_bytes self.old.views) }
-        requires fits { length (pieces_bytes self.old.views) + length piece.bytes < 2 ^ 64 }
-        requires room { length self.old.views < self.old.room }
-        ensures added { self.new.views ≡ (if length piece.bytes == 0 then self.old.views else self.old.views ++ piece ∷ []) }
-        ensures len { result ≡ len + length piece.bytes }
-        ensures same_room { self.new.room ≡ self.old.room }
-        ensures view { IsView piece }
-    {
         let more = piece.len();
         if more != 0 {
-            self.push_back_reserved(piece, len + more);
+            self.push_back_reserved(piece, self.len() + more);
         }
-        len + more
     }
 
     /// As `push_back`, within the reserved space.
@@ -500,6 +484,74 @@ impl Row {
         let base = self.base.wrapping_add(at as u64);
         cut(&mut self.pieces, &mut pieces, inside, place.offset, base);
         Ok(mem::replace(self, Row { base, pieces }))
+    }
+}
+
+/// A row in the making. A push takes half of the instructions of one into a deque, which may have wrapped.
+pub(crate) struct NewRow {
+    pieces: Vec<Piece>,
+    len: usize,
+}
+
+// Written out, as that of `Row`.
+impl Drop for NewRow {
+    fn drop(self) {
+        let NewRow { pieces: _, len: _ } = self;
+    }
+}
+
+impl Model for NewRow {
+    ghost use Rattle.iobufs.specs.Inside.RowValues.{ViewRow};
+
+    ghost Value = { ViewRow };
+
+    ghost use Rattle.std.specs.Prelude.{length, vec_capacity, ◌≡◌};
+    ghost use Rattle.iobufs.specs.Inside.Ends.{IsRow, views_in};
+    ghost use Rattle.iobufs.specs.Inside.Pieces.{pieces_bytes};
+
+    ghost view = { λ r. record { views = views_in r.pieces.items; room = vec_capacity r.pieces } };
+
+    ghost invariant = { λ r. IsRow 0 r.pieces.items × (r.len ≡ length (pieces_bytes (views_in r.pieces.items))) };
+}
+
+impl NewRow {
+    /// No chunks yet, and space for `n`.
+    pub(crate) fn with_room(alloc: Global, room: usize) -> Result<NewRow, AllocError>
+        ensures views { IfOk result (λ row. row.views ≡ []) }
+        ensures room { IfOk result (λ row. room ≤ row.room) }
+    {
+        Ok(NewRow {
+            pieces: Vec::with_capacity(alloc, room)?,
+            len: 0,
+        })
+    }
+
+    /// Acts as `add` of `Row`.
+    #[inline(always)]
+    pub(crate) fn add(&mut self, piece: IoBuf)
+        requires fits { length (pieces_bytes self.old.views) + length piece.bytes < 2 ^ 64 }
+        requires room { length self.old.views < self.old.room }
+        ensures added { self.new.views ≡ (if length piece.bytes == 0 then self.old.views else self.old.views ++ piece ∷ []) }
+        ensures same_room { self.new.room ≡ self.old.room }
+        ensures view { IsView piece }
+    {
+        let more = piece.len();
+        if more != 0 {
+            self.len += more;
+            let end = self.len as u64;
+            self.pieces.push_reserved(Piece { view: piece, end });
+        }
+    }
+
+    /// The row that was made.
+    pub(crate) fn finish(self) -> Row
+        ensures { result.views ≡ self.views }
+    {
+        let NewRow { pieces, len: _ } = self;
+        Row {
+            base: 0,
+            pieces: VecDeque::from_vec(pieces),
+        }
     }
 }
 

@@ -2,13 +2,14 @@
 ghost use Rattle.std.specs.Option.{option_copied};
 ghost use Rattle.std.specs.Prelude.{◌≡◌, ◌+◌, ◌-◌, ◌^◌, ◌<◌, ◌≤◌, ◌++◌, [], ◌∷◌, drop, false, length, map, min, replicate, slice_get, take, ◌==◌, if◌then◌else◌, Err, IfOk, OnOk, IfNone, IfSome, IsOk, IsOkUnless, IsTrue};
 ghost use Rattle.iobufs_core.specs.Chunks.{first_chunk};
+ghost use Rattle.iobufs_core.specs.MarkedText.{of_view};
 ghost use Rattle.iobufs_core.specs.Part.{empty_part, part_capacity, part_drained, part_frozen, part_overwritten, part_put, part_with_len};
 ghost use Rattle.iobufs.specs.Inside.Pieces.{pieces_bytes};
 ghost use Rattle.iobufs.specs.Parts.{HaveCapacity, IsParts, kept_parts, parts_capacity, parts_chunks, parts_fill, parts_filled, parts_frozen, parts_overwritten, parts_shared_out, parts_spare, parts_with_len, single_part, with_capacity};
 
 use super::several::Several;
 use crate::bufs::IoBufs;
-use crate::bufs::row::Row;
+use crate::bufs::row::NewRow;
 use iobufs_core::buf::IoBufMut;
 use iobufs_core::codec::{Buf, BufError, BufMut};
 use std::alloc::{AllocError, Global};
@@ -156,31 +157,32 @@ fn push_chunk<'a>(
     Ok(chunks)
 }
 
-// Puts a part as a chunk after others that end at a place, unless it holds no bytes, and returns where it ends.
-#[inline(always)]
-fn add_frozen(
-    alloc: Global,
-    row: &mut Row,
-    part: &mut IoBufMut,
-    before: usize,
-) -> Result<usize, BufError>
-    requires before { before ≡ length (pieces_bytes row.old.views) }
-    requires fits { before + length part.old.filled < 2 ^ 64 }
+// Freezes a part alone. In `Few::freeze`, the locals of three such calls cost each freezing 20 instructions.
+#[inline(never)]
+fn freeze_only(alloc: Global, part: &mut IoBufMut) -> Result<IoBufs, BufError>
+    ensures ok { IfOk result (λ text. text ≡ of_view (part_frozen part.old)) }
+    ensures capacity { part_capacity part.new ≤ part_capacity part.old }
+    ensures memory { IsOkUnless result BufError.Memory }
+    ensures nothing { length part.old.filled ≡ 0 → IsOk result }
+{
+    IoBufs::from_mut(mem::replace(part, IoBufMut::default(alloc)))
+}
+
+// Puts a part as a chunk at the end of a row, unless it holds no bytes.
+#[inline(never)]
+fn add_frozen(alloc: Global, row: &mut NewRow, part: &mut IoBufMut) -> Result<(), BufError>
+    requires fits { length (pieces_bytes row.old.views) + length part.old.filled < 2 ^ 64 }
     requires room { length row.old.views < row.old.room }
-    ensures end { IfOk result (λ end. end ≡ before + length part.old.filled) }
     ensures added { OnOk result (row.new.views
         ≡ (if length (part_frozen part.old).bytes == 0 then row.old.views else row.old.views ++ part_frozen part.old ∷ [])) }
     ensures same_room { OnOk result (row.new.room ≡ row.old.room) }
     ensures capacity { part_capacity part.new ≤ part_capacity part.old }
     ensures memory { IsOkUnless result BufError.Memory }
 {
-    if part.is_empty() {
-        return Ok(before);
+    if !part.is_empty() {
+        row.add(mem::replace(part, IoBufMut::default(alloc)).freeze()?);
     }
-    let piece = mem::replace(part, IoBufMut::default(alloc)).freeze()?;
-    let end = before + piece.len();
-    row.push_back_reserved(piece, end);
-    Ok(end)
+    Ok(())
 }
 
 impl Few {
@@ -470,19 +472,19 @@ impl Few {
     {
         let len = self.len();
         if self.first.len() == len {
-            return IoBufs::from_mut(mem::replace(&mut self.first, IoBufMut::default(alloc)));
+            return freeze_only(alloc, &mut self.first);
         }
         if self.second.len() == len {
-            return IoBufs::from_mut(mem::replace(&mut self.second, IoBufMut::default(alloc)));
+            return freeze_only(alloc, &mut self.second);
         }
         if self.third.len() == len {
-            return IoBufs::from_mut(mem::replace(&mut self.third, IoBufMut::default(alloc)));
+            return freeze_only(alloc, &mut self.third);
         }
-        let mut row = Row::with_room(alloc, 3)?;
-        let end = add_frozen(alloc, &mut row, &mut self.first, 0)?;
-        let end = add_frozen(alloc, &mut row, &mut self.second, end)?;
-        add_frozen(alloc, &mut row, &mut self.third, end)?;
-        Ok(IoBufs::from_row(row))
+        let mut row = NewRow::with_room(alloc, 3)?;
+        add_frozen(alloc, &mut row, &mut self.first)?;
+        add_frozen(alloc, &mut row, &mut self.second)?;
+        add_frozen(alloc, &mut row, &mut self.third)?;
+        Ok(IoBufs::from_row(row.finish()))
     }
 
     /// All bytes in one buffer, without spare capacity: in the first one, if it has space for them.

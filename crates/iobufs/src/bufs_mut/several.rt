@@ -8,7 +8,7 @@ ghost use Rattle.iobufs.specs.Inside.PartOrder.{AreBehind, HaveNoSpare, first_dr
 ghost use Rattle.iobufs.specs.Parts.{HaveCapacity, IsParts, kept_parts, parts_capacity, parts_chunks, parts_drained, parts_fill, parts_filled, parts_frozen, parts_overwritten, parts_spare, parts_with_len, single_part};
 
 use crate::bufs::IoBufs;
-use crate::bufs::row::Row;
+use crate::bufs::row::NewRow;
 use iobufs_core::buf::{IoBuf, IoBufMut};
 use iobufs_core::codec::{Buf, BufError, BufMut};
 use std::alloc::{AllocError, Global};
@@ -503,10 +503,10 @@ fn freeze_behind(
     ensures ok { IfOk result (λ text. text ≡ fold text_append (of_view first) (map part_frozen parts.items)) }
     ensures memory { IsOkUnless result BufError.Memory }
 {
-    let mut row = Row::with_room(alloc, parts.len() + 1)?;
-    let mut len = row.add_after(first, 0);
+    let mut row = NewRow::with_room(alloc, parts.len() + 1)?;
+    row.add(first);
     while let Some(part) = parts.pop_front() {
-        len = row.add_after(part.freeze()?, len);
+        row.add(part.freeze()?);
     }
-    Ok(IoBufs::from_row(row))
+    Ok(IoBufs::from_row(row.finish()))
 }
