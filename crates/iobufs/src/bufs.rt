@@ -455,9 +455,19 @@ impl IoBufs {
         ensures bad_layout { is_single self ≡ false → 2 ^ 63 ≤ text_len self → result ≡ Err BufError.BadLayout }
         ensures memory { text_len self < 2 ^ 63 → IsOkUnless result BufError.Memory }
     {
-        if !self.is_single() {
-            return self.gathered(alloc);
+        if self.is_single() {
+            return self.only(alloc);
         }
+        self.gathered(alloc)
+    }
+
+    // The only chunk. In `coalesce`, its locals cost each call 30 instructions.
+    #[inline(never)]
+    fn only(self, alloc: Global) -> Result<IoBuf, BufError>
+        requires { is_single self ≡ true }
+        ensures ok { IfOk result (λ view. of_view view ≡ text_coalesced self) }
+        ensures single { IsOk result }
+    {
         match self.try_into_single() {
             Ok(view) => Ok(view),
             Err(text) => text.gathered(alloc),

@@ -1,5 +1,5 @@
 -- Bytes copied piece by piece.
-use Rattle.iobufs.proofs.Text.Known.{Err, IsErrAnd, IsOkUnless, List, Ok, Part, Piece, Result, View, [], add-one, ap, append-nil, append_assoc, arith, by_lt, default_view, drop, drop-append-le, drop-cons, drop-drop, drop_at, flat_map-append, get_or, length, length-append, length-drop, length-take-le, map, map-append, min, part_put, piece_at, piece_start, pieces_bytes, refl, suc, sym, take, take-append-drop, take-append-le, take_all, take_past, view_len, views_in, zero, ℕ, ◌++◌, ◌+◌, ◌-◌, ◌<◌, ◌∙◌, ◌∷◌, ◌≡◌, ◌≤◌}
+use Rattle.iobufs.proofs.Text.Known.{Err, IsErrAnd, IsOkUnless, List, Ok, Part, Piece, Result, View, [], add-one, ap, append-nil, append_assoc, arith, by_lt, default_view, drop, drop-append-le, drop-cons, drop-drop, drop_at, flat_map-append, length, length-append, length-drop, length-take-le, map, map-append, min, part_put, piece_at, piece_start, pieces_bytes, refl, suc, sym, take, take-append-drop, take-append-le, take_all, take_past, view_len, views_in, zero, ℕ, ◌++◌, ◌+◌, ◌-◌, ◌<◌, ◌∙◌, ◌∷◌, ◌≡◌, ◌≤◌}
 
 -- the bytes from inside a piece on
 pub bytes-from : (ps : List View) (i o : ℕ) → i < length ps → o ≤ view_len (piece_at ps i)
@@ -103,24 +103,20 @@ pub only-cause : {A E : Type 0} (result : Result A E) (e cause : E) → IsErrAnd
 only-cause (Ok a) e cause h same = absurd h
 only-cause (Err x) e cause h same = h ∙ same
 
--- a piece is put after what is copied, before those from the next one on
-pub put-step : (ps : List Piece) (i : ℕ) (item : Piece) (copy more target : List ℕ) → drop i ps ≡ item ∷ drop (i + 1) ps
-    → copy ++ pieces_bytes (views_in (drop i ps)) ≡ target → more ≡ copy ++ item.view.bytes → more ++ pieces_bytes (views_in (drop (i + 1) ps)) ≡ target
-put-step ps i item copy more target d s m =
-    let rest = pieces_bytes (views_in (drop (i + 1) ps)) in
-    ap (λ xs. xs ++ rest) m ∙ append_assoc copy item.view.bytes rest ∙ ap (λ (qs : List Piece). copy ++ pieces_bytes (views_in qs)) (sym d) ∙ s
+-- the first of the pieces that are left is put after what is copied
+pub put-step : (left rest : List Piece) (item : Piece) (copy more target : List ℕ) → left ≡ item ∷ rest
+    → copy ++ pieces_bytes (views_in left) ≡ target → more ≡ copy ++ item.view.bytes → more ++ pieces_bytes (views_in rest) ≡ target
+put-step left rest item copy more target is s m =
+    let bytes = pieces_bytes (views_in rest) in
+    ap (λ xs. xs ++ bytes) m ∙ append_assoc copy item.view.bytes bytes ∙ ap (λ (qs : List Piece). copy ++ pieces_bytes (views_in qs)) (sym is) ∙ s
 
--- a chunk fits if all chunks to come fit
-pub put-fits : (ps : List Piece) (i : ℕ) (item : Piece) (copy target : List ℕ) (spare : ℕ) → drop i ps ≡ item ∷ drop (i + 1) ps
-    → copy ++ pieces_bytes (views_in (drop i ps)) ≡ target → length target ≤ length copy + spare → length item.view.bytes ≤ spare
-put-fits ps i item copy target spare d s l =
-    let rest = pieces_bytes (views_in (drop (i + 1) ps)) in
-    let n = ap length (ap (λ (qs : List Piece). copy ++ pieces_bytes (views_in qs)) (sym d) ∙ s) in
-    omega (arith, length-append copy (item.view.bytes ++ rest), length-append item.view.bytes rest)
-
--- a piece and those from the next one on
-pub next-piece : (ps : List Piece) (i : ℕ) (item : Piece) → i < length ps → item ≡ get_or ps i item → drop i ps ≡ item ∷ drop (i + 1) ps
-next-piece ps i item l is = drop-cons ps i item l ∙ ap (λ k. get_or ps i item ∷ drop k ps) (sym (add-one i)) ∙ ap (λ (p : Piece). p ∷ drop (i + 1) ps) (sym is)
+-- the first piece fits if all that are left fit
+pub put-fits : (left rest : List Piece) (item : Piece) (copy target : List ℕ) (spare : ℕ) → left ≡ item ∷ rest
+    → copy ++ pieces_bytes (views_in left) ≡ target → length target ≤ length copy + spare → length item.view.bytes ≤ spare
+put-fits left rest item copy target spare is s l =
+    let bytes = pieces_bytes (views_in rest) in
+    let n = ap length (ap (λ (qs : List Piece). copy ++ pieces_bytes (views_in qs)) (sym is) ∙ s) in
+    omega (arith, length-append copy (item.view.bytes ++ bytes), length-append item.view.bytes bytes)
 
 -- bytes put in turn are put at once
 pub put-both : (part : Part) (a b : List ℕ) → part_put (part_put part a) b ≡ part_put part (a ++ b)

@@ -596,8 +596,10 @@ fn put_all(pieces: &[Piece], copy: &mut IoBufMut)
     requires { length (pieces_bytes (views_in pieces.now)) ≤ copy.old.spare }
     ensures { copy.new ≡ part_put copy.old (pieces_bytes (views_in pieces.now)) }
 {
-    for piece in pieces {
+    let mut left = pieces;
+    while let Some((piece, rest)) = left.split_first() {
         copy.put_slice(piece.view.as_ref());
+        left = rest;
     }
 }
 
