@@ -487,7 +487,7 @@ impl Few {
         Ok(IoBufs::from_row(row.finish()))
     }
 
-    /// All bytes in one buffer, without spare capacity: in the first one, if it has space for them.
+    /// All bytes in one buffer, without spare capacity: in the first one, if it suits them.
     #[tactic(auto, using(crate::proofs::Parts::Coalesced::coalescing))]
     pub(super) fn coalesce(&mut self, alloc: Global) -> Result<IoBufMut, BufError>
         ensures ok { IfOk result (λ part. part ≡ record { filled = parts_filled self.old; spare = 0 }) }
@@ -496,14 +496,14 @@ impl Few {
         ensures nothing { length (parts_filled self.old) ≡ 0 → IsOk result }
     {
         let len = self.len();
-        if len <= self.first.capacity().min(isize::MAX as usize) {
+        if len <= isize::MAX as usize && self.first.suits(len) {
             let mut whole = mem::replace(&mut self.first, IoBufMut::default(alloc));
             whole.put_slice(self.second.as_ref());
             whole.put_slice(self.third.as_ref());
             whole.drop_spare();
             return Ok(whole);
         }
-        let mut whole = IoBufMut::with_capacity(alloc, len)?;
+        let mut whole = IoBufMut::with_capacity_from(alloc, len, &mut self.second)?;
         whole.put_slice(self.first.as_ref());
         whole.put_slice(self.second.as_ref());
         whole.put_slice(self.third.as_ref());

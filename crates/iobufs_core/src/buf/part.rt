@@ -224,6 +224,32 @@ impl IoBufMut {
         Ok(IoBufMut::from_shell(Some(shell), storage, 0, limit))
     }
 
+    /// Acts as `with_capacity`, and takes over what a drained buffer keeps beside its storage, if there is any (own).
+    /// Fails as `with_capacity`.
+    pub fn with_capacity_from(
+        alloc: Global,
+        n: usize,
+        spent: &mut IoBufMut,
+    ) -> Result<IoBufMut, BufError>
+        ensures ok { IfOk result (λ b. b ≡ empty_part n) }
+        ensures bad_layout { IsTrue (bad_layout n 1) → result ≡ Err BufError.BadLayout }
+        ensures good_layout { bad_layout n 1 ≡ false → IsOkUnless result BufError.Memory }
+        ensures nothing { n ≡ 0 → IsOk result }
+        ensures same { spent.new ≡ spent.old }
+    {
+        if n == 0 {
+            return Ok(IoBufMut::default(alloc));
+        }
+        if is_bad_layout(n, 1) {
+            return Err(BufError::BadLayout);
+        }
+        let block = Vec::with_capacity(alloc, n)?;
+        match spent.shell.take() {
+            Some(shell) => Ok(IoBufMut::from_shell(Some(shell), block, 0, n)),
+            None => IoBufMut::with_shell(block, n),
+        }
+    }
+
     pub(super) fn from_shell(
         shell: Option<Arc<Vec<u8>>>,
         storage: Vec<u8>,
@@ -295,7 +321,14 @@ impl IoBufMut {
         self.storage.extend_from_slice(src).unwrap();
     }
 
-    /// Keeps the bytes, and no spare capacity (own). The storage stays as it is.
+    /// Returns whether `n` bytes fit, and are at least half of the storage, or it has at most 4 KiB (own).
+    pub fn suits(&self, n: usize) -> bool
+        ensures { IsTrue result → n ≤ part_capacity self.now }
+    {
+        n <= self.capacity() && self.storage.capacity() / 2 <= n.max(1 << 11)
+    }
+
+    /// Keeps the bytes, and no spare capacity (own). The storage stays as it is: see `suits`.
     pub fn drop_spare(&mut self)
         ensures { self.new ≡ record { filled = self.old.filled; spare = 0 } }
     {

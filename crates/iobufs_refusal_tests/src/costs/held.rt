@@ -1,10 +1,11 @@
-// How much memory is held for bytes that are received. A test prints the most bytes that it held since it last did;
+// How much memory is held for bytes that are received, and for buffers that are coalesced. A test prints the most bytes that it held since it last did;
 // `tests/costs` compares the memory that was allocated and not freed meanwhile.
 use crate::costs::calls::ANY;
 use crate::word::mark;
 use iobufs_core::buf::IoBuf;
 use iobufs_core::codec::BufError;
 use iobufs_frames::{Prefix, Received};
+use iobufs_made::parts;
 use std::alloc::Global;
 use std::io::{self, Read};
 use std::process::Abort;
@@ -105,10 +106,22 @@ fn receive(rt: &(impl Print + Abort + AllocGlobal), case: &Case) -> Result<(), F
     Ok(())
 }
 
+// Coalesces a hundred times two bytes in a long buffer and two more, and keeps them.
+fn coalesce_many(rt: &(impl Print + Abort + AllocGlobal)) -> Result<(), Fail> {
+    let mut kept = Vec::with_capacity(rt.alloc(), 100)?;
+    mark(rt, "call");
+    for _ in 0..100usize {
+        let both = parts(rt.alloc(), &[(b"ab", 8192), (b"cd", 0)])?;
+        kept.push(both.coalesce(rt.alloc())?)?;
+    }
+    println!(rt; "coalesced_buffers 400")?;
+    Ok(())
+}
+
 #[test]
 fn held(rt: HostRuntime) -> Result<(), Fail> {
     for case in &CASES {
         receive(&rt, case)?;
     }
-    Ok(())
+    coalesce_many(&rt)
 }
