@@ -1,5 +1,5 @@
 // Several writable buffers as one, reached by their handles.
-ghost use Rattle.std.specs.Prelude.{◌≡◌, ◌⊎◌, ◌≤◌, ◌<◌, ◌^◌, ◌==◌, ◌∷◌, [], if◌then◌else◌, List, length, map, take, drop, min, replicate, nat_le, slice_get, Option, Some, None, Ok, IfOk, OnOk, OnErr, true, false, MatchOption};
+ghost use Rattle.std.specs.Prelude.{◌≡◌, ◌⊎◌, ◌≤◌, ◌<◌, ◌^◌, ◌==◌, ◌∷◌, [], if◌then◌else◌, List, length, map, take, drop, min, replicate, nat_le, slice_get, Option, Some, None, Ok, IfOk, IsOk, OnOk, OnErr, true, false, MatchOption};
 ghost use Rattle.std.specs.Borrow.{sem, Lends, full_share};
 ghost use Rattle.std.specs.Option.{option_map};
 ghost use Rattle.std.specs.Ptr.{lies_at, null_ptr, room_at};
@@ -111,6 +111,7 @@ fn take_row(alloc: Global, places: &mut [PartAt]) -> Result<Vec<IoBufMut>, Alloc
     ensures taken { OnOk result (map (λ place. place.value) places.new ≡ replicate (length places.old) None) }
     ensures unchanged { OnErr result (places.new ≡ places.old) }
     ensures at { map (λ place. place.at) places.new ≡ map (λ place. place.at) places.old }
+    ensures nothing { length places.old ≡ 0 → IsOk result }
 {
     let mut row = Vec::with_capacity(alloc, places.len())?;
     for i in 0..places.len() {
@@ -136,6 +137,7 @@ pub extern "C" fn iobufsmut_from_parts(
     ensures too_long { 2 ^ 64 ≤ parts_capacity (held_parts (map (λ place. place.value) places.old))
         → (result ≡ code_of Status.Memory) ⊎ (result ≡ code_of Status.TooLong) }
     ensures fits { parts_capacity (held_parts (map (λ place. place.value) places.old)) < 2 ^ 64 → IsDoneUnless result Status.Memory }
+    ensures nothing { length places.old ≡ 0 → result ≡ 0 }
 {
     let Ok(row) = take_row(alloc, places) else {
         return Status::Memory.code();
