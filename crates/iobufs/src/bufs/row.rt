@@ -2,7 +2,7 @@
 ghost use Rattle.std.specs.Fn.{CalledAt};
 ghost use Rattle.std.specs.List.{FoldsTo};
 ghost use Rattle.std.specs.Option.{option_copied};
-ghost use Rattle.std.specs.Prelude.{◌≡◌, ◌+◌, ◌-◌, ◌*◌, ◌^◌, ◌<◌, ◌≤◌, ◌++◌, [], ◌∷◌, ◌==◌, if◌then◌else◌, nat_lt, length, map, take, drop, slice_get, IfOk, IfErr, IsOk, OnOk, OnErr, IsOkUnless, IsTrue, IsFalse};
+ghost use Rattle.std.specs.Prelude.{◌≡◌, ◌+◌, ◌-◌, ◌*◌, ◌^◌, ◌<◌, ◌≤◌, ◌++◌, [], ◌∷◌, ◌==◌, if◌then◌else◌, nat_lt, length, map, take, drop, slice_get, IfOk, IfErr, IsOk, OnOk, OnErr, IsOkUnless, IsTrue, IsFalse, vec_capacity, vec_len};
 ghost use Rattle.std.specs.VecDeque.{deque_len, deque_capacity};
 ghost use Rattle.iobufs_core.specs.Part.{part_put};
 ghost use Rattle.iobufs_core.specs.View.{IsView, static_mark, view_advanced, view_front};
@@ -327,12 +327,13 @@ impl Row {
         true
     }
 
-    /// Drops the first `n` bytes.
+    /// Drops the first `n` bytes, the first chunk among them.
     pub(super) fn drop_front(&mut self, n: usize)
-        requires { n < length (pieces_bytes self.old.views) }
+        requires first { view_len (piece_at self.old.views 0) ≤ n }
+        requires inside { n < length (pieces_bytes self.old.views) }
         ensures { self.new.views ≡ right_pieces self.old.views n }
     {
-        let mut left = n;
+        let mut left = n - self.pop_front().len();
         while !self.shorten(left) {
             left -= self.pop_front().len();
         }
@@ -589,6 +590,19 @@ fn show<F: FnMut(&[u8])>(pieces: &[Piece], mut visit: F) -> F
         visit(piece.view.as_ref());
     }
     visit
+}
+
+/// Puts bytes after others that have space for them. The test always holds, as that of `IoBufMut::put_slice`.
+#[inline(always)]
+pub(crate) fn put_reserved(copy: &mut Vec<u8>, bytes: &[u8])
+    requires { vec_len copy.old + length bytes.now ≤ vec_capacity copy.old }
+    ensures items { copy.new.items ≡ copy.old.items ++ bytes.now }
+    ensures len { vec_len copy.new ≡ vec_len copy.old + length bytes.now }
+    ensures capacity { vec_capacity copy.old ≤ vec_capacity copy.new }
+{
+    if bytes.len() <= copy.capacity() - copy.len() {
+        copy.extend_from_slice(bytes).unwrap();
+    }
 }
 
 // Puts the bytes of each chunk after those of a buffer that has space for them.

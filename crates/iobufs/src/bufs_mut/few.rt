@@ -1,6 +1,6 @@
 // Up to three parts in place.
 ghost use Rattle.std.specs.Option.{option_copied};
-ghost use Rattle.std.specs.Prelude.{◌≡◌, ◌+◌, ◌-◌, ◌^◌, ◌<◌, ◌≤◌, ◌++◌, [], ◌∷◌, drop, false, length, map, min, replicate, slice_get, take, ◌==◌, if◌then◌else◌, Err, IfOk, OnOk, IfNone, IfSome, IsOk, IsOkUnless, IsTrue};
+ghost use Rattle.std.specs.Prelude.{◌≡◌, ◌+◌, ◌-◌, ◌^◌, ◌<◌, ◌≤◌, ◌++◌, [], ◌∷◌, drop, false, length, map, min, replicate, slice_get, take, ◌==◌, if◌then◌else◌, Err, IfOk, OnOk, IfNone, IfSome, IsOk, IsOkUnless, IsTrue, vec_capacity, vec_len};
 ghost use Rattle.iobufs_core.specs.Chunks.{first_chunk};
 ghost use Rattle.iobufs_core.specs.MarkedText.{of_view};
 ghost use Rattle.iobufs_core.specs.Part.{empty_part, part_capacity, part_drained, part_frozen, part_overwritten, part_put, part_with_len};
@@ -9,7 +9,7 @@ ghost use Rattle.iobufs.specs.Parts.{HaveCapacity, IsParts, kept_parts, parts_ca
 
 use super::several::Several;
 use crate::bufs::IoBufs;
-use crate::bufs::row::NewRow;
+use crate::bufs::row::{NewRow, put_reserved};
 use iobufs_core::buf::IoBufMut;
 use iobufs_core::codec::{Buf, BufError, BufMut};
 use std::alloc::{AllocError, Global};
@@ -128,16 +128,17 @@ fn read_share(part: &IoBufMut, dst: &mut [u8], at: usize) -> usize
     at + n
 }
 
-// Puts the first `n` bytes of a part after others, and returns how many are left.
+// Puts the first `n` bytes of a part after others that have space for them, and returns how many are left.
 #[inline(always)]
-fn extend_share(bytes: &mut Vec<u8>, part: &IoBufMut, n: usize) -> Result<usize, AllocError>
-    ensures put { IfOk result (λ left. bytes.new.items ≡ bytes.old.items ++ take n part.now.filled) }
-    ensures left { IfOk result (λ left. left ≡ n - length part.now.filled) }
-    ensures nothing { n ≡ 0 → IsOk result }
+fn extend_share(bytes: &mut Vec<u8>, part: &IoBufMut, n: usize) -> usize
+    requires { vec_len bytes.old + n ≤ vec_capacity bytes.old }
+    ensures put { bytes.new.items ≡ bytes.old.items ++ take n part.now.filled }
+    ensures left { result ≡ n - length part.now.filled }
+    ensures room { vec_len bytes.new + result ≤ vec_capacity bytes.new }
 {
     let share = n.min(part.len());
-    bytes.extend_from_slice(&part.as_ref()[..share])?;
-    Ok(n - share)
+    put_reserved(bytes, &part.as_ref()[..share]);
+    n - share
 }
 
 // Chunks, and after them that of a part, if it holds bytes and `max` isn't reached.
@@ -448,9 +449,9 @@ impl Few {
         ensures nothing { n ≡ 0 → IsOk result }
     {
         let mut bytes = Vec::with_capacity(alloc, n)?;
-        let rest = extend_share(&mut bytes, &self.first, n)?;
-        let rest = extend_share(&mut bytes, &self.second, rest)?;
-        extend_share(&mut bytes, &self.third, rest)?;
+        let rest = extend_share(&mut bytes, &self.first, n);
+        let rest = extend_share(&mut bytes, &self.second, rest);
+        extend_share(&mut bytes, &self.third, rest);
         Ok(bytes)
     }
 

@@ -8,7 +8,7 @@ ghost use Rattle.iobufs.specs.Inside.PartOrder.{AreBehind, HaveNoSpare, first_dr
 ghost use Rattle.iobufs.specs.Parts.{HaveCapacity, IsParts, kept_parts, parts_capacity, parts_chunks, parts_drained, parts_fill, parts_filled, parts_frozen, parts_overwritten, parts_spare, parts_with_len, single_part};
 
 use crate::bufs::IoBufs;
-use crate::bufs::row::NewRow;
+use crate::bufs::row::{NewRow, put_reserved};
 use iobufs_core::buf::{IoBuf, IoBufMut};
 use iobufs_core::codec::{Buf, BufError, BufMut};
 use std::alloc::{AllocError, Global};
@@ -282,7 +282,7 @@ impl Several {
                 break;
             }
             let share = rest.min(part.len());
-            bytes.extend_from_slice(&part.as_ref()[..share])?;
+            put_reserved(&mut bytes, &part.as_ref()[..share]);
             rest -= share;
         }
         Ok(bytes)

@@ -5,7 +5,7 @@ abbrev pub invariant-loop-self : goal.invariant-loop-self
 invariant-loop-self l =
     record {
       inside : l.left < length (pieces_bytes l.self.views);
-      kept : right_pieces l.self.views l.left ≡ right_pieces l.initial.self.views l.n;
+      kept : right_pieces l.self.views l.left ≡ right_pieces l.fn.self.views l.n;
     }
 
 abbrev pub decreases-loop-self : goal.decreases-loop-self

@@ -6,11 +6,11 @@ pub returns-clause-bytes : goal.returns-clause-bytes
 returns-clause-bytes c =
     let s = c.self.inside in
     let n = c.args.n in
-    let one = c.in_ok-rest in
-    let two = c.in_ok-rest-2 in
-    c.in_ok-extend_share.ensures.put
-    ∙ ap (λ w. w ++ take two.rest s.third.filled)
+    let one = c.extend_share-rest in
+    let two = c.extend_share-rest-2 in
+    c.extend_share.ensures.put
+    ∙ ap (λ w. w ++ take two.result s.third.filled)
     (two.ensures.put
-    ∙ ap (λ w. w ++ take one.rest s.second.filled) (one.ensures.put ∙ ap (λ w. w ++ take n s.first.filled) c.in_ok-bytes.ensures.items))
-    ∙ sym (taken-three s.first.filled s.second.filled s.third.filled n one.rest two.rest one.ensures.left two.ensures.left)
+    ∙ ap (λ w. w ++ take one.result s.second.filled) (one.ensures.put ∙ ap (λ w. w ++ take n s.first.filled) c.in_ok-bytes.ensures.items))
+    ∙ sym (taken-three s.first.filled s.second.filled s.third.filled n one.result two.result one.ensures.left two.ensures.left)
     ∙ ap (λ ps. take n (parts_filled ps)) c.self.view_is
