@@ -330,6 +330,85 @@ fn the_rest_of_a_frame_is_written_later(rt: HostRuntime) -> Result<(), Fail> {
     Ok(())
 }
 
+// A flush goes out while a frame is unsent.
+#[test]
+fn a_flush_comes_before_the_rest_of_a_frame(rt: HostRuntime) -> Result<(), Fail> {
+    let alloc = rt.alloc();
+    let mut writer = FrameWriter::new(Recorder::new(alloc, 100, 1));
+    writer.put(alloc, text(alloc, &[b"abc"])?)?;
+    let refused = writer.send(alloc).map_err(|error| error.kind()).err();
+    assert_same!(rt; (refused, writer.rest.len()), (Some(ErrorKind::BrokenPipe), 3));
+    writer.to.fails_at = usize::MAX;
+    writer.flush()?;
+    writer.send(alloc)?;
+    assert_same!(rt; writer.to.calls.as_slice(), b"\x03|abc".as_slice());
+    Ok(())
+}
+
+// A reader and a writer that fail once, and are at their end, or take all bytes, after that.
+#[derive(Drop)]
+struct FailsOnce {
+    kind: ErrorKind,
+    has_failed: bool,
+}
+
+impl FailsOnce {
+    fn new(kind: ErrorKind) -> FailsOnce {
+        FailsOnce {
+            kind,
+            has_failed: false,
+        }
+    }
+
+    fn fail(&mut self) -> io::Result<()> {
+        if self.has_failed {
+            return Ok(());
+        }
+        self.has_failed = true;
+        Err(io::Error::from(self.kind))
+    }
+}
+
+impl Read for FailsOnce {
+    fn read(&mut self, _buf: &mut [u8]) -> io::Result<usize> {
+        self.fail()?;
+        Ok(0)
+    }
+}
+
+impl Write for FailsOnce {
+    fn write(&mut self, buf: &[u8]) -> io::Result<usize> {
+        self.fail()?;
+        Ok(buf.len())
+    }
+
+    fn flush(&mut self) -> io::Result<()> {
+        Ok(())
+    }
+}
+
+const RETURNED: [ErrorKind; 3] = [ErrorKind::WouldBlock, ErrorKind::TimedOut, ErrorKind::Other];
+
+// Each error but an interruption is returned at once, and the next call goes on.
+#[test]
+fn an_error_is_returned_at_once(rt: HostRuntime) -> Result<(), Fail> {
+    let alloc = rt.alloc();
+    for kind in RETURNED {
+        let mut reader = frame_reader(alloc, VARINT, FailsOnce::new(kind))?;
+        let mut bodies = Vec::new(alloc);
+        let first = take_bodies(alloc, &mut reader, &mut bodies)?;
+        let second = take_bodies(alloc, &mut reader, &mut bodies)?;
+        assert_same!(rt; (first, second), (Ending::Io(kind), Ending::End));
+        let mut writer = FrameWriter::new(FailsOnce::new(kind));
+        writer.put(alloc, text(alloc, &[b"ab"])?)?;
+        let refused = writer.send(alloc).map_err(|error| error.kind()).err();
+        assert_same!(rt; (refused, writer.rest.len()), (Some(kind), 3));
+        writer.send(alloc)?;
+        assert!(rt; writer.is_sent());
+    }
+    Ok(())
+}
+
 // `send` doesn't flush, and sends what `framed` returns.
 #[test]
 fn a_frame_is_sent_without_a_flush(rt: HostRuntime) -> Result<(), Fail> {
