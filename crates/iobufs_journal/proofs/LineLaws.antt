@@ -118,15 +118,6 @@ pub record IsTaking (piece rest : List ℕ) (from to : Part) (old now : Lines) :
       → AreHeld first (written ++ to.filled) now.number (AreFirst (read ++ piece) rest now.begun.items)
   pub room : length now.begun.items + 25 * length rest + 24 ≤ to.spare
 
-pub nothing_taken : (piece : List ℕ) (out : Part) (lines : Lines) → length lines.begun.items + 25 * length piece + 24 ≤ out.spare
-    → IsTaking piece piece out out lines lines
-nothing_taken piece out lines room = record {
-  going = λ first read written is.
-      held_so first lines.number (written ++ out.filled) (AreNext read lines.begun.items false) (AreFirst (read ++ piece) piece lines.begun.items) is
-      (λ taken so. λ more. ap lines_of (append_assoc read piece more) ∙ so.1 (piece ++ more));
-  room = room;
-}
-
 -- the bytes before the end of the line belong to it
 line_begun : (piece rest line : List ℕ) (from to : Part) (old now : Lines) (at : ℕ) → IsTaking piece rest from to old now → IsLine rest at
     → line ≡ now.begun.items ++ take at rest → (first : ℕ) (read written : List ℕ) → IsGoing first read (written ++ from.filled) old
@@ -215,21 +206,6 @@ pub record IsAppending (had has held holds : Option (List ℕ)) (first : ℕ) (l
   pub took : Consumes had has read
   pub wrote : Appends held holds written
   pub going : IsGoing first read (written ++ []) lines
-
-pub nothing_read : (had held : Option (List ℕ)) (lines : Lines) → lines.begun.items ≡ [] → IsAppending had had held held lines.number lines
-nothing_read had held lines none = record {
-  read = [];
-  written = [];
-  took = Consumes-nil had;
-  wrote = Appends-nil held;
-  going = record {
-    taken = [];
-    short = tt;
-    put = refl;
-    counted = omega arith;
-    so = subst (λ w. AreNext [] w false []) (sym none) (let fits : 0 ≤ most_bytes = omega arith in fits, λ more. refl);
-  };
-}
 
 -- the lines of one more piece were written
 pub piece_taken : (h i j a b c : Option (List ℕ)) (piece out : List ℕ) (first : ℕ) (now new : Lines) (is_long : Bool) → IsAppending h i a b first now

@@ -2,7 +2,7 @@
 use Rattle.std.specs.Prelude.{◌≡◌, ℕ, ◌+◌, ◌<◌, ◌≤◌, Bool, true, false, Option, None, Some, IfSome, List, [], ◌∷◌, ◌++◌, length, drop, take, slice_index, refl}
 use Rattle.std.specs.Io.KnownBytes.{Appends, Consumes}
 use Rattle.std.proofs.Common.{arith, ap, sym, subst, ◌∙◌, append_assoc, append-nil, length-append}
-use Rattle.std.proofs.KnownBytes.{Appends-nil, Appends-trans, Consumes-nil, Consumes-trans, Consumes-whole}
+use Rattle.std.proofs.KnownBytes.{Appends-trans, Consumes-trans, Consumes-whole}
 use Rattle.std.proofs.lemmas.Bool.Decides.{nat_tests}
 use Rattle.std.proofs.lemmas.List.{drop-take, nil_from_length, take-append-le}
 use Rattle.iobufs_journal.specs.Journal.{AreShort, HasNoRecord, record_written, records_written}
@@ -27,16 +27,6 @@ pub record IsPrinting (had has held holds : Option (List ℕ)) (window : List �
   pub counted : number ≡ length found
   pub summed : taken ≡ length (records_written 0 found)
   pub put : Appends held holds (printed found)
-
-pub nothing_printed : (had held : Option (List ℕ)) (window : List ℕ) → window ≡ [] → IsPrinting had had held held window 0 0
-nothing_printed had held window none = record {
-  found = [];
-  took = subst (Consumes had had) (sym none) (Consumes-nil had);
-  short = tt;
-  counted = refl;
-  summed = refl;
-  put = Appends-nil held;
-}
 
 -- one record more is printed after the others, a line of its own
 printed_more : (fs : List (List ℕ)) (body : List ℕ) → printed (fs ++ body ∷ []) ≡ printed fs ++ (body ++ 10 ∷ [])

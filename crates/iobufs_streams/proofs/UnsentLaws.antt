@@ -1,5 +1,5 @@
 -- The bytes of a frame that are not sent.
-use Rattle.std.proofs.Common.{◌≡◌, ℕ, ◌-◌, ◌<◌, ◌≤◌, List, [], ◌∷◌, ◌++◌, length, drop, ap, refl, sym, ◌∙◌, arith, length-append, length-drop}
+use Rattle.std.proofs.Common.{◌≡◌, ℕ, ◌-◌, ◌<◌, ◌≤◌, List, [], ◌∷◌, ◌++◌, length, drop, ap, sym, ◌∙◌, arith, length-append, length-drop}
 use Rattle.std.proofs.lemmas.List.{nil_from_length}
 use Rattle.std.proofs.Math.Seq.{drop-append-add}
 use Rattle.iobufs_core.specs.MarkedText.{MarkedText, text_rest}
@@ -19,10 +19,6 @@ body_goes u gone left n is more within none rest =
     ∙ bytes-rest u.body (n - ahead) (omega (arith, within, more, ap (λ (w : List ℕ). length w) is, length-append u.head u.body.bytes))
     ∙ sym (drop-append-add u.head u.body.bytes (n - ahead)) ∙ ap (λ k. drop k (u.head ++ u.body.bytes)) (omega (arith, more)) ∙ ap (drop n) is in
     λ i. record { head = head i; body = rest i; bytes = bytes i }
-
--- nothing went
-pub not_advanced : (u : UnsentBytes) → IsAdvanced u u
-not_advanced u = ([], refl)
 
 -- some bytes more went
 pub advanced_on : (old mid new : UnsentBytes) (n : ℕ) → IsAdvanced old mid → new ≡ unsent_rest mid n → IsAdvanced old new

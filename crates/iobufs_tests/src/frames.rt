@@ -6,21 +6,21 @@ use iobufs_frames::{ByteOrder, Frames, Prefix, Width};
 use std::alloc::Global;
 use std::test::Fail;
 
-const VARINT: Prefix = Prefix::Spelled;
+pub const VARINT: Prefix = Prefix::Spelled;
 
-const BIG_16: Prefix = Prefix::Fixed(Width::U16, ByteOrder::Big);
+pub const BIG_16: Prefix = Prefix::Fixed(Width::U16, ByteOrder::Big);
 
-const LITTLE_16: Prefix = Prefix::Fixed(Width::U16, ByteOrder::Little);
+pub const LITTLE_16: Prefix = Prefix::Fixed(Width::U16, ByteOrder::Little);
 
-const BYTE: Prefix = Prefix::Fixed(Width::U8, ByteOrder::Big);
+pub const BYTE: Prefix = Prefix::Fixed(Width::U8, ByteOrder::Big);
 
-const BIG_24: Prefix = Prefix::Fixed(Width::U24, ByteOrder::Big);
+pub const BIG_24: Prefix = Prefix::Fixed(Width::U24, ByteOrder::Big);
 
-const LITTLE_24: Prefix = Prefix::Fixed(Width::U24, ByteOrder::Little);
+pub const LITTLE_24: Prefix = Prefix::Fixed(Width::U24, ByteOrder::Little);
 
-const BIG_32: Prefix = Prefix::Fixed(Width::U32, ByteOrder::Big);
+pub const BIG_32: Prefix = Prefix::Fixed(Width::U32, ByteOrder::Big);
 
-const LITTLE_32: Prefix = Prefix::Fixed(Width::U32, ByteOrder::Little);
+pub const LITTLE_32: Prefix = Prefix::Fixed(Width::U32, ByteOrder::Little);
 
 const BIG_64: Prefix = Prefix::Fixed(Width::U64, ByteOrder::Big);
 

@@ -1,9 +1,10 @@
 // Frames over readers and writers that take and give as they like.
+use crate::frames::{BIG_16, BIG_24, BIG_32, BYTE, LITTLE_16, LITTLE_24, LITTLE_32, VARINT};
 use crate::same::assert_same;
 use iobufs::bufs::IoBufs;
 use iobufs_core::buf::IoBufMut;
 use iobufs_core::codec::{Buf, BufError, Error, RangeCfg};
-use iobufs_frames::{ByteOrder, Prefix, Width};
+use iobufs_frames::Prefix;
 use iobufs_made::text;
 use iobufs_streams::adapters::Writer;
 use iobufs_streams::echo::echo;
@@ -16,22 +17,6 @@ use std::process::Abort;
 use std::test::Fail;
 
 const RANGE: RangeCfg = RangeCfg { lo: 0, hi: 8 };
-
-const VARINT: Prefix = Prefix::Spelled;
-
-const BIG_16: Prefix = Prefix::Fixed(Width::U16, ByteOrder::Big);
-
-const LITTLE_16: Prefix = Prefix::Fixed(Width::U16, ByteOrder::Little);
-
-const BYTE: Prefix = Prefix::Fixed(Width::U8, ByteOrder::Big);
-
-const BIG_24: Prefix = Prefix::Fixed(Width::U24, ByteOrder::Big);
-
-const LITTLE_24: Prefix = Prefix::Fixed(Width::U24, ByteOrder::Little);
-
-const BIG_32: Prefix = Prefix::Fixed(Width::U32, ByteOrder::Big);
-
-const LITTLE_32: Prefix = Prefix::Fixed(Width::U32, ByteOrder::Little);
 
 // `abc`, nothing and `hello`, as each prefix writes them.
 const FRAMES: &[u8] = b"\x03abc\0\x05hello";
