@@ -532,7 +532,8 @@ IOBUFS_CHECKED iobufs_status iobufs_received_new(uint8_t prefix, struct iobufs_r
 /* How many bytes came and were not taken. (own) */
 size_t iobufs_received_len(const struct iobufs_received_at *received);
 /* Lends the space for a read: writes its address to `out`, and to `n` how many bytes it has, at least one. They are zeros, or
- * what the block held before. Memory if there is no space; IOBUFS_DECLINED if there is no receive block. (own) */
+ * what the block held before. Memory if there is no space, or if the block was made for one frame above 64 KiB;
+ * IOBUFS_DECLINED if there is no receive block. (own) */
 IOBUFS_CHECKED iobufs_status iobufs_frames_space(struct iobufs_received_at *received, uint8_t **out, size_t *n);
 /* Counts the first n bytes of the space as received, after they were written there; the space is what is after them.
  * IOBUFS_OUT_OF_RANGE if it has fewer, and nothing changes. No memory. (own) */

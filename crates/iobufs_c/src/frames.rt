@@ -4,7 +4,7 @@ ghost use Rattle.std.specs.Borrow.{sem, Lends, full_share};
 ghost use Rattle.std.specs.Ptr.{lies_at, room_at};
 ghost use Rattle.iobufs_core.specs.MarkedText.{is_single, text_append, text_len, text_rest};
 ghost use Rattle.iobufs_core.specs.View.{IsFreelyShared, default_view};
-ghost use Rattle.iobufs_frames.specs.Frames.{HasBodyBytes, IsNext, LacksFrame, frame_written};
+ghost use Rattle.iobufs_frames.specs.Frames.{HasBodyBytes, IsBehindLength, IsNext, LacksFrame, frame_written};
 ghost use Rattle.iobufs_frames.specs.Prefixes.{prefix_limit, prefix_written};
 ghost use Rattle.iobufs_frames.specs.contracts.Frames.{the_row as frames_row};
 ghost use Rattle.iobufs_frames.specs.declared.Frames.{Frames as AllFrames};
@@ -222,6 +222,7 @@ pub extern "C" fn iobufs_frames_next(
         frames.new.value.rest.bytes }
     ensures left { result ≡ 0 → frames.new.value.rest
         ≡ text_rest frames.old.value.rest (length (frame_written frames.old.value.prefix out.new.value.bytes)) }
+    ensures body { result ≡ 0 → IsBehindLength frames.old.value.prefix frames.old.value.rest out.new.value }
     ensures unchanged { (result == 0) ≡ false → (frames.new.value ≡ frames.old.value) × (out.new.value ≡ out.old.value) }
     ensures open { result ≡ code_of Status.EndOfBuffer → LacksFrame frames.old.value.prefix (record { lo = lo; hi = hi }) frames.old.value.rest.bytes End.Open }
     ensures invalid { result ≡ code_of Status.InvalidVarint

@@ -251,7 +251,8 @@ pub extern "C" fn iobufsmut_part_at(
     ensures same { (parts.new.at ≡ parts.old.at) × (parts.new.value ≡ parts.old.value) }
     ensures value { result ≡ chunk_len (option_map (λ part. part.filled) (slice_get (parts_of parts.old.value) i)) }
     ensures capacity { MatchOption (slice_get (parts_of parts.old.value) i) (capacity.new ≡ 0) (λ part. capacity.new ≡ part_capacity part) }
-    ensures address { (out.new ≡ out.old) ⊎ (out.new ≡ null_ptr → ⊥) }
+    ensures address { MatchOption parts.old.value (out.new ≡ out.old)
+        (λ list. MatchOption (slice_get list i) (out.new ≡ out.old) (λ _. out.new ≡ null_ptr → ⊥)) }
 {
     *capacity = 0;
     let Some(parts) = parts.get() else {

@@ -4,7 +4,7 @@ ghost use Rattle.std.specs.Borrow.{sem, Lends, full_share};
 ghost use Rattle.std.specs.Ptr.{lies_at, room_at};
 ghost use Rattle.iobufs_core.specs.View.{view_of_bytes};
 ghost use Rattle.iobufs_frames.specs.Frames.{HasBodyBytes, IsNext, LacksFrame};
-ghost use Rattle.iobufs_frames.specs.Receiving.{HasReceived, ReceivedBytes, none_received};
+ghost use Rattle.iobufs_frames.specs.Receiving.{HasReceived, KeepsSpace, ReceivedBytes, none_received};
 ghost use Rattle.iobufs_c.specs.Codes.{IsDoneUnless, IsViewReadCode, code_of};
 ghost use Rattle.iobufs_c.specs.FrameRows.{AreBoth, prefix_from_c, received_or_none, received_row};
 
@@ -129,6 +129,7 @@ pub extern "C" fn iobufs_frames_space(
     ensures kept { AreBoth (λ old new. (new.prefix ≡ old.prefix) × (new.bytes ≡ old.bytes)) received.old.value received.new.value }
     ensures space { result ≡ 0 → IfSome received.new.value (λ new. (0 < new.space) × (n.new ≡ new.space)) }
     ensures unchanged { (result == 0) ≡ false → n.new ≡ n.old }
+    ensures failed { AreBoth (λ old new. (result == 0) ≡ false → old.space ≤ new.space) received.old.value received.new.value }
     ensures none { received.old.value ≡ None → result ≡ code_of Status.Declined }
     ensures memory { (old : ReceivedBytes) → received.old.value ≡ Some old → IsDoneUnless result Status.Memory }
 {
@@ -179,6 +180,7 @@ pub extern "C" fn iobufs_received_next(
     ensures taken { result ≡ 0 → IsNext (received_or_none received.old.value).prefix (record { lo = lo; hi = hi })
         (received_or_none received.old.value).bytes (Ok (Some out.new.value)) (received_or_none received.new.value).bytes }
     ensures body { result ≡ 0 → out.new.value ≡ view_of_bytes out.new.value.bytes }
+    ensures space { AreBoth KeepsSpace received.old.value received.new.value }
     ensures unchanged { (result == 0) ≡ false → (received.new.value ≡ received.old.value) × (out.new.value ≡ out.old.value) }
     ensures open { result ≡ code_of Status.EndOfBuffer → LacksFrame (received_or_none received.old.value).prefix (record { lo = lo; hi = hi })
         (received_or_none received.old.value).bytes End.Open }

@@ -100,6 +100,8 @@ pub fn put<W: Write + Drop>(
     ensures put { OnOk result (to.new.rest.bytes ≡ frame_written to.old.prefix
         (to_be_bytes w64 entry.number ++ ((entry.flags ∷ []) ++ (view_written entry.key ++ view_written entry.value)))) }
     ensures dropped { OnErr result (IsSent (W.contents to.old.to) (W.contents to.new.to) to.old.rest.bytes to.new.rest.bytes) }
+    ensures prefix { to.new.prefix ≡ to.old.prefix }
+    ensures most { to.new.most ≡ to.old.most }
 {
     to.send(alloc)?;
     let body = encoded(alloc, entry).map_err(Fault::Codec)?;
@@ -122,6 +124,8 @@ pub fn receive<R: Read + Drop>(
         (R.remaining from.new.from) from.old.held.bytes from.new.held.bytes (Ok None))) }
     ensures failed { OnErr result ((taken : Result (Option View) FrameError) × TakesFrame from.old.held.prefix from.old.range (R.remaining from.old.from)
         (R.remaining from.new.from) from.old.held.bytes from.new.held.bytes taken) }
+    ensures range { from.new.range ≡ from.old.range }
+    ensures prefix { from.new.held.prefix ≡ from.old.held.prefix }
 {
     let Some(body) = from.next(alloc)? else {
         return Ok(None);
