@@ -1,6 +1,0 @@
-mod CrcLaws
-mod FrontLaws
-mod LineLaws
-mod Readings
-mod ScanLaws
-mod SealLaws
