@@ -1,5 +1,5 @@
 // Buffers of several chunks. A clause sees the bytes, and where each chunk begins and how it is stored.
-ghost use Rattle.iobufs.specs.Inside.Pieces.{AreViews, of_pieces};
+ghost use Rattle.iobufs.specs.Inside.Pieces.{AreViews, of_pieces, pieces_bytes};
 ghost use Rattle.iobufs.specs.Located.{greatest_key, keys_upto};
 ghost use Rattle.iobufs.specs.Refusals.{IsRefusedAt};
 ghost use Rattle.iobufs_core.specs.Chunks.{first_chunk};
@@ -194,6 +194,9 @@ impl IoBufs {
         ensures several { is_single self.now ≡ false → result.0 ++ result.1 ≡ drop first (text_chunks self.now) }
         ensures single { is_single self.now ≡ true → result.0 ++ result.1 ≡ [] }
     {
+        if self.is_single() {
+            return (Run::none(), Run::none());
+        }
         match &self.pieces.form {
             Form::One(_) => (Run::none(), Run::none()),
             Form::Many(row) => row.runs_from(first),
@@ -455,22 +458,10 @@ impl IoBufs {
         ensures bad_layout { is_single self ≡ false → 2 ^ 63 ≤ text_len self → result ≡ Err BufError.BadLayout }
         ensures memory { text_len self < 2 ^ 63 → IsOkUnless result BufError.Memory }
     {
-        if self.is_single() {
-            return self.only(alloc);
-        }
-        self.gathered(alloc)
-    }
-
-    // The only chunk. In `coalesce`, its locals cost each call 30 instructions.
-    #[inline(never)]
-    fn only(self, alloc: Global) -> Result<IoBuf, BufError>
-        requires { is_single self ≡ true }
-        ensures ok { IfOk result (λ view. of_view view ≡ text_coalesced self) }
-        ensures single { IsOk result }
-    {
-        match self.try_into_single() {
-            Ok(view) => Ok(view),
-            Err(text) => text.gathered(alloc),
+        let IoBufs { pieces } = self;
+        match pieces.into_form() {
+            Form::One(piece) => Ok(piece),
+            Form::Many(row) => gathered(alloc, row),
         }
     }
 
@@ -480,18 +471,23 @@ impl IoBufs {
     {
         *self = text;
     }
+}
 
-    // A copy of several chunks as one.
-    fn gathered(&self, alloc: Global) -> Result<IoBuf, BufError>
-        requires { is_single self.now ≡ false }
-        ensures ok { IfOk result (λ view. of_view view ≡ text_coalesced self.now) }
-        ensures bad_layout { 2 ^ 63 ≤ text_len self.now → result ≡ Err BufError.BadLayout }
-        ensures memory { text_len self.now < 2 ^ 63 → IsOkUnless result BufError.Memory }
-    {
-        let mut copy = IoBufMut::with_capacity(alloc, self.len())?;
-        self.pieces.copy_to(&mut copy);
-        copy.freeze()
+// The only chunk of a row, or a copy of several as one.
+#[inline(never)]
+fn gathered(alloc: Global, mut row: Row) -> Result<IoBuf, BufError>
+    requires { 0 < length row.views }
+    ensures ok { IfOk result (λ view. of_view view ≡ text_coalesced (of_pieces row.views)) }
+    ensures single { length row.views ≡ 1 → IsOk result }
+    ensures bad_layout { 1 < length row.views → 2 ^ 63 ≤ length (pieces_bytes row.views) → result ≡ Err BufError.BadLayout }
+    ensures memory { length (pieces_bytes row.views) < 2 ^ 63 → IsOkUnless result BufError.Memory }
+{
+    if row.count() == 1 {
+        return Ok(row.pop_front());
     }
+    let mut copy = IoBufMut::with_capacity(alloc, row.len())?;
+    row.copy_to(&mut copy);
+    copy.freeze()
 }
 
 impl Default for IoBufs {

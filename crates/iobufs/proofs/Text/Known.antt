@@ -62,7 +62,7 @@ pub use Rattle.iobufs.specs.Inside.Kept.{text_of}
 pub use Rattle.iobufs.specs.Inside.PartOrder.{AreBehind, AreKept, HaveNoSpare, first_drained, in_order}
 pub use Rattle.iobufs.specs.Inside.PartShape.{IsShape, shape_parts}
 pub use Rattle.iobufs.specs.Inside.PartSums.{AreSummed}
-pub use Rattle.iobufs.specs.Inside.Pieces.{AreFull, AreViews, IsChunkPlace, IsPieces, behind_first, bytes_behind, left_pieces, piece_at, piece_start}
+pub use Rattle.iobufs.specs.Inside.Pieces.{AreFull, AreViews, IsChunkPlace, IsPieces, advanced_pieces, behind_first, bytes_behind, left_pieces, piece_at, piece_start}
 pub use Rattle.iobufs.specs.Inside.Pieces.{pieces_bytes, rest_pieces, right_pieces, view_len}
 unfoldable pub use Rattle.iobufs.specs.Inside.Pieces.{of_pieces}
 pub use Rattle.iobufs.specs.Inside.RowValues.{Segment, SegmentRow, ViewRow, gap, standing}

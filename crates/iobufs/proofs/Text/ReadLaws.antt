@@ -1,11 +1,12 @@
 -- The chunks that a reader of several chunks sees, and the bytes that it takes.
-use Rattle.iobufs.proofs.Text.Known.{AreFull, AreViews, Err, Excluded, IfOk, Included, Inside, IsChunkOf, IsChunkPlace, IsPieces, List, MarkedText, Ok, Result, Some, View, [], add-one, ap, append-nil, arith, behind_first, by_lt, common_steps, default_view, drop, drop-take, false, false≢true, first_chunk, flat_map-append, get_or, is_single, length, length-append, length-drop, length-take-le, map, nat_eq, nat_tests, native_mark, nil_from_length, of_pieces, of_view, part_frozen, piece_at, piece_start, pieces_bytes, refl, rest_pieces, right_pieces, slice_get, subst, suc, sym, take, take-append-drop, take-append_seam, take_all, taken_view, tests, text_chunks, text_coalesced, text_len, text_of, text_rest, text_right, true, view_advanced, view_len, view_slice, zero, zero-add, ℕ, ◌++◌, ◌+◌, ◌-◌, ◌<◌, ◌∙◌, ◌∷◌, ◌≡◌, ◌≢◌, ◌≤◌}
+use Rattle.iobufs.proofs.Text.Known.{AreFull, AreViews, advanced_pieces, Err, Excluded, IfOk, Included, Inside, IsChunkOf, IsChunkPlace, IsPieces, List, MarkedText, Ok, Result, Some, View, [], add-one, ap, append-nil, arith, behind_first, by_lt, common_steps, default_view, drop, drop-take, false, false≢true, first_chunk, flat_map-append, get_or, is_single, length, length-append, length-drop, length-take-le, map, nat_eq, nat_tests, native_mark, nil_from_length, of_pieces, of_view, part_frozen, piece_at, piece_start, pieces_bytes, refl, rest_pieces, right_pieces, slice_get, subst, suc, sym, take, take-append-drop, take-append_seam, take_all, taken_view, tests, text_chunks, text_coalesced, text_len, text_of, text_rest, text_advanced, text_right, true, view_advanced, view_len, view_slice, zero, zero-add, ℕ, ◌++◌, ◌+◌, ◌-◌, ◌<◌, ◌∙◌, ◌∷◌, ◌≡◌, ◌≢◌, ◌≤◌}
 use Rattle.iobufs.proofs.Text.ChunkLaws.{chunks-of_empty}
+use Rattle.iobufs.proofs.Text.KeptLaws.{AreViews-rest, HasRoom-on}
 use Rattle.iobufs.proofs.Text.CopyLaws.{bytes-from}
-use Rattle.iobufs.proofs.Text.PieceLaws.{AreFull-from_pieces, bytes-of_pieces, front-all, len-of_pieces, length-bytes, of_pieces-one, rest-all, rest_pieces-all, rest_pieces-inside, right-of_pieces, right_pieces-none, right_pieces-past}
+use Rattle.iobufs.proofs.Text.PieceLaws.{is_single-of_pieces, AreFull-from_pieces, bytes-of_pieces, front-all, len-of_pieces, length-bytes, of_pieces-one, rest-all, rest_pieces-all, rest_pieces-inside, right-of_pieces, right_pieces-none, right_pieces-past}
 use Rattle.iobufs.proofs.Text.PlaceLaws.{index-of_place, right-at_place}
 use Rattle.iobufs.proofs.Text.TakenLaws.{taken_view-across, taken_view-right, taken_view-within}
-use Rattle.iobufs.proofs.Text.TextLaws.{chunks-kept, length-kept, rest-kept, single-kept, single-more, some_views}
+use Rattle.iobufs.proofs.Text.TextLaws.{advanced-one, chunks-kept, length-kept, rest-kept, single-kept, single-more, some_views}
 
 -- the first piece is the first chunk, and a beginning of the text
 pub first-of : (vs : List View) (t : MarkedText) → of_pieces vs ≡ t → 0 < length vs → (0 < length (pieces_bytes vs) → AreFull vs)
@@ -206,3 +207,42 @@ unfolding of_pieces
 only-view [] t e h = (omega arith, ap (λ (x : MarkedText). record { bytes = x.bytes; mark = x.mark }) (sym e))
 only-view (v ∷ []) t e h = (omega arith, ap (λ (x : MarkedText). record { bytes = x.bytes; mark = x.mark }) (sym e ∙ of_pieces-one v))
 only-view (v ∷ w ∷ vs) t e h = absurd (false≢true (sym (single-more (v ∷ w ∷ vs) t e (omega arith)) ∙ h))
+
+-- a text whose first bytes go, and of which a single piece stays
+pub advanced-kept : (vs ws : List View) (t : MarkedText) (n : ℕ) → of_pieces vs ≡ t → IsPieces vs → n ≤ length (pieces_bytes vs) → ws ≡ advanced_pieces vs n
+    → of_pieces ws ≡ text_advanced t n
+advanced-kept [] ws t n e h l is = absurd h
+advanced-kept (v ∷ []) ws t n e h l is = ap of_pieces is ∙ advanced-one v t n e (omega (arith, l, length-bytes v []))
+advanced-kept (v ∷ w ∷ vs) ws t zero e h l is =
+    let some = h.0 in
+    let same = ap of_pieces (is ∙ rest_pieces-inside 0 (v ∷ w ∷ vs) (omega (arith, some, length-bytes v (w ∷ vs))) ∙ right_pieces-none (v ∷ w ∷ vs) h) ∙ e in
+    same ∙ (rw (single-more (v ∷ w ∷ vs) t e (omega arith)) refl)
+advanced-kept (v ∷ w ∷ vs) ws t (suc n) e h l is =
+    let rest : text_rest t (suc n) ≡ text_advanced t (suc n) = rw (single-more (v ∷ w ∷ vs) t e (omega arith)) refl in
+    dropped-rest (v ∷ w ∷ vs) ws t (suc n) e (omega arith) l is ∙ rest
+
+-- where pieces have room for their bytes, so have those that `advance` leaves
+pub AreViews-advanced : (n : ℕ) (vs : List View) → AreViews vs → AreViews (advanced_pieces vs n)
+AreViews-advanced n [] f = tt
+AreViews-advanced n (v ∷ []) f = ((rw (length-drop n v.bytes) (HasRoom-on v.mark (view_len v) n f.0)), tt)
+AreViews-advanced n (v ∷ w ∷ vs) f = AreViews-rest n (v ∷ w ∷ vs) f
+
+-- a single piece is its text as one chunk
+pub coalesced-one : (v : View) (t : MarkedText) → of_pieces (v ∷ []) ≡ t → of_view v ≡ text_coalesced t
+coalesced-one v t e = rw (sym (ap is_single e) ∙ is_single-of_pieces v []) (sym (of_pieces-one v) ∙ e)
+
+-- where pieces are one, that is the first, and nothing is behind it
+pub one-popped : (vs ws : List View) (v : View) → vs ≡ v ∷ ws → length vs ≡ 1 → vs ≡ v ∷ []
+one-popped vs [] v is l = is
+one-popped vs (w ∷ ws) v is l = absurd (omega (arith, l, ap (λ (xs : List View). length xs) is))
+
+-- pieces of which none is empty have bytes
+pub full-some : (vs : List View) → 0 < length vs → AreFull vs → 0 < length (pieces_bytes vs)
+full-some [] l f = absurd (omega arith)
+full-some (v ∷ vs) l f = omega (arith, f.0, length-bytes v vs)
+
+-- where the text of pieces isn't single, they are more than one
+pub several-more : (vs : List View) (t : MarkedText) → of_pieces vs ≡ t → 0 < length vs → is_single t ≡ false → 1 < length vs
+several-more [] t e l h = absurd (omega arith)
+several-more (v ∷ []) t e l h = absurd (false≢true (sym h ∙ sym (ap is_single e) ∙ is_single-of_pieces v []))
+several-more (v ∷ w ∷ vs) t e l h = omega arith

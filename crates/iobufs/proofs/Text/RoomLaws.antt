@@ -3,12 +3,12 @@ use Rattle.iobufs.proofs.Text.Known.{AreFull, List, MarkedText, View, [], ap, ar
 use Rattle.iobufs.proofs.Text.PieceLaws.{len-of_pieces, length-bytes}
 use Rattle.iobufs.proofs.Text.TextLaws.{append-pieces, prepend-pieces}
 
-bytes-several : (vs : List View) → 1 < length vs → AreFull vs → 0 < length (pieces_bytes vs)
+bytes-several : (vs : List View) → 0 < length vs → AreFull vs → 0 < length (pieces_bytes vs)
 bytes-several [] several full = absurd (omega arith)
 bytes-several (v ∷ vs) several full = omega (arith, full.0, length-bytes v vs)
 
 -- several pieces of which none is empty make the text t
-module _ (vs : List View) (t : MarkedText) (pieced : (1 < length vs) × AreFull vs) (text : of_pieces vs ≡ t) where
+module _ (vs : List View) (t : MarkedText) (pieced : (0 < length vs) × AreFull vs) (text : of_pieces vs ≡ t) where
   pub length-row : length (pieces_bytes vs) ≡ text_len t
   length-row = sym (len-of_pieces vs) ∙ ap text_len text
 

@@ -8,6 +8,7 @@
 --     left_pieces,              the chunks of the two sides of an offset
 --     right_pieces
 --     rest_pieces               the rest without the first bytes; the empty view if all go
+--     advanced_pieces           the rest without the first bytes; a single one stays, also without bytes
 --     bytes_behind              the bytes from an offset on, given as a chunk and a distance in it
 --     behind_first              the chunks after the first; the empty view if it is the only one
 use Rattle.std.specs.Prelude.{◌≡◌, ℕ, ◌+◌, ◌-◌, ◌<◌, get_or, nat_lt, ◌==◌, if◌then◌else◌, List, [], ◌∷◌, length, take, drop, flat_map}
@@ -58,6 +59,12 @@ right_pieces (v ∷ vs) at = if nat_lt at (view_len v) then view_advanced v at �
 -- the rest without the first bytes; the empty view if all go
 abbrev pub rest_pieces : List View → ℕ → List View
 rest_pieces pieces n = if n == length (pieces_bytes pieces) then default_view ∷ [] else right_pieces pieces n
+
+-- the rest without the first bytes; a single one stays, also without bytes
+abbrev pub advanced_pieces : List View → ℕ → List View
+advanced_pieces [] n = []
+advanced_pieces (v ∷ []) n = view_advanced v n ∷ []
+advanced_pieces (v ∷ w ∷ vs) n = rest_pieces (v ∷ w ∷ vs) n
 
 -- the chunks after the first; an only one leaves the default view
 abbrev pub behind_first : List View → List View

@@ -1,6 +1,6 @@
 -- One chunk or several, as a list of views.
 --     views       the one chunk, or those of the row
---     IsPieced    a row has two chunks or more, and none is empty
+--     IsPieced    a row has chunks, and none is empty
 use Rattle.std.specs.Prelude.{◌<◌, List, [], ◌∷◌, length}
 use Rattle.iobufs_core.specs.View.{View}
 use Rattle.iobufs.specs.Inside.Pieces.{AreFull}
@@ -11,7 +11,7 @@ abbrev pub views : Form → List View
 views (One view) = view ∷ []
 views (Many row) = row.views
 
--- a row has two chunks or more, and none is empty
+-- a row has chunks, and none is empty
 abbrev pub IsPieced : Form → Type 0
 IsPieced (One view) = Unit {0}
-IsPieced (Many row) = (1 < length row.views) × AreFull row.views
+IsPieced (Many row) = (0 < length row.views) × AreFull row.views

@@ -1,5 +1,5 @@
-// One chunk, or a row of several.
-ghost use Rattle.iobufs.specs.Inside.Pieces.{AreFull, IsPieces, IsChunkPlace, behind_first, left_pieces, rest_pieces, right_pieces, piece_at, pieces_bytes, view_len, bytes_behind};
+// One chunk, or a row of some.
+ghost use Rattle.iobufs.specs.Inside.Pieces.{AreFull, IsPieces, IsChunkPlace, advanced_pieces, behind_first, left_pieces, rest_pieces, right_pieces, piece_at, pieces_bytes, view_len, bytes_behind};
 ghost use Rattle.iobufs.specs.Inside.Several.{views, IsPieced};
 ghost use Rattle.iobufs_core.specs.Part.{part_frozen, part_put};
 ghost use Rattle.iobufs_core.specs.View.{View, IsFreelyShared, default_view, static_mark};
@@ -19,7 +19,7 @@ pub(super) struct Pieces {
     pub(super) form: Form,
 }
 
-/// One chunk, or a row of two and more.
+/// One chunk, or a row. A row of one has a small deque, which waits for the next chunk.
 #[derive(Drop)]
 pub(super) enum Form {
     One(IoBuf),
@@ -71,13 +71,27 @@ impl Form {
     }
 
     // A row of one chunk becomes that chunk.
-    fn settle(&mut self)
+    fn leave_row(&mut self)
         requires { 0 < length (views self.old) }
         ensures same { views self.new ≡ views self.old }
         ensures pieced { IsPieced self.new }
     {
         if let Form::Many(row) = self {
             if row.count() == 1 {
+                let last = row.pop_front();
+                self.set(Form::One(last));
+            }
+        }
+    }
+
+    // As `leave_row`, unless the deque is small: the next chunk needs it again.
+    fn settle(&mut self)
+        requires { 0 < length (views self.old) }
+        ensures same { views self.new ≡ views self.old }
+        ensures pieced { IsPieced self.new }
+    {
+        if let Form::Many(row) = self {
+            if row.count() == 1 && !row.is_small() {
                 let last = row.pop_front();
                 self.set(Form::One(last));
             }
@@ -161,6 +175,16 @@ impl Pieces {
         self.get(i).unwrap()
     }
 
+    /// The chunk, or the row.
+    #[inline(always)]
+    pub(super) fn into_form(self) -> Form
+        ensures views { views result ≡ self }
+        ensures pieced { IsPieced result }
+    {
+        let Pieces { form } = self;
+        form
+    }
+
     /// The only chunk; the chunks themselves where there are more.
     pub(super) fn into_single(self) -> Result<IoBuf, Pieces>
         ensures { MatchResult result (λ piece. self ≡ piece ∷ []) (λ pieces. (pieces ≡ self) × (1 < length self)) }
@@ -168,6 +192,7 @@ impl Pieces {
         let Pieces { form } = self;
         match form {
             Form::One(piece) => Ok(piece),
+            Form::Many(mut row) if row.count() == 1 => Ok(row.pop_front()),
             Form::Many(row) => Err(Pieces {
                 form: Form::Many(row),
             }),
@@ -256,6 +281,45 @@ impl Pieces {
         }
     }
 
+    /// Drops the first `n` bytes. A single chunk stays, also without bytes.
+    #[inline(always)]
+    pub(super) fn advance(&mut self, n: usize)
+        requires { n ≤ length (pieces_bytes self.old) }
+        ensures left { self.new ≡ advanced_pieces self.old n }
+        ensures pieces { IsPieces self.old }
+    {
+        match &mut self.form {
+            Form::One(piece) => piece.advance(n),
+            Form::Many(row) => {
+                if !row.shorten_several(n) {
+                    self.advance_pieces(n);
+                }
+            }
+        }
+    }
+
+    // Drops bytes of a single chunk, or the first of several and what else goes. In `advance`, its locals would cost each
+    // call. A single chunk leaves its row: so the next call takes half of the instructions.
+    #[inline(never)]
+    fn advance_pieces(&mut self, n: usize)
+        requires inside { n ≤ length (pieces_bytes self.old) }
+        requires first { 1 < length self.old → view_len (piece_at self.old 0) ≤ n }
+        ensures { self.new ≡ advanced_pieces self.old n }
+    {
+        match &mut self.form {
+            Form::One(piece) => piece.advance(n),
+            Form::Many(row) => {
+                if row.count() > 1 {
+                    self.drop_pieces(n);
+                    return;
+                }
+                let mut last = row.pop_front();
+                last.advance(n);
+                self.form.set(Form::One(last));
+            }
+        }
+    }
+
     // Drops bytes of several chunks. In `drop_front`, its locals cost `text64_bytewise` 16 % more instructions.
     #[inline(never)]
     fn drop_pieces(&mut self, n: usize)
@@ -286,7 +350,11 @@ impl Pieces {
             Form::One(piece) => T::take_view(alloc, piece),
             Form::Many(row) => {
                 let made = row.take_first(alloc)?;
-                self.form.settle();
+                if row.count() == 0 {
+                    self.form.clear();
+                    return Ok(made);
+                }
+                self.form.leave_row();
                 Ok(made)
             }
         }
@@ -511,6 +579,7 @@ impl Clone for Pieces {
     fn clone(&self) -> Result<Pieces, AllocError> {
         match &self.form {
             Form::One(piece) => Ok(Pieces::one(piece.clone()?)),
+            Form::Many(row) if row.count() == 1 => Ok(Pieces::one(row.piece(0).clone()?)),
             Form::Many(row) => {
                 let form = Form::Many(row.clone()?);
                 Ok(Pieces { form })

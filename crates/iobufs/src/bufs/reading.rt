@@ -8,7 +8,7 @@ ghost use Rattle.iobufs_core.specs.ReadBytes.{bytes-advanced, bytes-rest};
 ghost use Rattle.std.proofs.Common.{rules};
 
 use super::IoBufs;
-use super::pieces::{Form, START};
+use super::pieces::START;
 use bytes::Bytes;
 use iobufs_core::buf::IoBuf;
 use iobufs_core::codec::{Buf, BufError, OwnedBuf, OwnedBytes, Peek};
@@ -41,11 +41,7 @@ impl Buf for IoBufs {
 
     #[inline(always)]
     fn advance(&mut self, n: usize) {
-        if let Form::One(piece) = &mut self.pieces.form {
-            piece.advance(n);
-            return;
-        }
-        self.drop_front(n);
+        self.pieces.advance(n);
     }
 
     fn copy_to_slice(&mut self, dst: &mut [u8]) {

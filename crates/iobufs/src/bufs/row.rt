@@ -180,6 +180,11 @@ impl Row {
         self.pieces.len() < self.pieces.capacity()
     }
 
+    /// Whether the deque is so small that it may stay for one chunk.
+    pub(super) fn is_small(&self) -> bool {
+        self.pieces.capacity() <= SMALL
+    }
+
     /// Shows the bytes of each chunk, in order.
     pub(super) fn for_each<F: FnMut(&[u8])>(&self, visit: F)
         requires { F.IsAlwaysCallable visit }
@@ -319,12 +324,21 @@ impl Row {
         ensures left { IsTrue result → self.new.views ≡ right_pieces self.old.views n }
         ensures same { IsFalse result → self.new.views ≡ self.old.views }
     {
-        if n >= self.piece(0).len() {
+        if !drop_inside(&mut self.pieces, n) {
             return false;
         }
-        drop_inside(&mut self.pieces, n);
         self.base = self.base.wrapping_add(n as u64);
         true
+    }
+
+    /// As `shorten`, where there are several chunks. Else nothing changes.
+    #[inline(always)]
+    pub(super) fn shorten_several(&mut self, n: usize) -> bool
+        ensures left { IsTrue result → (n < view_len (piece_at self.old.views 0)) × (self.new.views ≡ right_pieces self.old.views n) }
+        ensures same { IsFalse result → self.new.views ≡ self.old.views }
+        ensures whole { IsFalse result → 1 < length self.old.views → view_len (piece_at self.old.views 0) ≤ n }
+    {
+        self.count() > 1 && self.shorten(n)
     }
 
     /// Drops the first `n` bytes, the first chunk among them.
@@ -617,13 +631,22 @@ fn put_all(pieces: &[Piece], copy: &mut IoBufMut)
     }
 }
 
-// Drops bytes of the first chunk, which has more.
-fn drop_inside(row: &mut VecDeque<Piece>, n: usize)
-    requires { n < view_len (piece_at (views_in row.old.items) 0) }
-    ensures { row.new.items ≡ shortened row.old.items n }
+// Drops bytes of the first chunk if it has more. Else nothing changes.
+#[inline(always)]
+fn drop_inside(row: &mut VecDeque<Piece>, n: usize) -> bool
+    requires { 0 < deque_len row.old }
+    ensures answer { result ≡ nat_lt n (view_len (piece_at (views_in row.old.items) 0)) }
+    ensures left { IsTrue result → row.new.items ≡ shortened row.old.items n }
+    ensures same { IsFalse result → row.new.items ≡ row.old.items }
 {
     match row.front_mut() {
-        Some(first) => first.view.advance(n),
+        Some(first) => {
+            if n >= first.view.len() {
+                return false;
+            }
+            first.view.advance(n);
+            true
+        }
         None => unreachable!(),
     }
 }
@@ -643,6 +666,9 @@ fn split_first_inside(row: &mut VecDeque<Piece>, at: usize) -> Result<IoBuf, Buf
         None => unreachable!(),
     }
 }
+
+// How much space a deque of one chunk may have.
+const SMALL: usize = 8;
 
 // How few chunks are moved one by one.
 const FEW: usize = 8;

@@ -1,4 +1,4 @@
-use Rattle.iobufs.proofs.Text.{Inside, ap, arith, chunks-kept, drop, false≢true, is_single, is_single-of_pieces, of_pieces, pieced-as, single-more, sym, views, [], ◌∙◌, ◌∷◌, ◌≡◌}
+use Rattle.iobufs.proofs.Text.{Inside, ap, arith, chunks-kept, drop, false≢true, is_single, is_single-of_pieces, of_pieces, pieced-as, sym, views, [], ◌∙◌, ◌∷◌, ◌≡◌}
 use Rattle.iobufs.proofs.bufs.IoBufs.runs_from.Goals as goal
 
 pub returns-in-One-clause-several : goal.returns-in-One-clause-several
@@ -15,7 +15,4 @@ returns-in-Many-clause-several c _ =
     c.runs_from.ensures ∙ ap (drop c.args.first) (sym chunks)
 
 pub returns-in-Many-clause-single : goal.returns-in-Many-clause-single
-returns-in-Many-clause-single c single =
-    let seen : c.in-Many.row.views ≡ c.self.inside.pieces = ap views (sym c.in-Many.is) ∙ ap (λ (s : Inside). s.pieces) c.self-inside.view_is in
-    let several = pieced-as c.in-Many.is c.self-inside.invariant in
-    absurd (false≢true (sym (single-more c.in-Many.row.views _ (ap of_pieces seen ∙ c.self.view_is) (omega (arith, several.0))) ∙ single))
+returns-in-Many-clause-single c single = absurd (false≢true (sym c.if-is_single.false ∙ c.is_single.ensures ∙ single))
