@@ -170,7 +170,7 @@ fn freeze_only(alloc: Global, part: &mut IoBufMut) -> Result<IoBufs, BufError>
 }
 
 // Puts a part as a chunk at the end of a row, unless it holds no bytes.
-#[inline(never)]
+#[inline(always)]
 fn add_frozen(alloc: Global, row: &mut NewRow, part: &mut IoBufMut) -> Result<(), BufError>
     requires fits { length (pieces_bytes row.old.views) + length part.old.filled < 2 ^ 64 }
     requires room { length row.old.views < row.old.room }
@@ -180,10 +180,36 @@ fn add_frozen(alloc: Global, row: &mut NewRow, part: &mut IoBufMut) -> Result<()
     ensures capacity { part_capacity part.new ≤ part_capacity part.old }
     ensures memory { IsOkUnless result BufError.Memory }
 {
-    if !part.is_empty() {
-        row.add(mem::replace(part, IoBufMut::default(alloc)).freeze()?);
+    if part.is_empty() {
+        return Ok(());
     }
+    add_some(alloc, row, part)
+}
+
+// Acts as `add_frozen`: a function of its own, so that a part without bytes costs no call.
+#[inline(never)]
+fn add_some(alloc: Global, row: &mut NewRow, part: &mut IoBufMut) -> Result<(), BufError>
+    requires fits { length (pieces_bytes row.old.views) + length part.old.filled < 2 ^ 64 }
+    requires room { length row.old.views < row.old.room }
+    ensures added { OnOk result (row.new.views
+        ≡ (if length (part_frozen part.old).bytes == 0 then row.old.views else row.old.views ++ part_frozen part.old ∷ [])) }
+    ensures same_room { OnOk result (row.new.room ≡ row.old.room) }
+    ensures capacity { part_capacity part.new ≤ part_capacity part.old }
+    ensures memory { IsOkUnless result BufError.Memory }
+{
+    row.add(mem::replace(part, IoBufMut::default(alloc)).freeze()?);
     Ok(())
+}
+
+// Acts as `put_slice`, without a call for no bytes.
+#[inline(always)]
+fn put_some(whole: &mut IoBufMut, src: &[u8])
+    requires { length src.now ≤ whole.old.spare }
+    ensures { whole.new ≡ part_put whole.old src.now }
+{
+    if !src.is_empty() {
+        whole.put_slice(src);
+    }
 }
 
 impl Few {
@@ -507,7 +533,7 @@ impl Few {
         let mut whole = IoBufMut::with_capacity_from(alloc, len, &mut self.second)?;
         whole.put_slice(self.first.as_ref());
         whole.put_slice(self.second.as_ref());
-        whole.put_slice(self.third.as_ref());
+        put_some(&mut whole, self.third.as_ref());
         Ok(whole)
     }
 }
