@@ -21,6 +21,7 @@ pub mod SliceLaws
 pub mod StaticLaws
 pub mod TakenLaws
 pub mod TextLaws
+pub mod ViewsLaws
 pub mod VisitLaws
 pub use ChunkLaws.*
 pub use CopyLaws.*
@@ -43,4 +44,5 @@ pub use SliceLaws.*
 pub use StaticLaws.*
 pub use TakenLaws.*
 pub use TextLaws.*
+pub use ViewsLaws.*
 pub use VisitLaws.*

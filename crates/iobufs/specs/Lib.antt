@@ -7,3 +7,4 @@ pub mod Parts
 pub mod Refusals
 pub mod Search
 pub mod Sending
+pub mod Views

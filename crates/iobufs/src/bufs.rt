@@ -2,6 +2,7 @@
 ghost use Rattle.iobufs.specs.Inside.Pieces.{AreViews, of_pieces, pieces_bytes};
 ghost use Rattle.iobufs.specs.Located.{greatest_key, keys_upto};
 ghost use Rattle.iobufs.specs.Refusals.{IsRefusedAt};
+ghost use Rattle.iobufs.specs.Views.{text_views};
 ghost use Rattle.iobufs_core.specs.Chunks.{first_chunk};
 ghost use Rattle.iobufs_core.specs.MarkedText.{IsMarked, chunk_count as count_of, default_text, is_single, joined, of_view, taken_view, text_append, text_chunks, text_len, text_prepend, text_rest, text_split_front, text_coalesced, chunk_count};
 ghost use Rattle.iobufs_core.specs.declared.codec.base.BufError.{BufError};
@@ -14,7 +15,7 @@ ghost use Rattle.std.specs.Iterator.{DrainsIf, IsFinite, YieldsFirstBy, item_cou
 ghost use Rattle.std.specs.Iterator.Runs.{SomeRun, WholeRun};
 ghost use Rattle.std.specs.List.{FoldsTo};
 ghost use Rattle.std.specs.Option.{option_copied};
-ghost use Rattle.std.specs.Prelude.{◌≡◌, ℕ, List, ◌∷◌, ◌++◌, ◌+◌, ◌*◌, ◌<◌, ◌≤◌, ◌^◌, ◌==◌, [], length, if◌then◌else◌, false, true, slice_get, IsOk, IfOk, IfErr, OnOk, OnErr, IsOkUnless, IsErrAnd, MatchOption, MatchResult, drop, Err, ◌-◌, nat_eq, Some, codes, ⊤};
+ghost use Rattle.std.specs.Prelude.{◌↔◌, None, IfSome, IsSome, IsTrue, IsFalse, nat_le, ◌≡◌, ℕ, List, ◌∷◌, ◌++◌, ◌+◌, ◌*◌, ◌<◌, ◌≤◌, ◌^◌, ◌==◌, [], length, if◌then◌else◌, false, true, slice_get, IsOk, IfOk, IfErr, OnOk, OnErr, IsOkUnless, IsErrAnd, MatchOption, MatchResult, drop, Err, ◌-◌, nat_eq, Some, codes, ⊤};
 ghost use Rattle.std.proofs.Common.{rules};
 ghost use Rattle.std.specs.Cmp.Rules.{comparing};
 ghost use Rattle.std.specs.Fmt.{decimal};
@@ -133,14 +134,20 @@ impl IoBufs {
     pub fn is_empty(&self) -> bool
         ensures { result ≡ (text_len self.now == 0) }
     {
-        self.len() == 0
+        match &self.pieces.form {
+            Form::One(piece) => piece.is_empty(),
+            Form::Many(_) => false,
+        }
     }
 
     /// Returns whether all bytes are in one chunk (`IoBufs::is_single`).
     pub fn is_single(&self) -> bool
         ensures { result ≡ is_single self.now }
     {
-        self.pieces.count() == 1
+        match &self.pieces.form {
+            Form::One(_) => true,
+            Form::Many(_) => false,
+        }
     }
 
     /// Returns the number of chunks that hold bytes (`IoBufs::chunk_count`).
@@ -166,6 +173,76 @@ impl IoBufs {
             Some(piece) => Some(piece.as_ref()),
             None => None,
         }
+    }
+
+    // Drops bytes, if there are so many. In `try_advance`, its locals would cost each call.
+    #[inline(never)]
+    fn try_drop(&mut self, n: usize) -> bool
+        ensures answer { result ≡ nat_le n (text_len self.old) }
+        ensures rest { IsTrue result → self.new ≡ text_advanced self.old n }
+        ensures unchanged { IsFalse result → self.new ≡ self.old }
+    {
+        if n > self.len() {
+            return false;
+        }
+        self.pieces.advance(n);
+        true
+    }
+
+    /// Takes the first `at` bytes as `split_to` does, if there are so many (own); otherwise nothing changes.
+    pub fn try_split_to(&mut self, alloc: Global, at: usize) -> Option<Result<IoBufs, BufError>>
+        ensures short { result ≡ None ↔ (text_len self.old < at) }
+        ensures front { IfSome result (λ answer. IfOk answer (λ front. front ≡ text_split_front self.old at)) }
+        ensures rest { IfSome result (λ answer. OnOk answer (self.new ≡ text_rest self.old at)) }
+        ensures unchanged { MatchOption result (self.new ≡ self.old) (λ answer. OnErr answer (self.new ≡ self.old)) }
+        ensures memory { IfSome result (λ answer. IsOkUnless answer BufError.Memory) }
+        ensures nothing { at ≡ 0 → IfSome result (λ answer. IsOk answer) }
+        ensures whole { at ≡ text_len self.old → IfSome result (λ answer. IsOk answer) }
+        ensures first { at ≡ length (first_chunk (text_chunks self.old)) → IfSome result (λ answer. IsOk answer) }
+        ensures static_text { at ≤ length (first_chunk (text_chunks self.old)) → (taken_view self.old 0 at).mark ≡ static_mark
+            → IfSome result (λ answer. IsOk answer) }
+        ensures last { (front : List (List ℕ)) (chunk : List ℕ) → text_chunks self.old ≡ front ++ chunk ∷ []
+            → at + length chunk ≡ text_len self.old → IfSome result (λ answer. IsOk answer) }
+    {
+        if at > self.len() {
+            return None;
+        }
+        Some(self.split_to(alloc, at))
+    }
+
+    /// Returns the bytes of a range as `slice` does, if it is within the bytes (own).
+    pub fn try_slice(&self, alloc: Global, range: Range<usize>) -> Option<Result<IoBufs, BufError>>
+        ensures fits { IsSome result ↔ ((range.start ≤ range.end) × (range.end ≤ text_len self.now)) }
+        ensures ok { IfSome result (λ answer. IfOk answer (λ text. text ≡ text_split_front (text_rest self.now range.start) (range.end - range.start))) }
+        ensures memory { IfSome result (λ answer. IsOkUnless answer BufError.Memory) }
+        ensures nothing { range.start ≡ range.end → IfSome result (λ answer. IsOk answer) }
+        ensures static_text { (taken_view self.now range.start (range.end - range.start)).mark ≡ static_mark
+            → IfSome result (λ answer. IsOk answer) }
+    {
+        if range.start > range.end || range.end > self.len() {
+            return None;
+        }
+        Some(self.slice(alloc, range))
+    }
+
+    /// Finds the chunk that contains an offset as `locate` does, if it is within the bytes (own).
+    pub fn try_locate(&self, at: usize) -> Option<Located>
+        ensures inside { IsSome result ↔ (at < text_len self.now) }
+        ensures index { IfSome result (λ place. place.index + 1 ≡ keys_upto self.now at) }
+        ensures offset { IfSome result (λ place. greatest_key self.now at + place.offset ≡ at) }
+        ensures probes { IfSome result (λ place. 2 ^ place.probes ≤ 2 * count_of self.now) }
+    {
+        if at >= self.len() {
+            return None;
+        }
+        Some(self.locate(at))
+    }
+
+    /// Borrows a chunk by its index, also an only one without bytes (own).
+    pub fn view_at(&self, i: usize) -> Option<&IoBuf>
+        ensures { option_copied result ≡ slice_get (text_views self.now) i }
+    {
+        self.pieces.get(i)
     }
 
     /// Borrows the only chunk, if there is one (`IoBufs::as_single`).

@@ -1,5 +1,5 @@
 // Writable buffers, read and filled in order. A clause sees a list of them (`Part`), each its bytes and spare capacity.
-ghost use Rattle.std.specs.Prelude.{◌≡◌, ◌+◌, ◌<◌, ◌≤◌, ◌==◌, ◌^◌, ◌++◌, ◌∷◌, [], List, length, slice_get, Err, IfErr, IfOk, IsOk, IsOkUnless, MatchResult, OnErr, Some, codes, ⊤};
+ghost use Rattle.std.specs.Prelude.{IsTrue, IsFalse, nat_le, ◌≡◌, ◌+◌, ◌<◌, ◌≤◌, ◌==◌, ◌^◌, ◌++◌, ◌∷◌, [], List, length, slice_get, Err, IfErr, IfOk, IsOk, IsOkUnless, MatchResult, OnErr, Some, codes, ⊤};
 ghost use Rattle.std.specs.Fmt.{decimal};
 ghost use Rattle.std.specs.Iterator.{DrainsIf, IsFinite};
 ghost use Rattle.std.specs.Iterator.Runs.{SomeRun, WholeRun};
@@ -219,6 +219,32 @@ impl IoBufsMut {
             Shape::Few(parts) => parts.set_len(n),
             Shape::Many(parts) => parts.set_len(n),
         }
+    }
+
+    /// Acts as `set_len` if `n` is within the capacity, and returns whether it is (own); otherwise nothing changes.
+    pub fn try_set_len(&mut self, n: usize) -> bool
+        ensures answer { result ≡ nat_le n (parts_capacity self.old) }
+        ensures done { IsTrue result → self.new ≡ parts_with_len self.old n }
+        ensures unchanged { IsFalse result → self.new ≡ self.old }
+    {
+        if n > self.capacity() {
+            return false;
+        }
+        self.set_len(n);
+        true
+    }
+
+    /// Acts as `copy_from_slice` if the lengths agree, and returns whether they do (own); otherwise nothing changes.
+    pub fn try_copy_from_slice(&mut self, src: &[u8]) -> bool
+        ensures answer { result ≡ (length src.now == length (parts_filled self.old)) }
+        ensures done { IsTrue result → self.new ≡ parts_overwritten self.old src.now }
+        ensures unchanged { IsFalse result → self.new ≡ self.old }
+    {
+        if src.len() != self.len() {
+            return false;
+        }
+        self.copy_from_slice(src);
+        true
     }
 
     /// Overwrites all readable bytes (`IoBufsMut::copy_from_slice`).

@@ -3,7 +3,8 @@ use Rattle.iobufs.proofs.Text.Known.{AreFull, List, MarkedText, View, [], ap, ar
 use Rattle.iobufs.proofs.Text.PieceLaws.{len-of_pieces, length-bytes}
 use Rattle.iobufs.proofs.Text.TextLaws.{append-pieces, prepend-pieces}
 
-bytes-several : (vs : List View) → 0 < length vs → AreFull vs → 0 < length (pieces_bytes vs)
+-- several pieces of which none is empty have bytes
+pub bytes-several : (vs : List View) → 0 < length vs → AreFull vs → 0 < length (pieces_bytes vs)
 bytes-several [] several full = absurd (omega arith)
 bytes-several (v ∷ vs) several full = omega (arith, full.0, length-bytes v vs)
 

@@ -44,6 +44,14 @@ impl Buf for IoBufs {
         self.pieces.advance(n);
     }
 
+    #[inline(always)]
+    fn try_advance(&mut self, n: usize) -> bool {
+        match &mut self.pieces.form {
+            Form::One(piece) => piece.try_advance(n),
+            Form::Many(row) => row.shorten_several(n) || self.try_drop(n),
+        }
+    }
+
     fn copy_to_slice(&mut self, dst: &mut [u8]) {
         let n = dst.len();
         let chunk = self.chunk();

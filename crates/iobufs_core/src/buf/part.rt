@@ -1,5 +1,5 @@
 // A buffer of fixed capacity, to be written.
-ghost use Rattle.std.specs.Prelude.{◌≡◌, ◌+◌, ◌-◌, ◌<◌, ◌≤◌, ◌==◌, [], ◌∷◌, length, drop, replicate, vec_len, vec_capacity, false, IfOk, IsOk, IsOkUnless, IsTrue, ◌↔◌, Some, codes, ◌++◌};
+ghost use Rattle.std.specs.Prelude.{◌≡◌, ◌+◌, ◌-◌, ◌<◌, ◌≤◌, ◌==◌, [], ◌∷◌, length, drop, replicate, vec_len, vec_capacity, false, IfOk, IsOk, IsOkUnless, IsTrue, IsFalse, MatchResult, nat_le, ◌↔◌, Some, codes, ◌++◌};
 ghost use Rattle.std.specs.Align.{IsLayout};
 ghost use Rattle.iobufs_core.specs.Part.{empty_part, is_bad_layout as bad_layout, part_capacity, part_copied, part_drained, part_overwritten, part_put, part_with_len, part_truncated};
 ghost use Rattle.std.specs.Borrow.{Lends, Array, sem, u8 as byte};
@@ -213,6 +213,19 @@ impl IoBufMut {
         IoBufMut::from_shell(None, storage, start, limit)
     }
 
+    /// Makes an empty buffer of `n` bytes of capacity after the bytes of a block, which are dropped with it (own): a
+    /// caller that pads the block up to an address has an aligned buffer. A block with less room comes back.
+    pub fn behind(block: Vec<u8>, n: usize) -> Result<IoBufMut, Vec<u8>>
+        ensures fits { IsOk result ↔ (vec_len block + n ≤ vec_capacity block) }
+        ensures same { MatchResult result (λ b. b ≡ empty_part n) (λ back. back ≡ block) }
+    {
+        let start = block.len();
+        if n > block.capacity() - start {
+            return Err(block);
+        }
+        Ok(IoBufMut::from_storage(block, start, start + n))
+    }
+
     // Makes the shell too, so that freezing takes no memory.
     fn with_shell(storage: Vec<u8>, limit: usize) -> Result<IoBufMut, BufError>
         requires { (vec_len storage ≤ limit) × (limit ≤ vec_capacity storage) }
@@ -310,6 +323,19 @@ impl IoBufMut {
         ensures { self.new ≡ part_with_len self.old n }
     {
         self.storage.resize(self.start + n, 0).unwrap();
+    }
+
+    /// Acts as `set_len` if `n` is within the capacity, and returns whether it is (own); otherwise nothing changes.
+    pub fn try_set_len(&mut self, n: usize) -> bool
+        ensures answer { result ≡ nat_le n (part_capacity self.old) }
+        ensures done { IsTrue result → self.new ≡ part_with_len self.old n }
+        ensures unchanged { IsFalse result → self.new ≡ self.old }
+    {
+        if n > self.capacity() {
+            return false;
+        }
+        self.set_len(n);
+        true
     }
 
     /// Acts as `put_slice`. Takes fewer instructions after a test of the remaining capacity, more without (own).
@@ -440,6 +466,15 @@ impl BufMut for IoBufMut {
 
     fn remaining_mut(&self) -> usize {
         self.limit - self.storage.len()
+    }
+
+    #[inline(always)]
+    fn try_put_slice(&mut self, src: &[u8]) -> bool {
+        if src.len() > self.remaining_mut() {
+            return false;
+        }
+        self.put_share(src);
+        true
     }
 
     // The test always holds, and takes the path on which the vector grows out of the compiled code. An `unreachable!()`

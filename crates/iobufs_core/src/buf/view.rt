@@ -1,5 +1,5 @@
 // Bytes that are read and shared. A clause sees them and how they are stored (`View`).
-ghost use Rattle.std.specs.Prelude.{◌≡◌, ◌≤◌, ◌-◌, ◌==◌, if◌then◌else◌, [], ◌∷◌, length, take, IsTrue, IfOk, OnOk, OnErr, IsOk, IsOkUnless, MatchResult, nat_eq, Some, codes, ◌++◌};
+ghost use Rattle.std.specs.Prelude.{ℕ, ◌↔◌, ◌<◌, None, IfSome, IsSome, MatchOption, IsErr, ◌≡◌, ◌≤◌, ◌-◌, ◌==◌, if◌then◌else◌, [], ◌∷◌, length, take, IsTrue, IfOk, OnOk, OnErr, IsOk, IsOkUnless, MatchResult, nat_eq, Some, codes, ◌++◌};
 ghost use Rattle.iobufs_core.specs.View.{IsView, default_view, view_advanced, view_front, view_of_bytes, view_rest, view_slice, view_split_front, start_place, end_place, range_fits, static_mark, bytes_mark, native_mark, IsFreelyShared};
 ghost use Rattle.iobufs_core.specs.Recovery.{IsAdopted, IsRecovery};
 ghost use Rattle.iobufs_core.specs.ChunkLaws.{joined-one, full-one};
@@ -199,6 +199,21 @@ impl IoBuf {
         }
     }
 
+    /// Returns the bytes of a range as `slice` does, if it is within the bytes (own).
+    #[inline(always)]
+    pub fn try_slice(&self, lo: Bound<usize>, hi: Bound<usize>) -> Option<Result<IoBuf, BufError>>
+        ensures fits { IsSome result ↔ IsTrue (range_fits lo hi (length self.now.bytes)) }
+        ensures ok { IfSome result (λ answer. IfOk answer (λ slice. slice ≡ view_slice self.now lo hi)) }
+        ensures memory { IfSome result (λ answer. IsOkUnless answer BufError.Memory) }
+        ensures static_text { self.now.mark ≡ static_mark → IfSome result (λ answer. IsOk answer) }
+        ensures nothing { start_place lo ≡ end_place hi (length self.now.bytes) → IfSome result (λ answer. IsOk answer) }
+    {
+        if !self.fits_range(lo, hi) {
+            return None;
+        }
+        Some(self.slice(lo, hi))
+    }
+
     /// Takes the first `at` bytes, in the same storage (`IoBuf::split_to`).
     /// If the storage can't be shared, returns `BufError::Memory` and changes nothing.
     #[inline(always)]
@@ -284,6 +299,49 @@ impl IoBuf {
                 Ok(bytes) => Ok(bytes),
                 Err(native) => Err(IoBuf::from_native(native)),
             },
+        }
+    }
+
+    /// Takes the first `at` bytes as `split_to` does, if there are so many (own); otherwise nothing changes.
+    #[inline(always)]
+    pub fn try_split_to(&mut self, at: usize) -> Option<Result<IoBuf, BufError>>
+        ensures short { result ≡ None ↔ (length self.old.bytes < at) }
+        ensures front { IfSome result (λ answer. IfOk answer (λ front. front ≡ view_split_front self.old at)) }
+        ensures rest { IfSome result (λ answer. OnOk answer (self.new ≡ view_rest self.old at)) }
+        ensures unchanged { MatchOption result (self.new ≡ self.old) (λ answer. OnErr answer (self.new ≡ self.old)) }
+        ensures memory { IfSome result (λ answer. IsOkUnless answer BufError.Memory) }
+        ensures nothing { at ≡ 0 → IfSome result (λ answer. IsOk answer) }
+        ensures whole { at ≡ length self.old.bytes → IfSome result (λ answer. IsOk answer) }
+        ensures static_text { self.old.mark ≡ static_mark → IfSome result (λ answer. IsOk answer) }
+    {
+        if at > self.len() {
+            return None;
+        }
+        Some(self.split_to(at))
+    }
+
+    /// Returns whether the storage is a `Bytes` (own).
+    pub fn is_shared(&self) -> bool
+        ensures { IsTrue result ↔ (self.now.mark ≡ bytes_mark) }
+    {
+        match &self.storage {
+            Storage::Shared(_) => true,
+            _ => false,
+        }
+    }
+
+    /// Converts into a `Bytes` without copying; native storage comes back (own).
+    pub fn into_shared(self) -> Result<Bytes, IoBuf>
+        ensures same { MatchResult result (λ bytes. bytes ≡ self.bytes) (λ view. view ≡ self) }
+        ensures native { (room : ℕ) → self.mark ≡ native_mark room → IsErr result }
+        ensures static_text { self.mark ≡ static_mark → IsOk result }
+        ensures shared_text { self.mark ≡ bytes_mark → IsOk result }
+    {
+        let IoBuf { storage } = self;
+        match storage {
+            Storage::Static(text) => Ok(Bytes::from_static(text)),
+            Storage::Shared(bytes) => Ok(bytes),
+            storage => Err(IoBuf { storage }),
         }
     }
 
@@ -416,6 +474,23 @@ impl Buf for IoBuf {
             Storage::Shared(bytes) => bytes.advance(n),
             Storage::Native(native) => native.advance(n),
         }
+    }
+
+    #[inline(always)]
+    fn try_advance(&mut self, n: usize) -> bool {
+        // As in `as_ref`.
+        if let Storage::Native(native) = &mut self.storage {
+            if n > native.len() {
+                return false;
+            }
+            native.advance(n);
+            return true;
+        }
+        if n > self.len() {
+            return false;
+        }
+        self.advance(n);
+        true
     }
 
     #[inline(always)]

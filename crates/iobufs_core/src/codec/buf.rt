@@ -1,5 +1,5 @@
 // The trait to read bytes from the front.
-ghost use Rattle.std.specs.Prelude.{◌≡◌, ℕ, ◌≤◌, ◌<◌, ◌↔◌, List, [], map, length, take, drop, slice_get, IsTrue, IfOk, IfErr, OnOk, OnErr, IsErr, IsOk, IsOkUnless};
+ghost use Rattle.std.specs.Prelude.{◌≡◌, ℕ, ◌≤◌, ◌<◌, ◌↔◌, List, [], map, length, take, drop, slice_get, IsTrue, IsFalse, nat_le, IfOk, IfErr, OnOk, OnErr, IsErr, IsOk, IsOkUnless};
 ghost use Rattle.std.specs.List.{flat_map};
 ghost use Rattle.iobufs_core.specs.Chunks.{IsChunkOf, first_chunk, full_chunks};
 
@@ -37,6 +37,23 @@ pub trait Buf {
     fn advance(&mut self, n: usize)
         requires { n ≤ length (text self.old) }
         ensures { self.new ≡ advanced self.old n };
+
+    /// Drops the first `n` bytes as `advance` does, and returns whether there are so many (own); otherwise nothing
+    /// changes.
+    #[inline(always)]
+    fn try_advance(&mut self, n: usize) -> bool
+    where
+        Self: Sized,
+        ensures answer { result ≡ nat_le n (length (text self.old)) }
+        ensures rest { IsTrue result → self.new ≡ advanced self.old n }
+        ensures unchanged { IsFalse result → self.new ≡ self.old }
+    {
+        if n > self.remaining() {
+            return false;
+        }
+        self.advance(n);
+        true
+    }
 
     /// Fills `dst` with the first bytes, and drops them as one `advance` does (`Buf::copy_to_slice`).
     fn copy_to_slice(&mut self, dst: &mut [u8])

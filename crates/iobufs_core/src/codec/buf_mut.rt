@@ -1,5 +1,5 @@
 // The trait to fill capacity with bytes, in order.
-ghost use Rattle.std.specs.Prelude.{◌≡◌, ℕ, ◌+◌, ◌≤◌, List, [], ◌∷◌, ◌++◌, length, replicate};
+ghost use Rattle.std.specs.Prelude.{◌≡◌, ℕ, ◌+◌, ◌≤◌, List, [], ◌∷◌, ◌++◌, length, replicate, nat_le, IsTrue, IsFalse};
 ghost use Rattle.std.specs.Int.{w16, w32, w64, w128, to_be_bytes};
 
 use super::Buf;
@@ -33,6 +33,38 @@ pub trait BufMut {
         ensures { filled self.old (n ∷ []) self.new }
     {
         self.put_slice(&[n]);
+    }
+
+    /// Appends the bytes as `put_slice` does, and returns whether they fit (own); otherwise nothing changes.
+    #[inline(always)]
+    fn try_put_slice(&mut self, src: &[u8]) -> bool
+    where
+        Self: Sized,
+        ensures answer { result ≡ nat_le (length src.now) (room self.old) }
+        ensures done { IsTrue result → filled self.old src.now self.new }
+        ensures unchanged { IsFalse result → self.new ≡ self.old }
+    {
+        if src.len() > self.remaining_mut() {
+            return false;
+        }
+        self.put_slice(src);
+        true
+    }
+
+    /// Appends a byte as `put_bytes` does, and returns whether there is room (own); otherwise nothing changes.
+    #[inline(always)]
+    fn try_put_bytes(&mut self, value: u8, n: usize) -> bool
+    where
+        Self: Sized,
+        ensures answer { result ≡ nat_le n (room self.old) }
+        ensures done { IsTrue result → filled self.old (replicate n value) self.new }
+        ensures unchanged { IsFalse result → self.new ≡ self.old }
+    {
+        if n > self.remaining_mut() {
+            return false;
+        }
+        self.put_bytes(value, n);
+        true
     }
 
     // To fill nothing in is always possible, and changes nothing.

@@ -1,5 +1,5 @@
 // Bytes made into values and left where they are.
-ghost use Rattle.std.specs.Prelude.{◌≡◌, ◌+◌, ◌≤◌, length, take, drop, IfOk, IsOk, IsOkUnless};
+ghost use Rattle.std.specs.Prelude.{IsSome, IfSome, IsTrue, IsFalse, nat_le, ◌↔◌, ◌≡◌, ◌+◌, ◌≤◌, length, take, drop, IfOk, IsOk, IsOkUnless};
 ghost use Rattle.iobufs_core.specs.View.{static_mark};
 ghost use Rattle.iobufs_core.specs.MarkedText.{IsMarked, chunk_count as count_of, taken_view};
 
@@ -28,6 +28,40 @@ pub trait Peek: OwnedBuf {
     fn peek_slice(&self, skip: usize, dst: &mut [u8])
         requires { skip + length dst.old ≤ length (Self.text self.now) }
         ensures { dst.new ≡ take (length dst.old) (drop skip (Self.text self.now)) };
+
+    /// Acts as `peek_owned` if there are so many bytes (own).
+    fn try_peek_owned<T: OwnedBytes>(&self, alloc: Global, skip: usize, n: usize) -> Option<Result<T, BufError>>
+    where
+        Self: Sized,
+        ensures fits { IsSome result ↔ (skip + n ≤ length (Self.text self.now)) }
+        ensures ok { IfSome result (λ answer. IfOk answer (T.makes (taken_view (Self.marked self.now) skip n))) }
+        ensures memory { IfSome result (λ answer. IsOkUnless answer BufError.Memory) }
+        ensures nothing { n ≡ 0 → IfSome result (λ answer. IsOk answer) }
+        ensures static_text { (taken_view (Self.marked self.now) skip n).mark ≡ static_mark → T.is_free (taken_view (Self.marked self.now) skip n)
+            → IfSome result (λ answer. IsOk answer) }
+    {
+        let len = self.remaining();
+        if skip > len || n > len - skip {
+            return None;
+        }
+        Some(self.peek_owned(alloc, skip, n))
+    }
+
+    /// Acts as `peek_slice` if there are so many bytes, and returns whether there are (own); otherwise nothing changes.
+    fn try_peek_slice(&self, skip: usize, dst: &mut [u8]) -> bool
+    where
+        Self: Sized,
+        ensures answer { result ≡ nat_le (skip + length dst.old) (length (Self.text self.now)) }
+        ensures done { IsTrue result → dst.new ≡ take (length dst.old) (drop skip (Self.text self.now)) }
+        ensures unchanged { IsFalse result → dst.new ≡ dst.old }
+    {
+        let len = self.remaining();
+        if skip > len || dst.len() > len - skip {
+            return false;
+        }
+        self.peek_slice(skip, dst);
+        true
+    }
 }
 
 impl Peek for IoBuf {
