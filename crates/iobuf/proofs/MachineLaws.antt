@@ -1,6 +1,6 @@
 -- A session with the owner machine.
 use Rattle.iobuf.proofs.Known.{refl, Err, IfSome, List, None, Ok, Option, Some, [], ap, append-nil, arith, codes, flat_map, inl, inr, length-append, map, subst, sym, true, ℕ, ◌++◌, ◌+◌, ◌∙◌, ◌∷◌, ◌≡◌, flat_map_more, Appends, Keeps, lines, ask_of, setup_of, AreAnswered, StepsAnswered, with_line_end, Ask, Promises, Seen, IsStopAt, ReadFails, Takes, TakesLine, line_text, AskAnswered, MachineAnsweredFirst, MachineMade, MakesMachine, ServesMachine, Obstacle, Memory, Stop, CannotContinue}
-use Rattle.iobuf_lines.proofs.Stepped.{answered_more, promised_after}
+use Rattle.iobuf.proofs.Stepped.{answered_more, promised_after}
 use Rattle.iobuf.proofs.Contents.{kept, line_more}
 use Rattle.iobuf.proofs.Going.{Ended, GoesOn, Going, Laws, cut, halted, said_more, where_known}
 

@@ -8,12 +8,12 @@
 use Rattle.std.specs.Prelude.{◌≡◌, ◌⊎◌, ℕ, ◌+◌, List, Option, Some, None, Result, Ok, Err, ⊤}
 use Rattle.iobufs_owner.specs.Promises.{Promises}
 use Rattle.iobufs_owner.specs.State.{Seen}
-use Rattle.iobuf_lines.specs.declared.owner.line.Ask.{Ask}
-use Rattle.iobuf_lines.specs.declared.owner.line.Setup.{Setup}
-use Rattle.iobuf_lines.specs.Owner.Said.{ask_of, setup_of}
-use Rattle.iobuf_lines.specs.Owner.Session.{AllStepsAnswered, StepsAnswered, StepsAnsweredUpTo, Answers, with_line_end, machine_of}
-use Rattle.iobuf_lines.specs.declared.words.LineError.{LineError}
-use Rattle.iobuf_lines.specs.declared.words.LineError.TheVariants.{NoCommand, Memory}
+use Rattle.iobuf.specs.declared.owner.line.Ask.{Ask}
+use Rattle.iobuf.specs.declared.owner.line.Setup.{Setup}
+use Rattle.iobuf.specs.Owner.Said.{ask_of, setup_of}
+use Rattle.iobuf.specs.Owner.Session.{AllStepsAnswered, StepsAnswered, StepsAnsweredUpTo, Answers, with_line_end, machine_of}
+use Rattle.iobuf.specs.declared.words.LineError.{LineError}
+use Rattle.iobuf.specs.declared.words.LineError.TheVariants.{NoCommand, Memory}
 use Rattle.iobuf.specs.Faults.{Halts, IsTextAt}
 use Rattle.iobuf.specs.Stops.{stop_status}
 use Rattle.iobuf.specs.declared.fault.Stop.{Stop}

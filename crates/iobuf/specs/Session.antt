@@ -15,11 +15,11 @@ use Rattle.iobufs_run.specs.declared.command.Cmd.{Cmd}
 use Rattle.iobufs_run.specs.declared.command.Reply.{Reply}
 use Rattle.iobufs_run.specs.declared.table.Slot.{Slot}
 use Rattle.iobufs_run.specs.declared.table.Slot.TheVariants.{Free}
-use Rattle.iobuf_lines.specs.Buffers.Commands.{Command, plain}
-use Rattle.iobuf_lines.specs.Buffers.Printed.{reply_line}
-use Rattle.iobuf_lines.specs.Buffers.Said.{command_of}
-use Rattle.iobuf_lines.specs.declared.words.LineError.{LineError}
-use Rattle.iobuf_lines.specs.declared.words.LineError.TheVariants.{NoCommand, Memory}
+use Rattle.iobuf.specs.Buffers.Commands.{Command, plain}
+use Rattle.iobuf.specs.Buffers.Printed.{reply_line}
+use Rattle.iobuf.specs.Buffers.Said.{command_of}
+use Rattle.iobuf.specs.declared.words.LineError.{LineError}
+use Rattle.iobuf.specs.declared.words.LineError.TheVariants.{NoCommand, Memory}
 use Rattle.iobuf.specs.Faults.{Halts, IsTextAt}
 use Rattle.iobuf.specs.Stops.{stop_status}
 use Rattle.iobuf.specs.declared.fault.Stop.{Stop}

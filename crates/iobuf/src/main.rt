@@ -2,14 +2,22 @@
 //!
 //! - `serve`: a session of either half, over any reader and writers.
 //! - `input`: the lines of an input, one by one. `output`: the writer of replies. `fault`: why a session ends early.
+//! - `words`: the words of a line, and the numbers and bytes that they say.
+//! - `buffers`, `owner`: a session of each half; the command or step that a line says (`line`), the line of a reply
+//!   (`reply`).
+//! - `laws`: lines say one command or step; sessions are runs.
 //! - `specs/`: `Session` and `MachineSession` say what a session answers, `Faults` what is read and written if it
-//!   can't go on.
+//!   can't go on. `Buffers` and `Owner` say what lines and replies mean.
 #![tactic(auto)]
 
+mod buffers;
 mod fault;
 mod input;
+mod laws;
 mod output;
+mod owner;
 mod serve;
+mod words;
 
 use crate::fault::{Obstacle, Stop, status, tell};
 use crate::output::Output;

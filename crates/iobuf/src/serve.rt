@@ -8,12 +8,11 @@ ghost use Rattle.iobuf.specs.Session.{HasStatus, Serves};
 ghost use Rattle.iobuf.specs.Stops.{IsFlushed, IsStatus, stop_line};
 ghost use Rattle.iobuf.specs.declared.fault.Stop.TheVariants.{OtherWords};
 
-mod buffers;
-mod machine;
-
+use crate::buffers;
 use crate::fault::{Obstacle, Stop, status, tell};
 use crate::input::{InMemory, Input, Source};
 use crate::output::{Output, Sink};
+use crate::owner;
 use std::alloc::Global;
 use std::io::{self, Read, Write};
 
@@ -39,7 +38,7 @@ fn answer_lines<I: Source, O: Sink>(
 {
     match half {
         Half::Buffers => buffers::answer_lines(alloc, input, output),
-        Half::Machine => machine::answer_lines(alloc, input, output),
+        Half::Machine => owner::answer_lines(alloc, input, output),
     }
 }
 

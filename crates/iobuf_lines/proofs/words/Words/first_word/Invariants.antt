@@ -1,5 +1,0 @@
-use Rattle.iobuf_lines.proofs.NextWord.{NoSpace}
-use Rattle.iobuf_lines.proofs.words.Words.first_word.Given as goal
-
-abbrev pub invariant-loop-place : goal.invariant-loop-place
-invariant-loop-place l = NoSpace l.line l.place
