@@ -41,26 +41,42 @@ sent_on a b c text middle rest p q = record {
 -- the first n bytes are sent if a writer took them and they are dropped
 pub sent_front : (held holds : Option (List ℕ)) (text rest : List ℕ) (n : ℕ) → Appends held holds (take n text) → rest ≡ drop n text
     → IsSent held holds text rest
-sent_front held holds text rest n h is = record { front = take n text; whole = sym (take-append-drop n text) ∙ ap (λ w. take n text ++ w) (sym is); grew = h }
+sent_front held holds text rest n h is = record {
+  front = take n text;
+  whole = sym (take-append-drop n text)
+      ∙ ap (λ w. take n text ++ w) (sym is);
+  grew = h;
+}
 
 -- where as many bytes are left, nothing did
 pub sent_none : (held holds : Option (List ℕ)) (text rest : List ℕ) → IsSent held holds text rest → length rest ≡ length text → rest ≡ text
 sent_none held holds text rest is same =
-    sym (is.whole ∙ ap (λ w. w ++ rest) (nil_from_length is.front (omega (arith, same, ap (λ (w : List ℕ). length w) is.whole, length-append is.front rest))))
+    sym (is.whole ∙ ap (λ w. w ++ rest) (nil_from_length is.front
+    (omega (arith, same, ap (λ (w : List ℕ). length w) is.whole, length-append is.front rest))))
 
 -- all of a text that went off follows what the writer held
 pub sent_all : (held holds : Option (List ℕ)) (text rest : List ℕ) → IsSent held holds text rest → rest ≡ [] → Appends held holds text
-sent_all held holds text rest is none = subst (Appends held holds) (sym (is.whole ∙ ap (λ w. is.front ++ w) none ∙ append-nil is.front)) is.grew
+sent_all held holds text rest is none = subst (Appends held holds)
+    (sym (is.whole ∙ ap (λ w. is.front ++ w) none ∙ append-nil is.front)) is.grew
 
 -- an advance by n drops n bytes
-pub length-advanced : (text new : MarkedText) (n : ℕ) → n ≤ length text.bytes → new ≡ text_advanced text n → length text.bytes ≡ n + length new.bytes
+pub length-advanced : (text new : MarkedText) (n : ℕ) → n ≤ length text.bytes → new ≡ text_advanced text n
+    → length text.bytes ≡ n + length new.bytes
 length-advanced text new n within is =
-    omega (arith, within, ap (λ (t : MarkedText). length t.bytes) is, ap (λ (w : List ℕ). length w) (bytes-advanced text n within), length-drop n text.bytes)
+    omega (
+      arith,
+      within,
+      ap (λ (t : MarkedText). length t.bytes) is,
+      ap (λ (w : List ℕ). length w) (bytes-advanced text n within),
+      length-drop n text.bytes,
+    )
 
 -- a batch is the first chunks, joined
-pub batch_bytes : {A : Type 0} (bytes_of : A → List ℕ) (slices : List A) (text : MarkedText) (most : ℕ) → map bytes_of slices ≡ take most (text_chunks text)
+pub batch_bytes : {A : Type 0} (bytes_of : A → List ℕ) (slices : List A) (text : MarkedText) (most : ℕ)
+    → map bytes_of slices ≡ take most (text_chunks text)
     → flat_map bytes_of slices ≡ flat_map (λ chunk. chunk) (take most (text_chunks text))
-batch_bytes bytes_of slices text most is = sym (flat_map-map (λ (chunk : List ℕ). chunk) bytes_of slices) ∙ ap (λ chunks. flat_map (λ chunk. chunk) chunks) is
+batch_bytes bytes_of slices text most is = sym (flat_map-map (λ (chunk : List ℕ). chunk) bytes_of slices)
+    ∙ ap (λ chunks. flat_map (λ chunk. chunk) chunks) is
 
 -- the first bytes of a batch are a prefix of the bytes
 pub front_of_chunks : {A : Type 0} (bytes_of : A → List ℕ) (slices : List A) (text : MarkedText) (most n : ℕ)
@@ -71,18 +87,21 @@ front_of_chunks bytes_of slices text most n is fits =
     let behind = flat_map (λ (piece : List ℕ). piece) (drop most (text_chunks text)) in
     let front : batch ≡ flat_map (λ piece. piece) (take most (text_chunks text)) = batch_bytes bytes_of slices text most is in
     let whole : batch ++ behind ≡ text.bytes =
-    ap (λ w. w ++ behind) front ∙ sym (flat_map-append (λ (piece : List ℕ). piece) (take most (text_chunks text)) (drop most (text_chunks text)))
+    ap (λ w. w ++ behind) front ∙ sym (flat_map-append (λ (piece : List ℕ). piece) (take most (text_chunks text))
+    (drop most (text_chunks text)))
     ∙ ap (λ pieces. flat_map (λ piece. piece) pieces) (take-append-drop most (text_chunks text)) ∙ joined-chunks text in (
       omega (arith, fits, length-append batch behind, ap (λ (w : List ℕ). length w) whole),
       sym (take-append-le n batch behind fits) ∙ ap (take n) whole,
     )
 
 -- so what a writer took of them it took of the text
-pub written_front : {A E : Type 0} (bytes_of : A → List ℕ) (slices : List A) (text : MarkedText) (most : ℕ) (held holds : Option (List ℕ)) (result : Result ℕ E)
+pub written_front : {A E : Type 0} (bytes_of : A → List ℕ) (slices : List A) (text : MarkedText) (most : ℕ) (held holds : Option (List ℕ))
+    (result : Result ℕ E)
     → map bytes_of slices ≡ take most (text_chunks text) → WritesAtMost result (flat_map bytes_of slices)
     → WriteAppends held holds result (flat_map bytes_of slices)
     → WriteAppends held holds result text.bytes
-written_front bytes_of slices text most held holds (Ok n) is bound h = subst (Appends held holds) (front_of_chunks bytes_of slices text most n is bound).1 h
+written_front bytes_of slices text most held holds (Ok n) is bound h = subst (Appends held holds)
+    (front_of_chunks bytes_of slices text most n is bound).1 h
 written_front bytes_of slices text most held holds (Err error) is bound h = h
 
 -- a writer of a batch takes no more than the bytes there are
@@ -106,14 +125,16 @@ pub stored_nothing : (had : Option (List ℕ)) (parts : List Part) → IsStored 
 stored_nothing had parts = stored_kept had had parts (Keeps-refl had)
 
 -- once and once more
-pub stored_on : (a b c : Option (List ℕ)) (old middle new : List Part) → IsStored a b old middle → IsStored b c middle new → IsStored a c old new
+pub stored_on : (a b c : Option (List ℕ)) (old middle new : List Part) → IsStored a b old middle → IsStored b c middle new
+    → IsStored a c old new
 stored_on a b c old middle new p q = record {
   read = p.read ++ q.read;
   gave = Consumes-trans a b c p.read q.read p.gave q.gave;
   filled = filled_composes old middle new p.read q.read p.filled q.filled;
 }
 
-pub stored_read : (had has : Option (List ℕ)) (old new : List Part) (read : List ℕ) → Consumes had has read → AreFilled old read new → IsStored had has old new
+pub stored_read : (had has : Option (List ℕ)) (old new : List Part) (read : List ℕ) → Consumes had has read → AreFilled old read new
+    → IsStored had has old new
 stored_read had has old new read h filled = record { read = read; gave = h; filled = filled }
 
 -- parts that are empty hold what was put, and nothing else
@@ -138,7 +159,8 @@ filled-empty (part ∷ parts) bytes none fits =
     cc (take-append-drop part.spare bytes)
 
 -- all bytes that a reader gave into empty parts
-pub stored_bytes : (had has : Option (List ℕ)) (old new : List Part) → parts_filled old ≡ [] → IsStored had has old new → Consumes had has (parts_filled new)
+pub stored_bytes : (had has : Option (List ℕ)) (old new : List Part) → parts_filled old ≡ [] → IsStored had has old new
+    → Consumes had has (parts_filled new)
 stored_bytes had has old new none is =
     subst (Consumes had has) (sym (ap parts_filled is.filled.1 ∙ filled-empty old is.read none is.filled.0)) is.gave
 
@@ -158,7 +180,8 @@ emptied_upto (part ∷ parts) n z =
         more.1,
         ap (λ (p : Part). p.spare) first,
         sum_by-cons part_capacity part parts,
-        sum_by-cons (λ (p : Part). p.spare) (part_with_len part (min n (part_capacity part))) (parts_with_len parts (n - part_capacity part)),
+        sum_by-cons (λ (p : Part). p.spare) (part_with_len part (min n (part_capacity part)))
+            (parts_with_len parts (n - part_capacity part)),
       ),
     )
 
@@ -194,7 +217,8 @@ stored_done had has parts old new text cut is frozen done =
     elim done [ inl full ↦ inl (omega (arith, long, all.1, full)) | inr ended ↦ inr ended ]
 
 -- buffers without capacity hold nothing after a store
-pub stored_none : (had has : Option (List ℕ)) (parts old new : List Part) → old ≡ parts_with_len parts 0 → IsStored had has old new → parts_capacity parts ≡ 0
+pub stored_none : (had has : Option (List ℕ)) (parts old new : List Part) → old ≡ parts_with_len parts 0 → IsStored had has old new
+    → parts_capacity parts ≡ 0
     → length (parts_filled new) ≡ 0
 stored_none had has parts old new cut is none =
     let all = stored_all had has parts old new cut is in
@@ -204,10 +228,26 @@ stored_none had has parts old new cut is none =
 pub room_less : (old new : List Part) (bytes behind : List ℕ) (n : ℕ) → AreFilled old (take n (bytes ++ behind)) new → n ≤ length bytes
     → parts_spare old ≡ n + parts_spare new
 room_less old new bytes behind n filled fits =
-    omega (arith, filled_lessens old new (take n (bytes ++ behind)) filled, length-take n (bytes ++ behind), length-append bytes behind, fits)
+    omega (
+      arith,
+      filled_lessens old new (take n (bytes ++ behind)) filled,
+      length-take n (bytes ++ behind),
+      length-append bytes behind,
+      fits,
+    )
 
 pub ruleset sending = (sent_kept, sent_nothing, sent_on, sent_front, sent_all, sent_none, bytes-advanced)
 
-pub ruleset storing = (stored_kept, stored_nothing, stored_on, stored_read, filled_lessens, stored_bytes, emptied-filled, emptied-spare, bytes-parts_frozen)
+pub ruleset storing = (
+  stored_kept,
+  stored_nothing,
+  stored_on,
+  stored_read,
+  filled_lessens,
+  stored_bytes,
+  emptied-filled,
+  emptied-spare,
+  bytes-parts_frozen,
+)
 
 pub ruleset joining = (bytes-append, bytes-joined, bytes-rest, bytes-advanced)

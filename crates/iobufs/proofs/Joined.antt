@@ -9,7 +9,8 @@ bytes-append t v = grind (arith, nat_tests, common_steps, append-nil, nil_from_l
 
 bytes-fold : (t : MarkedText) (vs : List View) → (fold text_append t vs).bytes ≡ t.bytes ++ pieces_bytes vs
 bytes-fold t [] = sym (append-nil t.bytes)
-bytes-fold t (v ∷ vs) = bytes-fold (text_append t v) vs ∙ ap (λ w. w ++ pieces_bytes vs) (bytes-append t v) ∙ append_assoc t.bytes v.bytes (pieces_bytes vs)
+bytes-fold t (v ∷ vs) = bytes-fold (text_append t v) vs ∙ ap (λ w. w ++ pieces_bytes vs) (bytes-append t v)
+    ∙ append_assoc t.bytes v.bytes (pieces_bytes vs)
 
 -- joined views have their bytes, in order
 pub bytes-joined : (vs : List View) → (joined vs).bytes ≡ pieces_bytes vs

@@ -1,4 +1,4 @@
--- Texts in several pieces: their sides, ends, readers and cuts; and with them what is cited of std and `specs/`.
+-- Texts in several chunks: their sides, ends, readers and cuts; and with them what is cited of std and `specs/`.
 pub mod ChunkLaws
 pub mod CopyLaws
 pub mod EndLaws

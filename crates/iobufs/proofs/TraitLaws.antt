@@ -38,7 +38,8 @@ spare_shared : (parts : List Part) (n : ℕ) → parts_spare (parts_shared_out p
 spare_shared [] n = refl
 spare_shared (p ∷ parts) n =
     let a = sum_by-cons (λ (x : Part). x.spare) p parts in
-    let b = sum_by-cons (λ (x : Part). x.spare) (record { filled = drop n p.filled; spare = p.spare }) (parts_shared_out parts (n - length p.filled)) in
+    let b = sum_by-cons (λ (x : Part). x.spare) (record { filled = drop n p.filled; spare = p.spare })
+    (parts_shared_out parts (n - length p.filled)) in
     let ih = spare_shared parts (n - length p.filled) in
     omega (arith, a, b, ih)
 
@@ -47,9 +48,11 @@ pub parts_keep : (parts : List Part) (n : ℕ) → parts_spare (parts_drained pa
 parts_keep [] n = refl
 parts_keep (p ∷ []) n = refl
 parts_keep (p ∷ q ∷ parts) n =
-    cond_both (n == 0) (p ∷ q ∷ parts) (kept_parts (parts_shared_out (p ∷ q ∷ parts) n)) (λ ps. parts_spare ps ≡ parts_spare (p ∷ q ∷ parts))
+    cond_both (n == 0) (p ∷ q ∷ parts) (kept_parts (parts_shared_out (p ∷ q ∷ parts) n))
+    (λ ps. parts_spare ps ≡ parts_spare (p ∷ q ∷ parts))
     (λ _. refl)
-    (λ _. let all = parts_shared_out (p ∷ q ∷ parts) n in spare_default (with_capacity all) ∙ spare_able all ∙ spare_shared (p ∷ q ∷ parts) n)
+    (λ _. let all = parts_shared_out (p ∷ q ∷ parts) n in spare_default (with_capacity all) ∙ spare_able all
+    ∙ spare_shared (p ∷ q ∷ parts) n)
 
 -- a put is an append
 pub built_bytes : (a b : Building) (w : List ℕ) → IsBuilderPut a w b → building_bytes b ≡ building_bytes a ++ w
@@ -59,7 +62,8 @@ built_bytes a b w put = ap building_bytes put.1 ∙ sym (append_assoc (items_byt
 pub built_room : (a b : Building) (w : List ℕ) → IsBuilderPut a w b → building_room a ≡ building_room b + length w
 built_room = put_lessens
 
--- A put into several buffers is no append to their bytes: it fills the first spare capacity, before bytes of later buffers. So a row of buffers is no
+-- A put into several buffers is no append to their bytes: it fills the first spare capacity, before bytes of later buffers. So a row of
+-- buffers is no
 -- `BufMut` of that crate, of which a put appends to what is written.
 pub fills_between : parts_filled (parts_fill
     ((record { filled = 1 ∷ []; spare = 1 }) ∷ (record { filled = 2 ∷ []; spare = 1 }) ∷ []) (9 ∷ [])) ≡ 1 ∷ 9 ∷ 2 ∷ []

@@ -7,7 +7,8 @@ use Rattle.iobufs_core.specs.MarkedText.{MarkedText}
 -- the bytes from a key with its mark on, cut up at the further keys
 abbrev pub cut_views : List ℕ → ℕ → Mark → List (ℕ × Mark) → List View
 cut_views bytes key mark [] = record { bytes = bytes; mark = mark } ∷ []
-cut_views bytes key mark (cut ∷ cuts) = record { bytes = take (cut.0 - key) bytes; mark = mark } ∷ cut_views (drop (cut.0 - key) bytes) cut.0 cut.1 cuts
+cut_views bytes key mark (cut ∷ cuts) = record { bytes = take (cut.0 - key) bytes; mark = mark } ∷ cut_views
+    (drop (cut.0 - key) bytes) cut.0 cut.1 cuts
 
 -- the views that a text was joined from: the only one of an empty text too
 unfoldable pub text_views : MarkedText → List View

@@ -30,8 +30,8 @@ use bytes::Bytes;
 use iobufs_core::buf::{IoBuf, IoBufMut};
 use iobufs_core::codec::{BufError, Refused};
 use pieces::{Form, Pieces, START};
+pub use row::ChunkSlice;
 use row::Row;
-pub use row::Run;
 pub use search::{Ends, Located, find_end};
 use std::alloc::{AllocError, Global};
 use std::marker::Model;
@@ -53,7 +53,6 @@ pub struct IoBufs {
     pieces: Pieces,
 }
 
-// Written out, so that what a caller proves about an `IoBufs` that it drops names no field.
 impl Drop for IoBufs {
     fn drop(self) {
         let IoBufs { pieces: _ } = self;
@@ -112,7 +111,8 @@ impl IoBufs {
     ) -> Result<IoBufs, BufError>
         requires can { I.can_next chunks }
         requires finite { IsFinite (I.remaining chunks) }
-        ensures ok { IfOk result (λ text. WholeRun I.next_gives chunks (λ run. (text_len (joined run.items) < 2 ^ 64) × (text ≡ joined run.items))) }
+        ensures ok { IfOk result (λ text. WholeRun I.next_gives chunks
+            (λ run. (text_len (joined run.items) < 2 ^ 64) × (text ≡ joined run.items))) }
         ensures err { IfErr result (λ cause. SomeRun I.next_gives chunks (λ run. IsRefusedAt run.items cause)) }
     {
         let mut text = IoBufs::default();
@@ -144,10 +144,7 @@ impl IoBufs {
     pub fn is_single(&self) -> bool
         ensures { result ≡ is_single self.now }
     {
-        match &self.pieces.form {
-            Form::One(_) => true,
-            Form::Many(_) => false,
-        }
+        self.pieces.count() == 1
     }
 
     /// Returns the number of chunks that hold bytes (`IoBufs::chunk_count`).
@@ -185,7 +182,8 @@ impl IoBufs {
         ensures nothing { at ≡ 0 → IfSome result (λ answer. IsOk answer) }
         ensures whole { at ≡ text_len self.old → IfSome result (λ answer. IsOk answer) }
         ensures first { at ≡ length (first_chunk (text_chunks self.old)) → IfSome result (λ answer. IsOk answer) }
-        ensures static_text { at ≤ length (first_chunk (text_chunks self.old)) → (taken_view self.old 0 at).mark ≡ static_mark
+        ensures static_text { at ≤ length (first_chunk (text_chunks self.old))
+            → (taken_view self.old 0 at).mark ≡ static_mark
             → IfSome result (λ answer. IsOk answer) }
         ensures last { (front : List (List ℕ)) (chunk : List ℕ) → text_chunks self.old ≡ front ++ chunk ∷ []
             → at + length chunk ≡ text_len self.old → IfSome result (λ answer. IsOk answer) }
@@ -199,7 +197,8 @@ impl IoBufs {
     /// Returns the bytes of a range as `slice` does, if it is within the bytes (own).
     pub fn try_slice(&self, alloc: Global, range: Range<usize>) -> Option<Result<IoBufs, BufError>>
         ensures fits { IsSome result ↔ ((range.start ≤ range.end) × (range.end ≤ text_len self.now)) }
-        ensures ok { IfSome result (λ answer. IfOk answer (λ text. text ≡ text_split_front (text_rest self.now range.start) (range.end - range.start))) }
+        ensures ok { IfSome result (λ answer. IfOk answer
+            (λ text. text ≡ text_split_front (text_rest self.now range.start) (range.end - range.start))) }
         ensures memory { IfSome result (λ answer. IsOkUnless answer BufError.Memory) }
         ensures nothing { range.start ≡ range.end → IfSome result (λ answer. IsOk answer) }
         ensures static_text { (taken_view self.now range.start (range.end - range.start)).mark ≡ static_mark
@@ -252,17 +251,17 @@ impl IoBufs {
         }
     }
 
-    /// Borrows the chunks from an index on as two runs, in order; of a single chunk none (own).
-    pub fn runs_from(&self, first: usize) -> (Run<'_>, Run<'_>)
+    /// Borrows the chunks from an index on as two runs, in order; of a single chunk none (own, for layers).
+    pub fn chunk_slices_from(&self, first: usize) -> (ChunkSlice<'_>, ChunkSlice<'_>)
         ensures several { is_single self.now ≡ false → result.0 ++ result.1 ≡ drop first (text_chunks self.now) }
         ensures single { is_single self.now ≡ true → result.0 ++ result.1 ≡ [] }
     {
         if self.is_single() {
-            return (Run::none(), Run::none());
+            return (ChunkSlice::none(), ChunkSlice::none());
         }
         match &self.pieces.form {
-            Form::One(_) => (Run::none(), Run::none()),
-            Form::Many(row) => row.runs_from(first),
+            Form::One(_) => (ChunkSlice::none(), ChunkSlice::none()),
+            Form::Many(row) => row.chunk_slices_from(first),
         }
     }
 
@@ -284,7 +283,8 @@ impl IoBufs {
 
     /// Returns the only chunk; several come back (`IoBufs::try_into_single`).
     pub fn try_into_single(self) -> Result<IoBuf, IoBufs>
-        ensures { MatchResult result (λ piece. self ≡ of_view piece) (λ text. (text ≡ self) × (is_single self ≡ false)) }
+        ensures { MatchResult result (λ piece. self ≡ of_view piece)
+            (λ text. (text ≡ self) × (is_single self ≡ false)) }
     {
         let IoBufs { pieces } = self;
         match pieces.into_single() {
@@ -301,8 +301,10 @@ impl IoBufs {
         ensures done { OnOk result (self.new ≡ text_append self.old piece) }
         ensures unchanged { OnErr result (self.new ≡ self.old) }
         ensures handed_back { IfErr result (λ refused. refused.value ≡ piece) }
-        ensures too_long { 2 ^ 64 ≤ text_len self.old + length piece.bytes → IsErrAnd result (λ refused. refused.cause ≡ BufError.TooLong) }
-        ensures memory { text_len self.old + length piece.bytes < 2 ^ 64 → IfErr result (λ refused. refused.cause ≡ BufError.Memory) }
+        ensures too_long { 2 ^ 64 ≤ text_len self.old + length piece.bytes
+            → IsErrAnd result (λ refused. refused.cause ≡ BufError.TooLong) }
+        ensures memory { text_len self.old + length piece.bytes < 2 ^ 64
+            → IfErr result (λ refused. refused.cause ≡ BufError.Memory) }
         ensures nothing { length piece.bytes ≡ 0 → IsOk result }
         ensures onto_nothing { text_len self.old ≡ 0 → IsOk result }
     {
@@ -323,8 +325,10 @@ impl IoBufs {
         ensures done { OnOk result (self.new ≡ text_append self.old piece) }
         ensures unchanged { OnErr result (self.new ≡ self.old) }
         ensures handed_back { IfErr result (λ refused. refused.value ≡ piece) }
-        ensures too_long { 2 ^ 64 ≤ text_len self.old + length piece.bytes → IsErrAnd result (λ refused. refused.cause ≡ BufError.TooLong) }
-        ensures memory { text_len self.old + length piece.bytes < 2 ^ 64 → IfErr result (λ refused. refused.cause ≡ BufError.Memory) }
+        ensures too_long { 2 ^ 64 ≤ text_len self.old + length piece.bytes
+            → IsErrAnd result (λ refused. refused.cause ≡ BufError.TooLong) }
+        ensures memory { text_len self.old + length piece.bytes < 2 ^ 64
+            → IfErr result (λ refused. refused.cause ≡ BufError.Memory) }
         ensures nothing { length piece.bytes ≡ 0 → IsOk result }
         ensures onto_nothing { text_len self.old ≡ 0 → IsOk result }
     {
@@ -358,8 +362,10 @@ impl IoBufs {
         ensures done { OnOk result (self.new ≡ text_prepend self.old piece) }
         ensures unchanged { OnErr result (self.new ≡ self.old) }
         ensures handed_back { IfErr result (λ refused. refused.value ≡ piece) }
-        ensures too_long { 2 ^ 64 ≤ text_len self.old + length piece.bytes → IsErrAnd result (λ refused. refused.cause ≡ BufError.TooLong) }
-        ensures memory { text_len self.old + length piece.bytes < 2 ^ 64 → IfErr result (λ refused. refused.cause ≡ BufError.Memory) }
+        ensures too_long { 2 ^ 64 ≤ text_len self.old + length piece.bytes
+            → IsErrAnd result (λ refused. refused.cause ≡ BufError.TooLong) }
+        ensures memory { text_len self.old + length piece.bytes < 2 ^ 64
+            → IfErr result (λ refused. refused.cause ≡ BufError.Memory) }
         ensures nothing { length piece.bytes ≡ 0 → IsOk result }
         ensures onto_nothing { text_len self.old ≡ 0 → IsOk result }
     {
@@ -373,15 +379,18 @@ impl IoBufs {
         self.prepend_any(alloc, piece)
     }
 
-    // Adds any buffer at the start of any `IoBufs`. In one function with `prepend`, `text64_prepend` takes 1.6 times the
+    // Adds any buffer at the start of any `IoBufs`. In one function with `prepend`, `text64_prepend` takes 1.6 times
+    // the
     // instructions.
     #[inline(never)]
     fn prepend_any(&mut self, alloc: Global, piece: IoBuf) -> Result<(), Refused<IoBuf>>
         ensures done { OnOk result (self.new ≡ text_prepend self.old piece) }
         ensures unchanged { OnErr result (self.new ≡ self.old) }
         ensures handed_back { IfErr result (λ refused. refused.value ≡ piece) }
-        ensures too_long { 2 ^ 64 ≤ text_len self.old + length piece.bytes → IsErrAnd result (λ refused. refused.cause ≡ BufError.TooLong) }
-        ensures memory { text_len self.old + length piece.bytes < 2 ^ 64 → IfErr result (λ refused. refused.cause ≡ BufError.Memory) }
+        ensures too_long { 2 ^ 64 ≤ text_len self.old + length piece.bytes
+            → IsErrAnd result (λ refused. refused.cause ≡ BufError.TooLong) }
+        ensures memory { text_len self.old + length piece.bytes < 2 ^ 64
+            → IfErr result (λ refused. refused.cause ≡ BufError.Memory) }
         ensures nothing { length piece.bytes ≡ 0 → IsOk result }
         ensures onto_nothing { text_len self.old ≡ 0 → IsOk result }
     {
@@ -420,8 +429,10 @@ impl IoBufs {
         ensures nothing { at ≡ 0 → IsOk result }
         ensures whole { at ≡ text_len self.old → IsOk result }
         ensures first { at ≡ length (first_chunk (text_chunks self.old)) → IsOk result }
-        ensures static_text { at ≤ length (first_chunk (text_chunks self.old)) → (taken_view self.old 0 at).mark ≡ static_mark → IsOk result }
-        ensures last { (front : List (List ℕ)) (chunk : List ℕ) → text_chunks self.old ≡ front ++ chunk ∷ [] → at + length chunk ≡ text_len self.old
+        ensures static_text { at ≤ length (first_chunk (text_chunks self.old))
+            → (taken_view self.old 0 at).mark ≡ static_mark → IsOk result }
+        ensures last { (front : List (List ℕ)) (chunk : List ℕ) → text_chunks self.old ≡ front ++ chunk ∷ []
+            → at + length chunk ≡ text_len self.old
             → IsOk result }
     {
         if at == 0 {
@@ -443,8 +454,10 @@ impl IoBufs {
         ensures memory { IsOkUnless result BufError.Memory }
         ensures nothing { len ≡ 0 → IsOk result }
         ensures first { len ≡ length (first_chunk (text_chunks self.old)) → IsOk result }
-        ensures static_text { len ≤ length (first_chunk (text_chunks self.old)) → (taken_view self.old 0 len).mark ≡ static_mark → IsOk result }
-        ensures last { (front : List (List ℕ)) (chunk : List ℕ) → text_chunks self.old ≡ front ++ chunk ∷ [] → len + length chunk ≡ text_len self.old
+        ensures static_text { len ≤ length (first_chunk (text_chunks self.old))
+            → (taken_view self.old 0 len).mark ≡ static_mark → IsOk result }
+        ensures last { (front : List (List ℕ)) (chunk : List ℕ) → text_chunks self.old ≡ front ++ chunk ∷ []
+            → len + length chunk ≡ text_len self.old
             → IsOk result }
     {
         if len >= self.len() {
@@ -461,10 +474,12 @@ impl IoBufs {
     pub fn slice(&self, alloc: Global, range: Range<usize>) -> Result<IoBufs, BufError>
         requires order { range.start ≤ range.end }
         requires inside { range.end ≤ text_len self.now }
-        ensures ok { IfOk result (λ text. text ≡ text_split_front (text_rest self.now range.start) (range.end - range.start)) }
+        ensures ok { IfOk result (λ text. text ≡ text_split_front (text_rest self.now range.start)
+            (range.end - range.start)) }
         ensures memory { IsOkUnless result BufError.Memory }
         ensures nothing { range.start ≡ range.end → IsOk result }
-        ensures static_text { (taken_view self.now range.start (range.end - range.start)).mark ≡ static_mark → IsOk result }
+        ensures static_text { (taken_view self.now range.start (range.end - range.start)).mark ≡ static_mark
+            → IsOk result }
     {
         let Range { start, end } = range;
         if start == end {
@@ -542,7 +557,8 @@ fn gathered(alloc: Global, mut row: Row) -> Result<IoBuf, BufError>
     requires { 0 < length row.views }
     ensures ok { IfOk result (λ view. of_view view ≡ text_coalesced (of_pieces row.views)) }
     ensures single { length row.views ≡ 1 → IsOk result }
-    ensures bad_layout { 1 < length row.views → 2 ^ 63 ≤ length (pieces_bytes row.views) → result ≡ Err BufError.BadLayout }
+    ensures bad_layout { 1 < length row.views → 2 ^ 63 ≤ length (pieces_bytes row.views)
+        → result ≡ Err BufError.BadLayout }
     ensures memory { length (pieces_bytes row.views) < 2 ^ 63 → IsOkUnless result BufError.Memory }
 {
     if row.count() == 1 {
@@ -572,7 +588,8 @@ impl From<IoBuf> for IoBufs {
 }
 
 impl From<Bytes> for IoBufs {
-    ghost from_gives = { λ bytes b. b ≡ of_view (if length bytes == 0 then default_view else record { bytes = bytes; mark = bytes_mark }) };
+    ghost from_gives = { λ bytes b. b ≡ of_view
+        (if length bytes == 0 then default_view else record { bytes = bytes; mark = bytes_mark }) };
 
     fn from(bytes: Bytes) -> IoBufs {
         IoBufs::from(IoBuf::from(bytes))
@@ -591,7 +608,8 @@ impl Clone for IoBufs {
     ghost is_clone = { λ a b. b ≡ a };
 
     // One chunk whose clone allocates nothing.
-    ghost is_infallible = { λ text. (is_single text ≡ true) × IsFreelyShared (record { bytes = text.bytes; mark = text.mark }) };
+    ghost is_infallible = { λ text. (is_single text ≡ true)
+        × IsFreelyShared (record { bytes = text.bytes; mark = text.mark }) };
 
     fn clone(&self) -> Result<IoBufs, AllocError> {
         let pieces = self.pieces.clone()?;
@@ -628,7 +646,8 @@ impl Eq for IoBufs {
 }
 
 impl fmt::Debug for IoBufs {
-    ghost debug_output = { λ t. Some (codes "IoBufs { len: " ++ decimal (text_len t) ++ codes ", chunks: " ++ decimal (chunk_count t) ++ codes " }") };
+    ghost debug_output = { λ t. Some (codes "IoBufs { len: " ++ decimal (text_len t) ++ codes ", chunks: "
+        ++ decimal (chunk_count t) ++ codes " }") };
 
     fn fmt<W: fmt::Write>(&self, f: &mut fmt::Formatter<W>) -> fmt::Result {
         let len = self.len();
@@ -692,7 +711,8 @@ impl FromIterator<IoBuf> for IoBufs {
         alloc: Global,
         iter: U,
     ) -> Result<IoBufs, AllocError>
-        requires { (it : U.IntoIter) → U.into_iter_gives iter it → U.IntoIter.can_next it × IsFinite (U.IntoIter.remaining it) }
+        requires { (it : U.IntoIter) → U.into_iter_gives iter it
+            → U.IntoIter.can_next it × IsFinite (U.IntoIter.remaining it) }
         ensures ran { IfOk result (λ bufs. (it : U.IntoIter) × (views : List View)
             × U.into_iter_gives iter it × DrainsIf U.IntoIter.next_gives ⊤ it views × (bufs ≡ joined views)) }
         ensures err { OnErr result ((it : U.IntoIter) × (cause : BufError)

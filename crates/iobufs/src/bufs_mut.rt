@@ -38,7 +38,6 @@ pub struct IoBufsMut {
     shape: Shape,
 }
 
-// Written out, so that what a caller proves about parts that it drops names no field.
 impl Drop for IoBufsMut {
     fn drop(self) {
         let IoBufsMut { shape: _ } = self;
@@ -156,7 +155,8 @@ impl IoBufsMut {
     ) -> Result<IoBufsMut, BufError>
         requires can { I.can_next items }
         requires finite { IsFinite (I.remaining items) }
-        ensures ok { IfOk result (λ parts. WholeRun I.next_gives items (λ run. (parts_capacity run.items < 2 ^ 64) × (parts ≡ kept_parts run.items))) }
+        ensures ok { IfOk result (λ parts. WholeRun I.next_gives items
+            (λ run. (parts_capacity run.items < 2 ^ 64) × (parts ≡ kept_parts run.items))) }
         ensures err { IfErr result (λ cause. SomeRun I.next_gives items (λ run. IsRowRefusedAt run.items cause)) }
     {
         let expected = items.size_hint().0;
@@ -329,7 +329,8 @@ impl IoBufsMut {
     }
 
     /// Returns one buffer; several are copied, without spare capacity (`IoBufsMut::coalesce`): into the first of two or
-    /// three, if all bytes fit it, and are half of it or it has at most 4 KiB. Fails with `BufError::BadLayout` exactly if
+    /// three, if all bytes fit it, and are half of it or it has at most 4 KiB. Fails with `BufError::BadLayout` exactly
+    /// if
     /// two or more hold more than `isize::MAX` bytes.
     #[tactic(auto, using(crate::proofs::Parts::Coalesced::coalescing, crate::proofs::Parts::FewLaws::freezing_few))]
     pub fn coalesce(mut self, alloc: Global) -> Result<IoBufMut, BufError>
@@ -525,7 +526,8 @@ impl FromIterator<IoBufMut> for IoBufsMut {
         alloc: Global,
         iter: U,
     ) -> Result<IoBufsMut, AllocError>
-        requires { (it : U.IntoIter) → U.into_iter_gives iter it → U.IntoIter.can_next it × IsFinite (U.IntoIter.remaining it) }
+        requires { (it : U.IntoIter) → U.into_iter_gives iter it
+            → U.IntoIter.can_next it × IsFinite (U.IntoIter.remaining it) }
         ensures ran { IfOk result (λ bufs. (it : U.IntoIter) × (parts : List Part)
             × U.into_iter_gives iter it × DrainsIf U.IntoIter.next_gives ⊤ it parts × (bufs ≡ kept_parts parts)) }
         ensures err { OnErr result ((it : U.IntoIter) × (cause : BufError)
@@ -539,7 +541,8 @@ impl FromIterator<IoBufMut> for IoBufsMut {
 }
 
 impl fmt::Debug for IoBufsMut {
-    ghost debug_output = { λ parts. Some (codes "IoBufsMut { len: " ++ decimal (length (parts_filled parts)) ++ codes ", cap: " ++ decimal (parts_capacity parts) ++ codes " }") };
+    ghost debug_output = { λ parts. Some (codes "IoBufsMut { len: " ++ decimal (length (parts_filled parts))
+        ++ codes ", cap: " ++ decimal (parts_capacity parts) ++ codes " }") };
 
     fn fmt<W: fmt::Write>(&self, f: &mut fmt::Formatter<W>) -> fmt::Result {
         let len = self.len();

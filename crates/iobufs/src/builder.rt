@@ -31,7 +31,6 @@ pub struct Builder {
     pushable: usize,
 }
 
-// Written out, so that what a caller proves about a builder that it drops names no field.
 impl Drop for Builder {
     fn drop(self) {
         let Builder {
@@ -211,11 +210,14 @@ pub trait EncodeExt: Write {
     final fn encode_iobufs(&self, alloc: Global) -> Result<IoBufs, Error>
     where
         Self: Sized,
-        ensures pieces { IfOk result (λ text. text ≡ finished (building_after (empty_building (items_inline (Self.items self.now))) (Self.items self.now))) }
+        ensures pieces { IfOk result (λ text. text ≡ finished
+            (building_after (empty_building (items_inline (Self.items self.now))) (Self.items self.now))) }
         ensures bytes { IfOk result (λ text. text.bytes ≡ Self.written self.now) }
         ensures too_long { 2 ^ 64 ≤ length (Self.written self.now) → result ≡ Err Error.TooLong }
-        ensures bad_layout { length (Self.written self.now) < 2 ^ 64 → 2 ^ 63 ≤ items_inline (Self.items self.now) → result ≡ Err Error.BadLayout }
-        ensures memory { length (Self.written self.now) < 2 ^ 64 → items_inline (Self.items self.now) < 2 ^ 63 → IsOkUnless result Error.Memory }
+        ensures bad_layout { length (Self.written self.now) < 2 ^ 64 → 2 ^ 63 ≤ items_inline (Self.items self.now)
+            → result ≡ Err Error.BadLayout }
+        ensures memory { length (Self.written self.now) < 2 ^ 64 → items_inline (Self.items self.now) < 2 ^ 63
+            → IsOkUnless result Error.Memory }
         ensures nothing { length (Self.written self.now) ≡ 0 → IsOk result }
     {
         if self.encode_size().is_none() {

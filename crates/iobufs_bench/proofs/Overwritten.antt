@@ -12,7 +12,8 @@ length-part part bytes =
       length-drop (length bytes) part.filled,
     )
 
-pub length_overwritten : (parts : List Part) (bytes : List ℕ) → length (parts_filled (parts_overwritten parts bytes)) ≡ length (parts_filled parts)
+pub length_overwritten : (parts : List Part) (bytes : List ℕ)
+    → length (parts_filled (parts_overwritten parts bytes)) ≡ length (parts_filled parts)
 length_overwritten [] bytes = refl
 length_overwritten (part ∷ parts) bytes =
     let share = take (length part.filled) bytes in

@@ -14,7 +14,7 @@ ghost use Rattle.iobufs_c.specs.Rows.{chunk_len, part_or_empty};
 use crate::part::PartAt;
 use crate::status::{Status, refusal};
 use crate::view::{ViewAt, ViewRoom, address};
-use iobufs::bufs::{IoBufs, Run};
+use iobufs::bufs::{IoBufs, ChunkSlice};
 use iobufs_core::buf::IoBuf;
 use iobufs_core::codec::{Buf, OwnedBuf, Peek};
 use std::alloc::Global;
@@ -644,7 +644,7 @@ pub(crate) fn chunk_of(bytes: &[u8]) -> Chunk
 }
 
 // Fills a list with the addresses and lengths of the first chunks of a run, and returns how many it filled.
-fn fill_run(run: &Run, out: &mut [Chunk]) -> usize
+fn fill_run(run: &ChunkSlice, out: &mut [Chunk]) -> usize
     ensures count { result ≡ min (length out.old) (length run.now) }
     ensures lengths { map (λ chunk. chunk.len) (take result out.new) ≡ map length (take result run.now) }
     ensures rest { drop result out.new ≡ drop result out.old }
@@ -688,7 +688,7 @@ fn fill_chunks(text: &IoBufs, first: usize, out: &mut [Chunk]) -> usize
     if text.is_single() {
         return fill_each(text, first, out);
     }
-    let (front, behind) = text.runs_from(first);
+    let (front, behind) = text.chunk_slices_from(first);
     let count = fill_run(&front, out);
     count + fill_run(&behind, &mut out[count..])
 }

@@ -39,10 +39,12 @@ bytes-split_front text at h = grind (arith, nat_tests, common_steps, take_all)
 
 -- the input was the encoding of the view that is read, followed by the rest
 pub read_and_left : (text rest : MarkedText) (range : RangeCfg) (result : Result View Error) → IsViewRead text range result
-    → IfOk result (λ view. rest ≡ text_rest text (length (view_written view))) → IfOk result (λ view. text.bytes ≡ view_written view ++ rest.bytes)
+    → IfOk result (λ view. rest ≡ text_rest text (length (view_written view)))
+    → IfOk result (λ view. text.bytes ≡ view_written view ++ rest.bytes)
 read_and_left text rest range (Ok view) (n, (((small, at), inside), long), is) left =
     let there = view_there text n view at long is in
-    there.whole ∙ ap (λ xs. view_written view ++ xs) (sym (ap (λ (t : MarkedText). t.bytes) left ∙ bytes-rest text (length (view_written view)) there.within))
+    there.whole ∙ ap (λ xs. view_written view ++ xs)
+    (sym (ap (λ (t : MarkedText). t.bytes) left ∙ bytes-rest text (length (view_written view)) there.within))
 read_and_left text rest range (Err error) is left = tt
 
 -- its length is in the range
@@ -63,9 +65,11 @@ read_at_most text range (Ok view) is = high_end range (length view.bytes) (read_
 read_at_most text range (Err error) is = tt
 
 -- written bytes, in the range, are read back
-pub written_read_back : (text left : MarkedText) (range : RangeCfg) (result : Result View Error) (body rest : List ℕ) → IsViewRead text range result
+pub written_read_back : (text left : MarkedText) (range : RangeCfg) (result : Result View Error) (body rest : List ℕ)
+    → IsViewRead text range result
     → IfOk result (λ view. left ≡ text_rest text (length (view_written view)))
-    → length body < 2 ^ 64 → in_range range (length body) ≡ true → text.bytes ≡ bytes_written body ++ rest → AreReadBack body rest left.bytes result
+    → length body < 2 ^ 64 → in_range range (length body) ≡ true → text.bytes ≡ bytes_written body ++ rest
+    → AreReadBack body rest left.bytes result
 written_read_back text left range (Ok view) body rest is behind small inside e =
     let same : body ≡ view.bytes = view_back (record { bytes = body; mark = static_mark }) range text rest (Ok view) small inside e is in
     let whole = read_and_left text left range (Ok view) is behind in
@@ -74,7 +78,8 @@ written_read_back text left range (Err error) body rest is behind small inside e
     view_back (record { bytes = body; mark = static_mark }) range text rest (Err error) small inside e is
 
 -- the bytes that were written are read
-pub read_back_is : (body rest left : List ℕ) (result : Result View Error) → AreReadBack body rest left result → IfOk result (λ view. view.bytes ≡ body)
+pub read_back_is : (body rest left : List ℕ) (result : Result View Error) → AreReadBack body rest left result
+    → IfOk result (λ view. view.bytes ≡ body)
 read_back_is body rest left (Ok view) is = is.0
 read_back_is body rest left (Err error) is = tt
 
@@ -89,12 +94,14 @@ one_front a b x y small least e =
     let whole : spell (length a) ++ (a ++ x) ≡ spell (length b) ++ (b ++ y) =
     sym (append_assoc (spell (length a)) a x) ∙ e ∙ append_assoc (spell (length b)) b y in
     let long : length a ≡ length b = spell_begins (length a) (length b) (a ++ x) (b ++ y) small least whole in
-    let tail : a ++ x ≡ b ++ y = append_cancel_left (spell (length a)) (a ++ x) (b ++ y) (whole ∙ ap (λ n. spell n ++ (b ++ y)) (sym long)) in
+    let tail : a ++ x ≡ b ++ y = append_cancel_left (spell (length a)) (a ++ x) (b ++ y)
+    (whole ∙ ap (λ n. spell n ++ (b ++ y)) (sym long)) in
     let same : a ≡ b = sym (take-append_seam a x) ∙ ap (take (length a)) tail ∙ ap (λ n. take n (b ++ y)) long ∙ take-append_seam b y in
     (same, append_cancel_left a x y (tail ∙ ap (λ w. w ++ y) (sym same)))
 
 -- the input was the encoding of the number that is read, followed by the rest
-pub number_and_left : (written : ℕ → List ℕ) (size : ℕ) (text rest : MarkedText) (result : Result ℕ Error) → IsNumberRead written size text.bytes result
+pub number_and_left : (written : ℕ → List ℕ) (size : ℕ) (text rest : MarkedText) (result : Result ℕ Error)
+    → IsNumberRead written size text.bytes result
     → IfOk result (λ n. rest ≡ text_advanced text size) → IfOk result (λ n. text.bytes ≡ written n ++ rest.bytes)
 number_and_left written size text rest (Ok n) read left =
     let behind : rest.bytes ≡ drop size text.bytes = ap (λ (t : MarkedText). t.bytes) left ∙ bytes-advanced text size read.long in
@@ -122,7 +129,8 @@ pub bytes-part_frozen : (part : Part) → (part_frozen part).bytes ≡ part.fill
 bytes-part_frozen part = grind (arith, nat_tests, common_steps, nil_from_length)
 
 -- the bytes of a slice are those of its range
-pub bytes-view_between : (view : View) (from to : ℕ) → from ≤ to → to ≤ length view.bytes → (view_between view from to).bytes ≡ drop from (take to view.bytes)
+pub bytes-view_between : (view : View) (from to : ℕ) → from ≤ to → to ≤ length view.bytes
+    → (view_between view from to).bytes ≡ drop from (take to view.bytes)
 bytes-view_between view from to order within = grind (arith, nat_tests, common_steps, length-take, drop_all)
 
 -- after a first text, a beginning of a second one is a beginning of both and of all that follows
@@ -134,7 +142,8 @@ begun_behind old first second behind middle new put begun =
       front = first ++ front;
       back = back ++ behind;
       whole =
-          append_assoc first front (back ++ behind) ∙ ap (λ xs. first ++ xs) (sym (append_assoc front back behind) ∙ ap (λ xs. xs ++ behind) begun.whole);
+          append_assoc first front (back ++ behind)
+          ∙ ap (λ xs. first ++ xs) (sym (append_assoc front back behind) ∙ ap (λ xs. xs ++ behind) begun.whole);
       left = begun.left ∙ ap (λ xs. xs ++ front) put ∙ append_assoc old first front;
     }
 

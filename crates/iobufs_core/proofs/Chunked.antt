@@ -6,12 +6,14 @@ use Rattle.iobufs_core.specs.View.{Mark}
 use Rattle.iobufs_core.specs.MarkedText.{MarkedText, AreCuts, IsMarked, cut_up, text_chunks, text_len}
 
 -- a chunk that holds bytes counts
-full_one : (chunk : List ℕ) (chunks : List (List ℕ)) → 0 < length chunk → length (full_chunks (chunk ∷ chunks)) ≡ suc (length (full_chunks chunks))
+full_one : (chunk : List ℕ) (chunks : List (List ℕ)) → 0 < length chunk
+    → length (full_chunks (chunk ∷ chunks)) ≡ suc (length (full_chunks chunks))
 full_one [] chunks some = absurd (omega arith)
 full_one (byte ∷ bytes) chunks some = refl
 
 -- bytes that are cut up between rising cuts are so many chunks that hold bytes
-length-cut_up : (bytes : List ℕ) (key : ℕ) (mark : Mark) (cuts : List (ℕ × Mark)) (end : ℕ) → AreCuts key mark cuts end → key < end → length bytes ≡ end - key
+length-cut_up : (bytes : List ℕ) (key : ℕ) (mark : Mark) (cuts : List (ℕ × Mark)) (end : ℕ) → AreCuts key mark cuts end → key < end
+    → length bytes ≡ end - key
     → length (full_chunks (cut_up bytes key cuts)) ≡ suc (length cuts)
 length-cut_up bytes key mark [] end are some long = full_one bytes [] (omega arith)
 length-cut_up bytes key mark (cut ∷ cuts) end (is, others) some long =

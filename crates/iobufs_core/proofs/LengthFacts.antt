@@ -36,7 +36,11 @@ spells (b ∷ c ∷ bs) = elim (less b 128) [
     | inl byte ↦ elim (spells (c ∷ bs)) [
       | inr none ↦ inr (λ n is. none is.high is.rest)
       | inl (high, rest) ↦ elim (less 0 high) [
-        | inl some ↦ inl (b + 128 * high - 128, record { top = top; byte = byte; high = high; some = some; sum = omega (arith, top); rest = rest })
+        | inl some ↦ inl (
+          b + 128 * high - 128,
+          record
+              { top = top; byte = byte; high = high; some = some; sum = omega (arith, top); rest = rest },
+        )
         | inr none ↦ inr (λ n is.
             let same : high ≡ is.high = (one_form (c ∷ bs) (c ∷ bs) [] [] high is.high rest is.rest refl).1 in
             let some = is.some in omega (arith, none, some, same))
@@ -61,7 +65,8 @@ by_bytes : (text : List ℕ) (k : ℕ) → NoneBelow text k → ((n : ℕ) × Is
 unfolding NoneBelow
 by_bytes text k none = elim (less (length text) k) [
   | inl beyond ↦ inr (one_more text k none (λ n small is.
-      let all : take k text ≡ take (length text) text = take_all k text (omega (arith, beyond)) ∙ sym (take_all (length text) text (omega arith)) in
+      let all : take k text ≡ take (length text) text = take_all k text (omega (arith, beyond))
+      ∙ sym (take_all (length text) text (omega arith)) in
       none n (length text) beyond small (subst (λ (w : List ℕ). IsSpelling w n) all is)))
   | inr within ↦ elim (spells (take k text)) [
     | inr nothing ↦ inr (one_more text k none (λ n small is. nothing n is))
@@ -147,7 +152,8 @@ still_closed bytes more closed opened =
 begins : (xs ys front back : List ℕ) → xs ++ ys ≡ front ++ back → length front < length xs → xs ≡ front ++ drop (length front) xs
 begins xs ys front back e few =
     let same : take (length front) xs ≡ front =
-    sym (take-append-le (length front) xs ys (omega arith)) ∙ ap (take (length front)) e ∙ take-append-le (length front) front back (omega arith)
+    sym (take-append-le (length front) xs ys (omega arith)) ∙ ap (take (length front)) e
+    ∙ take-append-le (length front) front back (omega arith)
     ∙ take_all (length front) front (omega arith) in
     sym (take-append-drop (length front) xs) ∙ ap (λ w. w ++ drop (length front) xs) same
 

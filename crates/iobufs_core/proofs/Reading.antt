@@ -15,11 +15,13 @@ pub record IsSoFar (text : List ℕ) (i value place : ℕ) : Type 0 where
   pub high : AreHigh (take i text)
   pub place_is : place ≡ 128 ^ i
   pub below : value < place
-  pub completes : (tail : List ℕ) (rest : ℕ) → IsSpelling tail rest → (i ≡ 0) ⊎ (0 < rest) → IsSpelling (take i text ++ tail) (value + place * rest)
+  pub completes : (tail : List ℕ) (rest : ℕ) → IsSpelling tail rest → (i ≡ 0) ⊎ (0 < rest)
+      → IsSpelling (take i text ++ tail) (value + place * rest)
 
 -- the byte after those that were read
 pub next_byte : (text : List ℕ) (i b : ℕ) → slice_get text i ≡ Some b → take (i + 1) text ≡ take i text ++ b ∷ []
-next_byte text i b e = take_more text i b (slice_get_within text i b e) ∙ ap (λ x. take i text ++ x ∷ []) (get_or_from_slice_get text i b b e)
+next_byte text i b e = take_more text i b (slice_get_within text i b e)
+    ∙ ap (λ x. take i text ++ x ∷ []) (get_or_from_slice_get text i b b e)
 
 place_below : (i place : ℕ) → i ≤ 8 → place ≡ 128 ^ i → place ≤ 128 ^ 8
 place_below i place h e = let le = pow-le-pow_right {n = 128} (omega arith) h in omega arith
@@ -48,7 +50,8 @@ more_so_far text i value place b so e low top =
           let list : take i text ++ b ∷ tail ≡ take (i + 1) text ++ tail =
           sym (append_assoc (take i text) (b ∷ []) tail) ∙ ap (λ xs. xs ++ tail) (sym take_is) in
           let number = regroup value place (b - 128) rest in
-          subst (λ xs. IsSpelling xs (value + place * (b - 128) + place * 128 * rest)) list (subst (IsSpelling (take i text ++ b ∷ tail)) number all);
+          subst (λ xs. IsSpelling xs (value + place * (b - 128) + place * 128 * rest)) list
+          (subst (IsSpelling (take i text ++ b ∷ tail)) number all);
     }
 
 -- the byte that ends a spelling
@@ -74,7 +77,8 @@ pub record IsSmall (value place b : ℕ) : Type 0 where
   pub product : place * b < 2 ^ 63
   pub sum : value + place * b < 2 ^ 63
 
--- where at most eight bytes are read and the next one has seven bits at most, all numbers are small: the place is at most 2^56, product and sum are below 2^63
+-- where at most eight bytes are read and the next one has seven bits at most, all numbers are small: the place is at most 2^56, product and
+-- sum are below 2^63
 pub small : (text : List ℕ) (i value place b : ℕ) → IsSoFar text i value place → i ≤ 8 → b ≤ 127 → IsSmall value place b
 small text i value place b so h low =
     let few = place_below i place h so.place_is in
@@ -101,18 +105,21 @@ not_high (x ∷ xs) zero b e low high = let same : x ≡ b = cc in let up = high
 not_high (x ∷ xs) (suc i) b e low high = not_high xs i b e low high.1
 
 -- a 0 after such bytes
-pub zero_behind : (text : List ℕ) (i value place : ℕ) → IsSoFar text i value place → 0 < i → slice_get text i ≡ Some 0 → HasNoLength text × (IsOpen text → ⊥)
+pub zero_behind : (text : List ℕ) (i value place : ℕ) → IsSoFar text i value place → 0 < i → slice_get text i ≡ Some 0
+    → HasNoLength text × (IsOpen text → ⊥)
 zero_behind text i value place so some e =
     let within = slice_get_within text i 0 e in
     let take_is = next_byte text i 0 e in
     let whole : take i text ++ 0 ∷ drop (i + 1) text ≡ text =
-    sym (append_assoc (take i text) (0 ∷ []) (drop (i + 1) text)) ∙ ap (λ xs. xs ++ drop (i + 1) text) (sym take_is) ∙ take-append-drop (i + 1) text in
+    sym (append_assoc (take i text) (0 ∷ []) (drop (i + 1) text)) ∙ ap (λ xs. xs ++ drop (i + 1) text) (sym take_is)
+    ∙ take-append-drop (i + 1) text in
     let long : 0 < length (take i text) = omega (arith, length-take-le i text so.inside) in
     let none = none_zero (take i text) (drop (i + 1) text) long so.high in
     (subst (λ (xs : List ℕ). HasNoLength xs) whole none, λ opened. not_high text i 0 e (omega arith) opened.1)
 
 -- a tenth byte that is not 1
-tenth : (text : List ℕ) (value place b : ℕ) → IsSoFar text 9 value place → slice_get text 9 ≡ Some b → b ≢ 1 → HasNoLength text × (IsOpen text → ⊥)
+tenth : (text : List ℕ) (value place b : ℕ) → IsSoFar text 9 value place → slice_get text 9 ≡ Some b → b ≢ 1
+    → HasNoLength text × (IsOpen text → ⊥)
 tenth text value place b so e other =
     let within = slice_get_within text 9 b e in
     let take_is : take 10 text ≡ take 9 text ++ b ∷ [] = next_byte text 9 b e in
@@ -144,7 +151,8 @@ tenth_one text i value place so nine e =
     (subst (IsSpelledAt text) once found.0, (found.1 ∙ ap (λ n. length (spell n)) once))
 
 -- or another one
-pub tenth_other : (text : List ℕ) (i value place b : ℕ) → IsSoFar text i value place → i ≡ 9 → slice_get text 9 ≡ Some b → b ≢ 1 → HasNoLength text
+pub tenth_other : (text : List ℕ) (i value place b : ℕ) → IsSoFar text i value place → i ≡ 9 → slice_get text 9 ≡ Some b → b ≢ 1
+    → HasNoLength text
     × (IsOpen text → ⊥)
 tenth_other text i value place b so nine e other = tenth text value place b (subst (λ k. IsSoFar text k value place) nine so) e other
 

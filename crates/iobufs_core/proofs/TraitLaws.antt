@@ -32,7 +32,8 @@ pub took_front : (n : ℕ) (text copied dst new : List ℕ) → n ≡ min (lengt
     → (text ≡ take n (copied ++ drop n dst) ++ new) × (n ≡ 0 → 0 < length (copied ++ drop n dst) → new ≡ [])
 took_front n text copied dst new is took rest =
     let long : length copied ≡ n = omega (arith, ap length took, length-take n text, is) in
-    let front : take n (copied ++ drop n dst) ≡ copied = take-append-le n copied (drop n dst) (omega (arith, long)) ∙ take_all n copied (omega (arith, long)) in
+    let front : take n (copied ++ drop n dst) ≡ copied = take-append-le n copied (drop n dst) (omega (arith, long))
+    ∙ take_all n copied (omega (arith, long)) in
     let whole : text ≡ copied ++ new = sym (take-append-drop n text) ∙ (λ i. sym took i ++ sym rest i) in (
       whole ∙ ap (λ w. w ++ new) (sym front),
       λ none room. nil_from_length new

@@ -32,14 +32,16 @@ bytes_one xs ys u v p q e =
     sym (take-append_seam xs u) ∙ ap (take k) behind ∙ take_at ys v k (sym same)
 
 pub bytes_front : (text : MarkedText) (range : RangeCfg) (bytes : List ℕ) → IsBytesRead text range (Ok bytes)
-    → ((length bytes < 2 ^ 64) × (in_range range (length bytes) ≡ true)) × (take (length (bytes_written bytes)) text.bytes ≡ bytes_written bytes)
+    → ((length bytes < 2 ^ 64) × (in_range range (length bytes) ≡ true))
+    × (take (length (bytes_written bytes)) text.bytes ≡ bytes_written bytes)
 bytes_front text range bytes (n, there, is) =
     let view = taken_view text (length (spell n)) n in
     let found = view_there text n view there.0.0.1 there.1 refl in
     let same : view.bytes ≡ bytes = bytes-taken_view text (length (spell n)) n ∙ sym is in
     let len : n ≡ length bytes = sym found.long ∙ ap (λ xs. length xs) same in
     let k = length (view_written view) in
-    let front : take k text.bytes ≡ view_written view = ap (take k) found.whole ∙ take-append_seam (view_written view) (drop k text.bytes) in
+    let front : take k text.bytes ≡ view_written view = ap (take k) found.whole
+    ∙ take-append_seam (view_written view) (drop k text.bytes) in
     let stands = subst (λ (xs : List ℕ). take (length (bytes_written xs)) text.bytes ≡ bytes_written xs) same front in
     ((subst (λ k. k < 2 ^ 64) len there.0.0.0, subst (λ k. in_range range k ≡ true) len there.0.1), stands)
 
@@ -56,7 +58,8 @@ pub number_one : (written : ℕ → List ℕ) (size : ℕ) → IsNumberForm writ
 number_one written size form m n u v p q e =
     form.one m n p q (sym (take_at (written m) u size (form.long m)) ∙ ap (take size) e ∙ take_at (written n) v size (form.long n))
 
-pub number_front : (written : ℕ → List ℕ) (size : ℕ) → IsNumberForm written size → (bytes : List ℕ) (n : ℕ) → IsNumberRead written size bytes (Ok n)
+pub number_front : (written : ℕ → List ℕ) (size : ℕ) → IsNumberForm written size → (bytes : List ℕ) (n : ℕ)
+    → IsNumberRead written size bytes (Ok n)
     → (n < 256 ^ size) × (take (length (written n)) bytes ≡ written n)
 number_front written size form bytes n h = (h.small, ap (λ k. take k bytes) (form.long n) ∙ sym h.is)
 
@@ -66,7 +69,8 @@ one_drop : (n : ℕ) → n + 0 ≡ n
 one_drop n = omega arith
 
 pub number_codec : (Cfg : Type 0) (written : ℕ → List ℕ) (size : ℕ) → IsNumberForm written size
-    → IsCodec ℕ Cfg written (λ text _ answer. IsNumberRead written size text.bytes answer) (λ _. by_advance size ∷ []) (λ m n. m ≡ n) (λ _ n. n < 256 ^ size)
+    → IsCodec ℕ Cfg written (λ text _ answer. IsNumberRead written size text.bytes answer) (λ _. by_advance size ∷ []) (λ m n. m ≡ n)
+    (λ _ n. n < 256 ^ size)
 number_codec Cfg written size form = record {
   gives_back = λ n _ text rest answer ok e h. number_back written size n text.bytes rest answer form ok e h;
   same_written = λ m n e. ap written e;
@@ -75,7 +79,8 @@ number_codec Cfg written size form = record {
   drops_written = λ n. one_drop size ∙ sym (form.long n);
 }
 
-pub length_codec : IsCodec ℕ RangeCfg spell (λ text range answer. IsLengthRead text.bytes range answer) (λ n. by_advance (length (spell n)) ∷ []) (λ m n. m ≡ n)
+pub length_codec : IsCodec ℕ RangeCfg spell (λ text range answer. IsLengthRead text.bytes range answer)
+    (λ n. by_advance (length (spell n)) ∷ []) (λ m n. m ≡ n)
     (λ range n. (n < 2 ^ 64) × (in_range range n ≡ true))
 length_codec = record {
   gives_back = λ n range text rest answer ok e h. length_back n range text.bytes rest answer ok.0 ok.1 e h;
@@ -95,7 +100,8 @@ bytes_codec = record {
   drops_written = λ bytes. one_drop (length (bytes_written bytes));
 }
 
-pub view_codec : IsCodec View RangeCfg view_written IsViewRead (λ view. by_copy (length (view_written view)) ∷ []) (λ x y. x.bytes ≡ y.bytes)
+pub view_codec : IsCodec View RangeCfg view_written IsViewRead (λ view. by_copy (length (view_written view)) ∷ [])
+    (λ x y. x.bytes ≡ y.bytes)
     (λ range view. (length view.bytes < 2 ^ 64) × (in_range range (length view.bytes) ≡ true))
 view_codec = record {
   gives_back = λ view range text rest answer ok e h. view_back view range text rest answer ok.0 ok.1 e h;
@@ -115,18 +121,21 @@ bytes-dropped text (by_advance n ∷ more) within =
     let first : (text_advanced text n).bytes ≡ drop n text.bytes = bytes-advanced text n (omega (arith, within)) in
     let len : length (text_advanced text n).bytes + n ≡ length text.bytes =
     omega (arith, within, ap (λ (xs : List ℕ). length xs) first, length-drop n text.bytes) in
-    bytes-dropped (text_advanced text n) more (omega (arith, within, len)) ∙ ap (drop (dropped_len more)) first ∙ drop-drop (dropped_len more) n text.bytes
+    bytes-dropped (text_advanced text n) more (omega (arith, within, len)) ∙ ap (drop (dropped_len more)) first
+    ∙ drop-drop (dropped_len more) n text.bytes
 bytes-dropped text (by_copy n ∷ more) within =
     let first : (text_rest text n).bytes ≡ drop n text.bytes = bytes-rest text n (omega (arith, within)) in
     let len : length (text_rest text n).bytes + n ≡ length text.bytes =
     omega (arith, within, ap (λ (xs : List ℕ). length xs) first, length-drop n text.bytes) in
-    bytes-dropped (text_rest text n) more (omega (arith, within, len)) ∙ ap (drop (dropped_len more)) first ∙ drop-drop (dropped_len more) n text.bytes
+    bytes-dropped (text_rest text n) more (omega (arith, within, len)) ∙ ap (drop (dropped_len more)) first
+    ∙ drop-drop (dropped_len more) n text.bytes
 
 -- bytes that begin with what was written are left without it
 pub left_behind : (text left : MarkedText) (droppings : List Dropping) (written rest : List ℕ) → text.bytes ≡ written ++ rest
     → left ≡ dropped text_advanced text_rest text droppings
     → dropped_len droppings ≡ length written → left.bytes ≡ rest
 left_behind text left droppings written rest e behind len =
-    let within : dropped_len droppings ≤ length text.bytes = omega (arith, len, ap (λ (xs : List ℕ). length xs) e, length-append written rest) in
+    let within : dropped_len droppings ≤ length text.bytes = omega
+    (arith, len, ap (λ (xs : List ℕ). length xs) e, length-append written rest) in
     ap (λ (t : MarkedText). t.bytes) behind ∙ bytes-dropped text droppings within
     ∙ ap (drop (dropped_len droppings)) e ∙ drop_at written rest (dropped_len droppings) (sym len)

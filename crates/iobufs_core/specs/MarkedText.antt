@@ -76,7 +76,12 @@ text_left text at = record { bytes = take at text.bytes; mark = text.mark; cuts 
 
 -- the other bytes, with key 0 marked as `mark_at text at` is, and each key above `at` moved down
 unfoldable pub text_right : MarkedText → ℕ → MarkedText
-text_right text at = record { bytes = drop at text.bytes; mark = mark_at text at; cuts = map (moved_down at) (filter (λ cut. nat_lt at cut.0) text.cuts) }
+text_right text at = record {
+  bytes = drop at text.bytes;
+  mark = mark_at text at;
+  cuts = map (moved_down at)
+      (filter (λ cut. nat_lt at cut.0) text.cuts);
+}
 
 -- the front that a split at an offset returns
 abbrev pub text_split_front : MarkedText → ℕ → MarkedText
@@ -101,11 +106,20 @@ has_cut_between text from to = list_any (λ cut. nat_lt from cut.0 && nat_lt cut
 unfoldable pub taken_view : MarkedText → ℕ → ℕ → View
 taken_view text skip n =
     if n == 0 then default_view
-    else record { bytes = take n (drop skip text.bytes); mark = if has_cut_between text skip (skip + n) then native_mark n else mark_at text skip }
+    else record {
+      bytes = take n (drop skip text.bytes);
+      mark = if has_cut_between text skip
+          (skip + n) then native_mark n else mark_at text skip;
+    }
 
 -- in order, neither of them empty
 unfoldable pub text_glue : MarkedText → MarkedText → MarkedText
-text_glue x y = record { bytes = x.bytes ++ y.bytes; mark = x.mark; cuts = x.cuts ++ (text_len x, y.mark) ∷ map (moved_up (text_len x)) y.cuts }
+text_glue x y = record {
+  bytes = x.bytes ++ y.bytes;
+  mark = x.mark;
+  cuts = x.cuts
+      ++ (text_len x, y.mark) ∷ map (moved_up (text_len x)) y.cuts;
+}
 
 -- a buffer added at the end, or at the start: an empty buffer changes nothing, an empty `IoBufs` becomes the
 -- buffer

@@ -115,5 +115,6 @@ be_bytes_16 bs n l small is =
     let other : to_be_bytes w64 lower ≡ drop 8 bs =
     be_bytes_8 (drop 8 bs) lower (omega (arith, l, length-drop 8 bs)) (small_drop 8 bs small) refl in
     let (above, below) = split_64 n upper lower (is ∙ of_halves bs) (fits_64 (drop 8 bs) (small_drop 8 bs small)) in
-    halves n ∙ ap (λ m. to_be_bytes w64 m ++ to_be_bytes w64 (n % 2 ^ 64)) above ∙ ap (λ m. to_be_bytes w64 upper ++ to_be_bytes w64 m) below
+    halves n ∙ ap (λ m. to_be_bytes w64 m ++ to_be_bytes w64 (n % 2 ^ 64)) above
+    ∙ ap (λ m. to_be_bytes w64 upper ++ to_be_bytes w64 m) below
     ∙ ap (λ xs. xs ++ to_be_bytes w64 lower) first ∙ ap (λ xs. take 8 bs ++ xs) other ∙ take-append-drop 8 bs

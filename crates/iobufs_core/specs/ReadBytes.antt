@@ -1,4 +1,4 @@
--- The rest of a reader after a length and its bytes are read.
+-- The rest of a reader after a length and its bytes are read. Impls cite these lemmas, so they are in `specs/`.
 --     bytes-taken_view, length-taken_view    what is taken as one view has these bytes, and this length
 --     bytes-rest, bytes-advanced             what a copy or an advance leaves
 --     IsThere, view_there                    a view of n bytes follows its varint length at the front
@@ -25,7 +25,8 @@ unfolding taken_view
 length-taken_view text skip n within = grind (arith, nat_tests, common_steps)
 
 -- the written value is as long as what was dropped
-written_long : {Value Reader : Type 0} (bytes_of : Value → List ℕ) (makes : View → Value → Type 0) (copied : Reader → ℕ → Reader) (text : MarkedText)
+written_long : {Value Reader : Type 0} (bytes_of : Value → List ℕ) (makes : View → Value → Type 0) (copied : Reader → ℕ → Reader)
+    (text : MarkedText)
     (range : RangeCfg)
     (old new : Reader) (value : Value) → ((view : View) (made : Value) → makes view made → bytes_of made ≡ view.bytes)
     → (taken : IsTaken makes copied text range old new value) → length (spell taken.n) + taken.n ≡ length (bytes_written (bytes_of value))
@@ -33,7 +34,8 @@ written_long bytes_of makes copied text range old new value same taken =
     let n = taken.n in
     let bytes = bytes_of value in
     let (spelled, long) = taken.there in
-    let len : length bytes ≡ n = ap length (same (taken_view text (length (spell n)) n) value taken.made) ∙ length-taken_view text (length (spell n)) n long in
+    let len : length bytes ≡ n = ap length (same (taken_view text (length (spell n)) n) value taken.made)
+    ∙ length-taken_view text (length (spell n)) n long in
     let first : length (spell (length bytes)) ≡ length (spell n) = ap (λ k. length (spell k)) len in
     omega (arith, len, first, length-append (spell (length bytes)) bytes)
 
@@ -75,18 +77,22 @@ pub record IsThere (text : MarkedText) (n : ℕ) (view : View) : Type 0 where
   pub within : length (view_written view) ≤ length text.bytes
   pub whole : text.bytes ≡ view_written view ++ drop (length (view_written view)) text.bytes
 
-pub view_there : (text : MarkedText) (n : ℕ) (view : View) → take (length (spell n)) text.bytes ≡ spell n → length (spell n) + n ≤ length text.bytes
+pub view_there : (text : MarkedText) (n : ℕ) (view : View) → take (length (spell n)) text.bytes ≡ spell n
+    → length (spell n) + n ≤ length text.bytes
     → view ≡ taken_view text (length (spell n)) n
     → IsThere text n view
 view_there text n view at within is =
     let k = length (spell n) in
     let bytes : view.bytes ≡ take n (drop k text.bytes) = ap (λ (v : View). v.bytes) is ∙ bytes-taken_view text k n in
     let len : length view.bytes ≡ n = ap (λ (v : View). length v.bytes) is ∙ length-taken_view text k n within in
-    let long : length (view_written view) ≡ k + n = length-append (spell (length view.bytes)) view.bytes ∙ ap (λ m. length (spell m) + m) len in
+    let long : length (view_written view) ≡ k + n = length-append (spell (length view.bytes)) view.bytes
+    ∙ ap (λ m. length (spell m) + m) len in
     let whole : spell n ++ (take n (drop k text.bytes) ++ drop (k + n) text.bytes) ≡ text.bytes =
     ap (λ xs. spell n ++ (take n (drop k text.bytes) ++ xs)) (sym (drop-drop n k text.bytes))
-    ∙ ap (λ xs. spell n ++ xs) (take-append-drop n (drop k text.bytes)) ∙ ap (λ xs. xs ++ drop k text.bytes) (sym at) ∙ take-append-drop k text.bytes in
-    let front : view_written view ≡ spell n ++ take n (drop k text.bytes) = ap (λ m. spell m ++ view.bytes) len ∙ ap (λ xs. spell n ++ xs) bytes in record {
+    ∙ ap (λ xs. spell n ++ xs) (take-append-drop n (drop k text.bytes)) ∙ ap (λ xs. xs ++ drop k text.bytes) (sym at)
+    ∙ take-append-drop k text.bytes in
+    let front : view_written view ≡ spell n ++ take n (drop k text.bytes) = ap (λ m. spell m ++ view.bytes) len
+    ∙ ap (λ xs. spell n ++ xs) bytes in record {
       long = len;
       within = omega (arith, within, long);
       whole =

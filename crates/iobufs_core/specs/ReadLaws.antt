@@ -34,7 +34,8 @@ pub record IsOutside (bytes : List ℕ) (range : RangeCfg) (error : Error) : Typ
 -- why a length is not read: it is outside the range, or no varint is whole, and more bytes may make one or not
 LengthFault : List ℕ → RangeCfg → Error → Type 0
 LengthFault bytes range error =
-    IsOutside bytes range error ⊎ (HasNoLength bytes × (((error ≡ EndOfBuffer) × IsOpen bytes) ⊎ ((error ≡ InvalidVarint) × (IsOpen bytes → ⊥))))
+    IsOutside bytes range error ⊎ (HasNoLength bytes
+    × (((error ≡ EndOfBuffer) × IsOpen bytes) ⊎ ((error ≡ InvalidVarint) × (IsOpen bytes → ⊥))))
 
 length_fault : (bytes : List ℕ) (range : RangeCfg) (error : Error) → IsLengthRead bytes range (Err error) → LengthFault bytes range error
 unfolding LengthFault
@@ -46,7 +47,8 @@ length_fault bytes range BadLayout h = absurd h
 length_fault bytes range TooLong h = absurd h
 
 -- a length in the range and one outside it are two
-pub not_both : (bytes : List ℕ) (range : RangeCfg) (n : ℕ) (error : Error) → IsSpelledAt bytes n → in_range range n ≡ true → IsOutside bytes range error → ⊥
+pub not_both : (bytes : List ℕ) (range : RangeCfg) (n : ℕ) (error : Error) → IsSpelledAt bytes n → in_range range n ≡ true
+    → IsOutside bytes range error → ⊥
 not_both bytes range n error at inside out =
     let same : n ≡ out.n = spelled_as_one bytes n out.n at out.at in
     let both : true ≡ false = sym inside ∙ ap (in_range range) same ∙ out.outside in cc
@@ -55,7 +57,8 @@ pub one_outside : (bytes : List ℕ) (range : RangeCfg) (a b : Error) → IsOuts
 one_outside bytes range a b out other = out.told ∙ ap InvalidLength (spelled_as_one bytes out.n other.n out.at other.at) ∙ sym other.told
 
 -- reading a length that is first, and in the range, succeeds
-pub no_fault : (bytes : List ℕ) (range : RangeCfg) (n : ℕ) (error : Error) → IsLengthRead bytes range (Ok n) → IsLengthRead bytes range (Err error) → ⊥
+pub no_fault : (bytes : List ℕ) (range : RangeCfg) (n : ℕ) (error : Error) → IsLengthRead bytes range (Ok n)
+    → IsLengthRead bytes range (Err error) → ⊥
 unfolding LengthFault
 no_fault bytes range n error found fault =
     elim (length_fault bytes range error fault) [
@@ -92,15 +95,20 @@ pub length_alike : (s t : MarkedText) (range : RangeCfg) (a b : Result ℕ Error
     → IsLengthRead t.bytes range b → IsReadAlike (λ m n. m ≡ n) a b
 length_alike s t range a b e p q = same_length t.bytes range a b (subst (λ (xs : List ℕ). IsLengthRead xs range a) e p) q
 
-back : (n : ℕ) (bytes : List ℕ) (range : RangeCfg) (answer : Result ℕ Error) → IsLengthRead bytes range (Ok n) → IsLengthRead bytes range answer
+back : (n : ℕ) (bytes : List ℕ) (range : RangeCfg) (answer : Result ℕ Error) → IsLengthRead bytes range (Ok n)
+    → IsLengthRead bytes range answer
     → IsReadBack (λ m k. m ≡ k) n answer
 back n bytes range (Ok m) found read = spelled_as_one bytes n m found.0 read.0
 back n bytes range (Err error) found read = absurd (no_fault bytes range n error found read)
 
-pub length_back : (n : ℕ) (range : RangeCfg) (bytes rest : List ℕ) (answer : Result ℕ Error) → n < 2 ^ 64 → in_range range n ≡ true → bytes ≡ spell n ++ rest
+pub length_back : (n : ℕ) (range : RangeCfg) (bytes rest : List ℕ) (answer : Result ℕ Error) → n < 2 ^ 64 → in_range range n ≡ true
+    → bytes ≡ spell n ++ rest
     → IsLengthRead bytes range answer → IsReadBack (λ m k. m ≡ k) n answer
 length_back n range bytes rest answer small inside e read =
-    let found : IsLengthRead bytes range (Ok n) = (subst (λ (xs : List ℕ). IsSpelledAt xs n) (sym e) (spelled_before n rest small), inside) in
+    let found : IsLengthRead bytes range (Ok n) = (
+      subst (λ (xs : List ℕ). IsSpelledAt xs n) (sym e) (spelled_before n rest small),
+      inside,
+    ) in
     back n bytes range answer found read
 
 -- ---- views, and bytes after their length
@@ -119,14 +127,18 @@ ViewFault text range error =
 view_fault : (text : MarkedText) (range : RangeCfg) (error : Error) → IsViewFault text range error → ViewFault text range error
 unfolding ViewFault
 view_fault text range Memory h = inl refl
-view_fault text range EndOfBuffer h = elim h [ inl p ↦ inr (inl p) | inr (n, read, few) ↦ inr (inr (refl, record { n = n; read = read; few = few })) ]
+view_fault text range EndOfBuffer h = elim h [
+  | inl p ↦ inr (inl p)
+  | inr (n, read, few) ↦ inr (inr (refl, record { n = n; read = read; few = few }))
+]
 view_fault text range InvalidVarint h = inr (inl h)
 view_fault text range (InvalidLength n) h = inr (inl h)
 view_fault text range BadLayout h = inr (inl h)
 view_fault text range TooLong h = inr (inl h)
 
 -- where a view is there to be read, only memory can be wanting
-only_memory : (s t : MarkedText) (range : RangeCfg) (n : ℕ) (error : Error) → s.bytes ≡ t.bytes → HasView s range n → IsViewFault t range error → error ≡ Memory
+only_memory : (s t : MarkedText) (range : RangeCfg) (n : ℕ) (error : Error) → s.bytes ≡ t.bytes → HasView s range n
+    → IsViewFault t range error → error ≡ Memory
 unfolding ViewFault
 only_memory s t range n error e has fault =
     let found : IsLengthRead t.bytes range (Ok n) = subst (λ (xs : List ℕ). IsLengthRead xs range (Ok n)) e has.0 in
@@ -143,7 +155,8 @@ only_memory s t range n error e has fault =
     ]
 
 -- two faults at the same bytes are one, memory aside
-faults_alike : (s t : MarkedText) (range : RangeCfg) (a b : Error) → s.bytes ≡ t.bytes → IsViewFault s range a → IsViewFault t range b → (a ≡ b)
+faults_alike : (s t : MarkedText) (range : RangeCfg) (a b : Error) → s.bytes ≡ t.bytes → IsViewFault s range a → IsViewFault t range b
+    → (a ≡ b)
     ⊎ ((a ≡ Memory) ⊎ (b ≡ Memory))
 unfolding ViewFault
 faults_alike s t range a b e p q =
@@ -159,7 +172,8 @@ faults_alike s t range a b e p q =
                 | inr (ended, short) ↦ absurd (no_fault t.bytes range short.n a short.read moved)
               ]
           | inr (ended, short) ↦ elim two [
-            | inl other ↦ absurd (no_fault t.bytes range short.n b (subst (λ (xs : List ℕ). IsLengthRead xs range (Ok short.n)) e short.read) other)
+            | inl other ↦ absurd (no_fault t.bytes range short.n b
+                (subst (λ (xs : List ℕ). IsLengthRead xs range (Ok short.n)) e short.read) other)
             | inr too ↦ inl (ended ∙ sym too.0)
           ]
         ]
@@ -175,7 +189,8 @@ same_taken s t range m n e p q =
     let same : m ≡ n = spelled_as_one t.bytes m n at at' in
     ap (λ k. take k (drop (length (spell k)) s.bytes)) same ∙ ap (λ xs. take n (drop (length (spell n)) xs)) e
 
-pub bytes_alike : (s t : MarkedText) (range : RangeCfg) (a b : Result (List ℕ) Error) → s.bytes ≡ t.bytes → IsBytesRead s range a → IsBytesRead t range b
+pub bytes_alike : (s t : MarkedText) (range : RangeCfg) (a b : Result (List ℕ) Error) → s.bytes ≡ t.bytes → IsBytesRead s range a
+    → IsBytesRead t range b
     → IsReadAlike (λ x y. x ≡ y) a b
 bytes_alike s t range (Ok x) (Ok y) e (m, there, is) (n, there', is') = is ∙ same_taken s t range m n e there there' ∙ sym is'
 bytes_alike s t range (Ok x) (Err error) e (m, there, is) q = only_memory s t range m error e there q
@@ -187,7 +202,8 @@ bytes_of_read : (text : MarkedText) (n : ℕ) (view : View) → view ≡ taken_v
     → view.bytes ≡ take n (drop (length (spell n)) text.bytes)
 bytes_of_read text n view e = ap (λ (v : View). v.bytes) e ∙ bytes-taken_view text (length (spell n)) n
 
-pub views_alike : (s t : MarkedText) (range : RangeCfg) (a b : Result View Error) → s.bytes ≡ t.bytes → IsViewRead s range a → IsViewRead t range b
+pub views_alike : (s t : MarkedText) (range : RangeCfg) (a b : Result View Error) → s.bytes ≡ t.bytes → IsViewRead s range a
+    → IsViewRead t range b
     → IsReadAlike (λ x y. x.bytes ≡ y.bytes) a b
 views_alike s t range (Ok x) (Ok y) e (m, there, is) (n, there', is') =
     bytes_of_read s m x is ∙ same_taken s t range m n e there there' ∙ sym (bytes_of_read t n y is')
@@ -202,14 +218,16 @@ written_there : (text : MarkedText) (range : RangeCfg) (bytes rest : List ℕ) �
 written_there text range bytes rest small inside e =
     let n = length bytes in
     let split : text.bytes ≡ spell n ++ (bytes ++ rest) = e ∙ append_assoc (spell n) bytes rest in
-    let spelled : IsSpelledAt text.bytes n = subst (λ (xs : List ℕ). IsSpelledAt xs n) (sym split) (spelled_before n (bytes ++ rest) small) in
+    let spelled : IsSpelledAt text.bytes n = subst (λ (xs : List ℕ). IsSpelledAt xs n) (sym split)
+    (spelled_before n (bytes ++ rest) small) in
     let long : length (spell n) + n ≤ length text.bytes =
     omega (arith, ap (λ (xs : List ℕ). length xs) split, length-append (spell n) (bytes ++ rest), length-append bytes rest) in
     let behind : drop (length (spell n)) text.bytes ≡ bytes ++ rest =
     ap (drop (length (spell n))) split ∙ drop_at (spell n) (bytes ++ rest) (length (spell n)) refl in
     (((spelled, inside), long), ap (take n) behind ∙ take-append_seam bytes rest)
 
-pub bytes_back : (bytes : List ℕ) (range : RangeCfg) (text : MarkedText) (rest : List ℕ) (answer : Result (List ℕ) Error) → length bytes < 2 ^ 64
+pub bytes_back : (bytes : List ℕ) (range : RangeCfg) (text : MarkedText) (rest : List ℕ) (answer : Result (List ℕ) Error)
+    → length bytes < 2 ^ 64
     → in_range range (length bytes) ≡ true
     → text.bytes ≡ bytes_written bytes ++ rest → IsBytesRead text range answer → IsReadBack (λ x y. x ≡ y) bytes answer
 bytes_back bytes range text rest (Ok read) small inside e (n, there, is) =
@@ -218,7 +236,8 @@ bytes_back bytes range text rest (Ok read) small inside e (n, there, is) =
 bytes_back bytes range text rest (Err error) small inside e h =
     only_memory text text range (length bytes) error refl (written_there text range bytes rest small inside e).0 h
 
-pub view_back : (view : View) (range : RangeCfg) (text : MarkedText) (rest : List ℕ) (answer : Result View Error) → length view.bytes < 2 ^ 64
+pub view_back : (view : View) (range : RangeCfg) (text : MarkedText) (rest : List ℕ) (answer : Result View Error)
+    → length view.bytes < 2 ^ 64
     → in_range range (length view.bytes) ≡ true
     → text.bytes ≡ view_written view ++ rest → IsViewRead text range answer → IsReadBack (λ x y. x.bytes ≡ y.bytes) view answer
 view_back view range text rest (Ok read) small inside e (n, there, is) =
@@ -244,22 +263,28 @@ number_fault written size bytes Memory h = absurd h
 number_fault written size bytes BadLayout h = absurd h
 number_fault written size bytes TooLong h = absurd h
 
-no_number_fault : (written : ℕ → List ℕ) (size : ℕ) (bytes : List ℕ) (error : Error) → size ≤ length bytes → IsNumberRead written size bytes (Err error) → ⊥
+no_number_fault : (written : ℕ → List ℕ) (size : ℕ) (bytes : List ℕ) (error : Error) → size ≤ length bytes
+    → IsNumberRead written size bytes (Err error) → ⊥
 no_number_fault written size bytes error long h = let short = (number_fault written size bytes error h).1 in absurd (omega arith)
 
-same_number : (written : ℕ → List ℕ) (size : ℕ) (bytes : List ℕ) (a b : Result ℕ Error) → IsNumberForm written size → IsNumberRead written size bytes a
+same_number : (written : ℕ → List ℕ) (size : ℕ) (bytes : List ℕ) (a b : Result ℕ Error) → IsNumberForm written size
+    → IsNumberRead written size bytes a
     → IsNumberRead written size bytes b → IsReadAlike (λ m n. m ≡ n) a b
 same_number written size bytes (Ok m) (Ok n) form p q = form.one m n p.small q.small (p.is ∙ sym q.is)
 same_number written size bytes (Ok m) (Err error) form p q = absurd (no_number_fault written size bytes error p.long q)
 same_number written size bytes (Err error) (Ok n) form p q = absurd (no_number_fault written size bytes error q.long p)
-same_number written size bytes (Err a) (Err b) form p q = inl ((number_fault written size bytes a p).0 ∙ sym (number_fault written size bytes b q).0)
+same_number written size bytes (Err a) (Err b) form p q = inl
+    ((number_fault written size bytes a p).0 ∙ sym (number_fault written size bytes b q).0)
 
-pub number_alike : (written : ℕ → List ℕ) (size : ℕ) → IsNumberForm written size → (s t : MarkedText) (a b : Result ℕ Error) → s.bytes ≡ t.bytes
+pub number_alike : (written : ℕ → List ℕ) (size : ℕ) → IsNumberForm written size → (s t : MarkedText) (a b : Result ℕ Error)
+    → s.bytes ≡ t.bytes
     → IsNumberRead written size s.bytes a
     → IsNumberRead written size t.bytes b → IsReadAlike (λ m n. m ≡ n) a b
-number_alike written size form s t a b e p q = same_number written size t.bytes a b form (subst (λ (xs : List ℕ). IsNumberRead written size xs a) e p) q
+number_alike written size form s t a b e p q = same_number written size t.bytes a b form
+    (subst (λ (xs : List ℕ). IsNumberRead written size xs a) e p) q
 
-pub number_back : (written : ℕ → List ℕ) (size n : ℕ) (bytes rest : List ℕ) (answer : Result ℕ Error) → IsNumberForm written size → n < 256 ^ size
+pub number_back : (written : ℕ → List ℕ) (size n : ℕ) (bytes rest : List ℕ) (answer : Result ℕ Error) → IsNumberForm written size
+    → n < 256 ^ size
     → bytes ≡ written n ++ rest
     → IsNumberRead written size bytes answer → IsReadBack (λ x y. x ≡ y) n answer
 number_back written size n bytes rest (Ok m) form small e read =

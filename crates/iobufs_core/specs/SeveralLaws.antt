@@ -12,7 +12,8 @@ use Rattle.iobufs_core.specs.Items.{PutOrPush, put_item, push_item, item_bytes, 
 
 joins_append : (xs ys : List PutOrPush) → items_bytes (xs ++ ys) ≡ items_bytes xs ++ items_bytes ys
 joins_append [] ys = refl
-joins_append (x ∷ xs) ys = ap (λ zs. item_bytes x ++ zs) (joins_append xs ys) ∙ sym (append_assoc (item_bytes x) (items_bytes xs) (items_bytes ys))
+joins_append (x ∷ xs) ys = ap (λ zs. item_bytes x ++ zs) (joins_append xs ys)
+    ∙ sym (append_assoc (item_bytes x) (items_bytes xs) (items_bytes ys))
 
 pub joins_two : (xs ys : List PutOrPush) (u v : List ℕ) → items_bytes xs ≡ u → items_bytes ys ≡ v → items_bytes (xs ++ ys) ≡ u ++ v
 joins_two xs ys u v p q = joins_append xs ys ∙ ap (λ zs. zs ++ items_bytes ys) p ∙ ap (λ zs. u ++ zs) q
@@ -28,7 +29,8 @@ pushed_append (x ∷ xs) ys = let more = pushed_append xs ys in omega (arith, mo
 pub inline_few : (xs : List PutOrPush) → items_inline xs ≤ length (items_bytes xs)
 inline_few [] = omega arith
 inline_few (put_item bytes ∷ xs) = let more = inline_few xs in let len = length-append bytes (items_bytes xs) in omega (arith, more, len)
-inline_few (push_item view ∷ xs) = let more = inline_few xs in let len = length-append view.bytes (items_bytes xs) in omega (arith, more, len)
+inline_few (push_item view ∷ xs) = let more = inline_few xs in let len = length-append view.bytes (items_bytes xs) in omega
+    (arith, more, len)
 
 pub begun_first : (old new u v : List ℕ) → IsBegun old u new → IsBegun old (u ++ v) new
 begun_first old new u v b =
@@ -42,7 +44,8 @@ begun_second old mid new u v e b = record {
   left = b.left ∙ ap (λ zs. zs ++ b.front) e ∙ append_assoc old u b.front;
 }
 
-pub joins-option : {Value : Type 0} (written : Value → List ℕ) (items : Value → List PutOrPush) → ((value : Value) → items_bytes (items value) ≡ written value)
+pub joins-option : {Value : Type 0} (written : Value → List ℕ) (items : Value → List PutOrPush)
+    → ((value : Value) → items_bytes (items value) ≡ written value)
     → (value : Option Value) → items_bytes (option_items items value) ≡ option_written written value
 joins-option written items joins None = joins-put (0 ∷ [])
 joins-option written items joins (Some value) = ap (λ zs. 1 ∷ zs) (joins value)

@@ -18,11 +18,13 @@ use Rattle.iobufs_core.specs.Spelling.{spell_within, spell, IsSpelledAt, IsSpell
 -- ---- each number has a varint
 
 -- a byte with the top bit before a varint
-pub grow : (b high n : ℕ) (xs : List ℕ) → 128 ≤ b → b < 256 → 0 < high → n + 128 ≡ b + 128 * high → IsSpelling xs high → IsSpelling (b ∷ xs) n
+pub grow : (b high n : ℕ) (xs : List ℕ) → 128 ≤ b → b < 256 → 0 < high → n + 128 ≡ b + 128 * high → IsSpelling xs high
+    → IsSpelling (b ∷ xs) n
 grow b high n [] top byte some sum is = elim is [ ]
 grow b high n (c ∷ bs) top byte some sum is = record { top = top; byte = byte; high = high; some = some; sum = sum; rest = is }
 
-step : (t : Bool) (n : ℕ) (xs : List ℕ) → nat_lt n 128 ≡ t → (128 ≤ n → IsSpelling xs (n / 128)) → IsSpelling (if t then n ∷ [] else (128 + n % 128) ∷ xs) n
+step : (t : Bool) (n : ℕ) (xs : List ℕ) → nat_lt n 128 ≡ t → (128 ≤ n → IsSpelling xs (n / 128))
+    → IsSpelling (if t then n ∷ [] else (128 + n % 128) ∷ xs) n
 step true n xs e next = (ltb-true n 128 e, refl)
 step false n xs e next =
     let big : 128 ≤ n = ltb-false n 128 e in
@@ -94,7 +96,8 @@ unfolding spell
 length-spell n = length-spell_within 9 n
 
 -- bytes whose first k are a varint of n begin with the varint of n
-pub read_off : (text : List ℕ) (k n : ℕ) → k ≤ length text → n < 2 ^ 64 → IsSpelling (take k text) n → IsSpelledAt text n × (k ≡ length (spell n))
+pub read_off : (text : List ℕ) (k n : ℕ) → k ≤ length text → n < 2 ^ 64 → IsSpelling (take k text) n
+    → IsSpelledAt text n × (k ≡ length (spell n))
 read_off text k n within small is =
     let same = same_form (spell n) (take k text) n (spelled n small) is in
     let len : length (spell n) ≡ k = ap length same ∙ length-take-le k text within in
@@ -138,7 +141,8 @@ pub none_long : (text : List ℕ) → AreHigh (take 10 text) → HasNoLength tex
 none_long text high n at =
     let short = length-spell n in
     let front : take (length (spell n)) (take 10 text) ≡ take (length (spell n)) text = take-take (length (spell n)) 10 text short in
-    no_end (take (length (spell n)) text) n (subst AreHigh front (AreHigh-take (length (spell n)) (take 10 text) high)) (spelled_front text n at)
+    no_end (take (length (spell n)) text) n (subst AreHigh front (AreHigh-take (length (spell n)) (take 10 text) high))
+    (spelled_front text n at)
 
 -- nor do such bytes and a 0
 pub none_zero : (hs more : List ℕ) → 0 < length hs → AreHigh hs → HasNoLength (hs ++ 0 ∷ more)
@@ -150,7 +154,8 @@ pub none_large : (text : List ℕ) (k m : ℕ) → IsSpelling (take k text) m �
 none_large text k m is large n at =
     let whole = take-append-drop k text in
     let whole' = take-append-drop (length (spell n)) text in
-    let same = (one_form (take k text) (take (length (spell n)) text) (drop k text) (drop (length (spell n)) text) m n is (spelled_front text n at)
+    let same = (one_form (take k text) (take (length (spell n)) text) (drop k text) (drop (length (spell n)) text) m n is
+    (spelled_front text n at)
     (whole ∙ sym whole')).1 in
     let small = at.0 in
     absurd (omega arith)
@@ -177,7 +182,8 @@ spelled_as_one text m n p q =
     let l = length (spell n) in
     let whole : take k text ++ drop k text ≡ text = take-append-drop k text in
     let whole' : take l text ++ drop l text ≡ text = take-append-drop l text in
-    (one_form (take k text) (take l text) (drop k text) (drop l text) m n (spelled_front text m p) (spelled_front text n q) (whole ∙ sym whole')).1
+    (one_form (take k text) (take l text) (drop k text) (drop l text) m n (spelled_front text m p) (spelled_front text n q)
+    (whole ∙ sym whole')).1
 
 pub spelled_before : (n : ℕ) (rest : List ℕ) → n < 2 ^ 64 → IsSpelledAt (spell n ++ rest) n
 spelled_before n rest small = (small, take-append_seam (spell n) rest)

@@ -84,7 +84,8 @@ pub record HasStaticView (text : MarkedText) (range : RangeCfg) : Type 0 where
   pub static : (taken_view text (length (spell n)) n).mark ≡ static_mark
 
 -- the bytes after a length were read as this value, which is made of a view of them, and dropped with it
-pub record IsTaken {Value Reader : Type 0} (makes : View → Value → Type 0) (copied : Reader → ℕ → Reader) (text : MarkedText) (range : RangeCfg)
+pub record IsTaken {Value Reader : Type 0} (makes : View → Value → Type 0) (copied : Reader → ℕ → Reader) (text : MarkedText)
+    (range : RangeCfg)
     (old new : Reader) (value : Value) : Type 0 where
   pub n : ℕ
   pub there : HasView text range n
@@ -95,7 +96,8 @@ pub record IsTaken {Value Reader : Type 0} (makes : View → Value → Type 0) (
 abbrev pub IsViewFault : MarkedText → RangeCfg → Error → Type 0
 IsViewFault text range Memory = (n : ℕ) × HasView text range n × (0 < n)
 IsViewFault text range EndOfBuffer =
-    IsLengthRead text.bytes range (Err EndOfBuffer) ⊎ ((n : ℕ) × IsLengthRead text.bytes range (Ok n) × (length text.bytes < length (spell n) + n))
+    IsLengthRead text.bytes range (Err EndOfBuffer)
+    ⊎ ((n : ℕ) × IsLengthRead text.bytes range (Ok n) × (length text.bytes < length (spell n) + n))
 IsViewFault text range error = IsLengthRead text.bytes range (Err error)
 
 -- the result of reading a view: the bytes after its length as one view, or a fault; then of reading these bytes alone

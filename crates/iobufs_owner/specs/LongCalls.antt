@@ -76,13 +76,16 @@ abbrev pub ready_of : State → ℕ → Share → ℕ → Bool → Outcome
 ready_of s p k w memory =
     if memory then unfinished_call (with_record s 2 (loaded_block s k w)) p (Ready k w (next_record s)) else ended s p Memory
 
--- the compare-exchange, by the view's word: a record's if another call has come first, else still the loaded descriptor
-abbrev pub race_by : State → ℕ → Share → ℕ → Handle → Word → Outcome
-race_by s p k r x (Counted winner) = unfinished_call (record_freed s r) p (Add k winner)
-race_by s p k r x word = shared (edited s k.handle (record x { word = Counted r })) p k x r
+-- the compare-exchange with the loaded descriptor, by the view's word: a record's if another call has come first. Another
+-- descriptor, which no sound machine has there, changes nothing.
+abbrev pub race_by : State → ℕ → Share → (w r : ℕ) → Handle → Word → Outcome
+race_by s p k w r x (Counted winner) = unfinished_call (record_freed s r) p (Add k winner)
+race_by s p k w r x (Descriptor now) =
+    if nat_eq now w then shared (edited s k.handle (record x { word = Counted r })) p k x r else unfinished_call s p (Ready k w r)
+race_by s p k w r x Empty = unfinished_call s p (Ready k w r)
 
-abbrev pub race_of : State → ℕ → Share → ℕ → Outcome
-race_of s p k r = race_by s p k r (borrowed s k) (borrowed s k).word
+abbrev pub race_of : State → ℕ → Share → (w r : ℕ) → Outcome
+race_of s p k w r = race_by s p k w r (borrowed s k) (borrowed s k).word
 
 -- one holder more
 abbrev pub add_of : State → ℕ → Share → ℕ → Outcome

@@ -43,7 +43,8 @@ items_kept names n (Push x ∷ items) e =
     rw (held_other names n x Free (differ_back x n parts.0), items_kept names n items parts.1) refl
 
 -- one item takes from the room what it puts, and from what pushes may add what it pushes
-room-next : (b : Building) (w : Written) (ws : List Written) → items_inline (w ∷ ws) ≤ building_room b → items_inline ws ≤ building_room (building_with b w)
+room-next : (b : Building) (w : Written) (ws : List Written) → items_inline (w ∷ ws) ≤ building_room b
+    → items_inline ws ≤ building_room (building_with b w)
 room-next b w ws fits = let one = room-built b (w ∷ []) in omega arith
 
 pushes-next : (b : Building) (w : Written) (ws : List Written) → items_pushed (w ∷ ws) ≤ room_for_pushes b
@@ -66,7 +67,8 @@ left_next old capacity items names b (Inline bytes) rest left = record {
 left_next old capacity items names b (Push n) rest left =
     let view = view_held (slot_named names n) in
     let once = or_parts (is_listed (pushed_names rest) n) (has_twice (pushed_names rest)) left.once in
-    let views = and_parts (is_view (slot_named names n)) (list_all (λ src. is_view (slot_named names src)) (pushed_names rest)) left.views in
+    let views = and_parts (is_view (slot_named names n))
+    (list_all (λ src. is_view (slot_named names src)) (pushed_names rest)) left.views in
     let kept = items_kept names n rest once.0 in
     record {
       views = views_kept names n (pushed_names rest) once.0 ∙ views.1;
@@ -79,7 +81,8 @@ left_next old capacity items names b (Push n) rest left =
     }
 
 -- the names of one item may be free
-pub item_costs : (names : List Slot) (item : Item) (rest : List Item) → MayFree (pushed_names (item ∷ rest)) names (all_freed names (pushed_names (item ∷ [])))
+pub item_costs : (names : List Slot) (item : Item) (rest : List Item)
+    → MayFree (pushed_names (item ∷ rest)) names (all_freed names (pushed_names (item ∷ [])))
 item_costs names (Inline bytes) rest = MayFree-none (pushed_names rest) names
 item_costs names (Push n) rest = MayFree-next names _ n (pushed_names rest) (MayFree-none (pushed_names rest) (slice_set names n Free))
 

@@ -28,7 +28,8 @@ true_not_false e = cc
 
 -- ---- reading a view
 
-read_same : (text : MarkedText) (range : RangeCfg) (view other : ViewValue) → IsViewRead text range (Ok view) → IsViewRead text range (Ok other) → view ≡ other
+read_same : (text : MarkedText) (range : RangeCfg) (view other : ViewValue) → IsViewRead text range (Ok view)
+    → IsViewRead text range (Ok other) → view ≡ other
 read_same text range view other d e =
     let (n, ((spelled, ranged), fits), is) = d in
     let (m, ((spelled', ranged'), fits'), is') = e in
@@ -57,7 +58,8 @@ fault_same text range r q f g =
       | inr wanted ↦ elim wanted [ inl memory ↦ absurd (one.known memory) | inr memory ↦ absurd (two.known memory) ]
     ]
 
-fault_not_read : (text : MarkedText) (range : RangeCfg) (r : Refusal) (view : ViewValue) → IsFault text range r → IsViewRead text range (Ok view) → ⊥
+fault_not_read : (text : MarkedText) (range : RangeCfg) (r : Refusal) (view : ViewValue) → IsFault text range r
+    → IsViewRead text range (Ok view) → ⊥
 fault_not_read text range r view f d =
     let one = fault_met text range r f in
     one.known (views_alike text text range (Err one.error) (Ok view) refl one.met d)
@@ -70,7 +72,8 @@ same_refl (Bytes bytes) = refl
 same_refl (Shown kind pieces) = (refl, refl)
 same_refl (Refused refusal) = refl
 
-gives_same : (answer : Reply) (left : List Slot) (reply other : Reply) (new another : List Slot) → Gives answer left reply new → Gives answer left other another
+gives_same : (answer : Reply) (left : List Slot) (reply other : Reply) (new another : List Slot) → Gives answer left reply new
+    → Gives answer left other another
     → SameReply reply other × (new ≡ another)
 gives_same answer left reply other new another d e = (rw (d.0, e.0) (same_refl answer), d.1 ∙ sym e.1)
 
@@ -102,7 +105,8 @@ set_again (s ∷ old) zero slot other = refl
 set_again (s ∷ old) (suc name) slot other = ap (λ (names : List Slot). s ∷ names) (set_again old name slot other)
 
 adopted_same : (old : List Slot) (dst : ℕ) (bytes : List ℕ) (reply other : Reply) (new another : List Slot)
-    → (spare : ℕ) × Gives Done (with_bytes old dst bytes spare) reply new → (spare : ℕ) × Gives Done (with_bytes old dst bytes spare) other another
+    → (spare : ℕ) × Gives Done (with_bytes old dst bytes spare) reply new
+    → (spare : ℕ) × Gives Done (with_bytes old dst bytes spare) other another
     → SameReply reply other × ((new ≡ another) ⊎ ((room : ℕ) × (another ≡ with_bytes new dst bytes room)))
 adopted_same old dst bytes reply other new another (spare, (told, left)) (spare', (told', left')) =
     (rw (told, told') refl, inr (spare', left' ∙ sym (rw left (set_again old dst _ _))))
@@ -122,18 +126,21 @@ fails_same old (Recover src dst) r q f g = f.0 ∙ sym g.0
 fails_same old (Decode src dst range) r q f g = fault_same (marked_held (slot_named old src)) range r q f g
 fails_same old command r q f g = absurd f
 
-fails_not_done : (old : List Slot) (command : Cmd) (r : Refusal) (reply : Reply) (new : List Slot) → MayFail old command r → Does old command reply new
+fails_not_done : (old : List Slot) (command : Cmd) (r : Refusal) (reply : Reply) (new : List Slot) → MayFail old command r
+    → Does old command reply new
     → SameOutcome old command (Refused r) reply old new × SameOutcome old command reply (Refused r) new old
 fails_not_done old (Recover src dst) r reply new (told, native) (done, left) =
     (inr (native, rw told refl, rw done left), inr (native, rw done left, rw told refl))
-fails_not_done old (Decode src dst range) r reply new f (view, read, gives) = absurd (fault_not_read (marked_held (slot_named old src)) range r view f read)
+fails_not_done old (Decode src dst range) r reply new f (view, read, gives) = absurd
+    (fault_not_read (marked_held (slot_named old src)) range r view f read)
 fails_not_done old command r reply new f d = absurd f
 
 -- a command that may want memory does not fail
 wants_not_fails : (old : List Slot) (command : Cmd) (r : Refusal) → MayWantMemory old command → MayFail old command r → ⊥
 wants_not_fails old (Recover src dst) r wants f = wants
 wants_not_fails old (Decode src dst range) r (n, there, some) f =
-    fault_not_read (marked_held (slot_named old src)) range r (taken_view (marked_held (slot_named old src)) (length (spell n)) n) f (n, there, refl)
+    fault_not_read (marked_held (slot_named old src)) range r (taken_view (marked_held (slot_named old src)) (length (spell n)) n) f
+    (n, there, refl)
 wants_not_fails old command r wants f = f
 
 -- ---- a step is one of three
@@ -160,7 +167,8 @@ refused_is : (old : List Slot) (command : Cmd) (refusal : Refusal) (new : List S
     → (refusal_for old command ≡ Some refusal) ⊎ ((refusal_for old command ≡ None) × MayFail old command refusal) → new ≡ old
     → IsCaused old command (Refused refusal) new ⊎ IsFailed old command (Refused refusal) new ⊎ IsDone old command (Refused refusal) new
 refused_is old command refusal new (inl stands) kept = inl (record { refusal = refusal; told = refl; stands = stands; kept = kept })
-refused_is old command refusal new (inr fails) kept = inr (inl (record { refusal = refusal; told = refl; none = fails.0; may = fails.1; kept = kept }))
+refused_is old command refusal new (inr fails) kept = inr
+    (inl (record { refusal = refusal; told = refl; none = fails.0; may = fails.1; kept = kept }))
 
 step_is : (old : List Slot) (command : Cmd) (reply : Reply) (new : List Slot) → Step old command reply new → is_want_of_memory reply ≡ false
     → IsCaused old command reply new ⊎ IsFailed old command reply new ⊎ IsDone old command reply new
@@ -201,15 +209,18 @@ no_other_choices old command reply other new another one two wanted wanted' =
 
 -- ---- want of memory, and what a refusal leaves
 
-refused_for_memory : (old : List Slot) (command : Cmd) (refusal : Refusal) (another : List Slot) → refusal_for old command ≡ None → MayWantMemory old command
+refused_for_memory : (old : List Slot) (command : Cmd) (refusal : Refusal) (another : List Slot) → refusal_for old command ≡ None
+    → MayWantMemory old command
     → (refusal_for old command ≡ Some refusal) ⊎ ((refusal_for old command ≡ None) × MayFail old command refusal) → ⊥
 refused_for_memory old command refusal another none wants (inl stands) = (let both = sym stands ∙ none in cc)
 refused_for_memory old command refusal another none wants (inr fails) = wants_not_fails old command refusal wants fails.1
 
-done_where_wanted : (old : List Slot) (command : Cmd) (other : Reply) (another : List Slot) → refusal_for old command ≡ None → MayWantMemory old command
+done_where_wanted : (old : List Slot) (command : Cmd) (other : Reply) (another : List Slot) → refusal_for old command ≡ None
+    → MayWantMemory old command
     → Step old command other another → is_other_refusal other ≡ false
 done_where_wanted old command (Refused Memory) another none wants step = refl
-done_where_wanted old command (Refused refusal) another none wants step = absurd (refused_for_memory old command refusal another none wants step.0)
+done_where_wanted old command (Refused refusal) another none wants step = absurd
+    (refused_for_memory old command refusal another none wants step.0)
 done_where_wanted old command Done another none wants step = refl
 done_where_wanted old command (Bytes bytes) another none wants step = refl
 done_where_wanted old command (Shown kind pieces) another none wants step = refl
@@ -217,7 +228,12 @@ done_where_wanted old command (Shown kind pieces) another none wants step = refl
 -- a command that is refused for a failed allocation may want it, has no cause against it, and costs at most what it
 -- consumes; it is never refused for anything else
 pub only_wants : OnlyWants
-only_wants old command new (none, wants, freed) = (none, wants, freed, λ other another step. done_where_wanted old command other another none wants step)
+only_wants old command new (none, wants, freed) = (
+  none,
+  wants,
+  freed,
+  λ other another step. done_where_wanted old command other another none wants step,
+)
 
 freed_or_kept : (old new : List Slot) (names : List ℕ) (refusal : Refusal) (name : ℕ) → refusal ≡ Memory
     → (slot_named new name ≡ slot_named old name) ⊎ (IsTrue (is_listed names name) × (slot_named new name ≡ Free))
@@ -227,6 +243,9 @@ freed_or_kept old new names refusal name memory (inr freed) = inr (memory, freed
 
 -- a refused command leaves what each name holds, but for consumed names that want of memory frees
 pub refusals_keep : RefusalsKeep
-refusals_keep old command Memory new (none, wants, freed) = (freed.0, λ name. freed_or_kept old new (consumed command) Memory name refl (freed.1 name))
+refusals_keep old command Memory new (none, wants, freed) = (
+  freed.0,
+  λ name. freed_or_kept old new (consumed command) Memory name refl (freed.1 name),
+)
 refusals_keep old command refusal new step =
     (ap (λ (names : List Slot). length names) step.1, λ name. inl (ap (λ (names : List Slot). slot_named names name) step.1))

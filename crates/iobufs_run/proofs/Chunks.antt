@@ -7,8 +7,10 @@ use Rattle.iobufs_run.specs.declared.command.Piece.{Piece}
 use Rattle.iobufs_run.specs.Slots.{shown_piece}
 
 -- elements are shown, each as f says, and one more
-pub shown_more : {X : Type 0} (f : X → List ℕ × ℕ) (xs : List X) (i : ℕ) (x : X) (pieces more : List Piece) (piece : Piece) → i ≡ length pieces
-    → Some x ≡ slice_get xs i → more ≡ pieces ++ piece ∷ [] → shown_piece piece ≡ f x → map shown_piece pieces ≡ map f (take (length pieces) xs)
+pub shown_more : {X : Type 0} (f : X → List ℕ × ℕ) (xs : List X) (i : ℕ) (x : X) (pieces more : List Piece) (piece : Piece)
+    → i ≡ length pieces
+    → Some x ≡ slice_get xs i → more ≡ pieces ++ piece ∷ [] → shown_piece piece ≡ f x
+    → map shown_piece pieces ≡ map f (take (length pieces) xs)
     → map shown_piece more ≡ map f (take (length more) xs)
 shown_more f xs i x pieces more piece count at is shown so_far =
     let within = slice_get_within xs i x (sym at) in
@@ -16,7 +18,8 @@ shown_more f xs i x pieces more piece count at is shown so_far =
     let next : take (i + 1) xs ≡ take i xs ++ x ∷ [] = take_more xs i x within ∙ ap (λ y. take i xs ++ y ∷ []) here in
     let longer : length more ≡ i + 1 = omega (arith, ap (λ (l : List Piece). length l) is, length-append pieces (piece ∷ []), count) in
     ap (map shown_piece) is ∙ map-append shown_piece pieces (piece ∷ [])
-    ∙ ap (λ ys. ys ++ shown_piece piece ∷ []) (so_far ∙ ap (λ n. map f (take n xs)) (sym count)) ∙ ap (λ p. map f (take i xs) ++ p ∷ []) shown
+    ∙ ap (λ ys. ys ++ shown_piece piece ∷ []) (so_far ∙ ap (λ n. map f (take n xs)) (sym count))
+    ∙ ap (λ p. map f (take i xs) ++ p ∷ []) shown
     ∙ sym (map-append f (take i xs) (x ∷ [])) ∙ ap (map f) (sym next ∙ ap (λ n. take n xs) (sym longer))
 
 -- all are shown where none is left

@@ -11,7 +11,8 @@ use Rattle.iobufs_run.specs.Slots.{view_encoded}
 inline-view : (view : View) → items_inline (view_items view) ≡ length (spell (length view.bytes))
 inline-view view = omega arith
 
-pub encoded-inline : (view : View) → finished (building_after (empty_building (items_inline (view_items view))) (view_items view)) ≡ view_encoded view
+pub encoded-inline : (view : View) → finished (building_after (empty_building (items_inline (view_items view)))
+    (view_items view)) ≡ view_encoded view
 encoded-inline view = ap (λ n. finished (building_after (empty_building n) (view_items view))) (inline-view view)
 
 pub inline-small : (view : View) → items_inline (view_items view) < 2 ^ 63

@@ -15,7 +15,8 @@ clear_wants_no_memory old new target step = step.1
 
 -- a `take` that fails keeps its name
 refused_take_frees_nothing : (view : ViewValue) → Step (View view ∷ []) (Take 0 1) (Refused Memory) (Free ∷ []) → ⊥
-refused_take_frees_nothing view step = elim (step.2.1 0) [ inl same ↦ absurd (let e = same in cc) | inr freed ↦ absurd (let e = freed.0 in cc) ]
+refused_take_frees_nothing view step = elim (step.2.1 0)
+    [ inl same ↦ absurd (let e = same in cc) | inr freed ↦ absurd (let e = freed.0 in cc) ]
 
 -- a view is not cleared
 view_is_not_cleared : (view : ViewValue) (new : List Slot) → Step (View view ∷ []) (Clear 0) Done new → ⊥

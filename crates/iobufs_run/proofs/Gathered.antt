@@ -69,7 +69,8 @@ pub source_kept : (old now : List Slot) (xs : List ℕ) (i : ℕ) → has_twice 
     → slot_named now (get_or xs i 0) ≡ slot_named old (get_or xs i 0)
 source_kept old now xs i once is inside =
     let x = get_or xs i 0 in
-    ap (λ (ss : List Slot). slot_named ss x) is ∙ held_kept old (take i xs) x (not_before xs i x once inside (get_or_default xs i 0 x inside))
+    ap (λ (ss : List Slot). slot_named ss x) is ∙ held_kept old (take i xs) x
+    (not_before xs i x once inside (get_or_default xs i 0 x inside))
 
 -- read at any default it passes the test that all sources pass
 pub source_read : (p : Slot → Bool) (old now : List Slot) (xs : List ℕ) (i : ℕ) (d : Slot) → p Free ≡ false → has_twice xs ≡ false
@@ -83,7 +84,8 @@ source_read p old now xs i d never once all is inside =
     (get_or_default now x d Free there ∙ kept, passes)
 
 -- the names once one more source is free
-pub freed_more : (old now : List Slot) (xs : List ℕ) (i : ℕ) (emptied : Slot) → now ≡ all_freed old (take i xs) → i < length xs → emptied ≡ Free
+pub freed_more : (old now : List Slot) (xs : List ℕ) (i : ℕ) (emptied : Slot) → now ≡ all_freed old (take i xs) → i < length xs
+    → emptied ≡ Free
     → slice_set now (get_or xs i 0) emptied ≡ all_freed old (take (i + 1) xs)
 freed_more old now xs i emptied is inside e =
     ap (λ (f : Slot). slice_set now (get_or xs i 0) f) e ∙ ap (λ (ss : List Slot). slice_set ss (get_or xs i 0) Free) is
@@ -117,14 +119,16 @@ view_held_len (Text text) = omega arith
 view_held_len (Parts parts) = omega arith
 
 -- the text so far and one view more are no longer than all sources
-pub source_fits : (old : List Slot) (xs : List ℕ) (i : ℕ) (text : MarkedText) (view : View) → sum_by (λ x. extent (slot_named old x)) xs < 2 ^ 64
+pub source_fits : (old : List Slot) (xs : List ℕ) (i : ℕ) (text : MarkedText) (view : View)
+    → sum_by (λ x. extent (slot_named old x)) xs < 2 ^ 64
     → text ≡ joined (map (λ x. view_held (slot_named old x)) (take i xs)) → slot_named old (get_or xs i 0) ≡ SlotView view → i < length xs
     → text_len text + length view.bytes < 2 ^ 64
 source_fits old xs i text view fits is at inside =
     let viewed = λ (x : ℕ). view_held (slot_named old x) in
     let len : text_len text ≡ sum_by (λ x. length (viewed x).bytes) (take i xs) =
     length-joined (map viewed (take i xs)) text is ∙ bytes_sum viewed (take i xs) in
-    let few = sum_by_le (λ x. length (viewed x).bytes) (λ x. extent (slot_named old x)) (take i xs) (λ x. view_held_len (slot_named old x)) in
+    let few = sum_by_le (λ x. length (viewed x).bytes) (λ x. extent (slot_named old x)) (take i xs)
+    (λ x. view_held_len (slot_named old x)) in
     let more = sum_by_more_le (λ x. extent (slot_named old x)) xs i 0 inside in
     let last : extent (slot_named old (get_or xs i 0)) ≡ length view.bytes = ap extent at in
     omega (arith, len, few, more, last, fits)
@@ -153,7 +157,8 @@ pub row_fits : (names : List Slot) (xs : List ℕ) (row : List PartValue) → su
     → row ≡ map (λ x. part_held (slot_named names x)) xs
     → parts_capacity row < 2 ^ 64
 row_fits names xs row fits is =
-    let few = sum_by_le (λ x. part_capacity (part_held (slot_named names x))) (λ x. extent (slot_named names x)) xs (λ x. part_held_len (slot_named names x)) in
+    let few = sum_by_le (λ x. part_capacity (part_held (slot_named names x))) (λ x. extent (slot_named names x)) xs
+    (λ x. part_held_len (slot_named names x)) in
     let sum : parts_capacity row ≡ sum_by (λ x. part_capacity (part_held (slot_named names x))) xs =
     ap parts_capacity is ∙ sum_of_map part_capacity (λ x. part_held (slot_named names x)) xs in
     omega (arith, sum, few, fits)

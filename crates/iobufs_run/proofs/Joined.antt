@@ -17,7 +17,8 @@ use Rattle.iobufs_run.specs.Causes.{first_cause, join_causes}
 use Rattle.iobufs_run.proofs.Gathered.{put_back}
 
 -- the target of a joining is a text
-target_is_text : (names : List Slot) (target src : ℕ) → first_cause (join_causes names target src) ≡ None → is_text (slot_named names target) ≡ true
+target_is_text : (names : List Slot) (target src : ℕ) → first_cause (join_causes names target src) ≡ None
+    → is_text (slot_named names target) ≡ true
 target_is_text names target src none = grind (arith, nat_tests)
 
 pub other_name : (names : List Slot) (target src : ℕ) (view : ViewValue) → first_cause (join_causes names target src) ≡ None
@@ -29,7 +30,8 @@ other_name names target src view none at = λ same.
     cc
 
 -- taking the view changes nothing at the target
-pub target_kept : (names : List Slot) (target src : ℕ) (view : ViewValue) → first_cause (join_causes names target src) ≡ None → slot_named names src ≡ View view
+pub target_kept : (names : List Slot) (target src : ℕ) (view : ViewValue) → first_cause (join_causes names target src) ≡ None
+    → slot_named names src ≡ View view
     → (d : Slot) → slot_named (slice_set names src d) target ≡ slot_named names target
 target_kept names target src view none at d = get_or-set_other names src target d Free (other_name names target src view none at)
 
@@ -37,9 +39,11 @@ target_kept names target src view none at d = get_or-set_other names src target 
 pub restored : (names : List Slot) (target src : ℕ) (view : ViewValue) (d : Slot) → src < length names → slot_named names src ≡ View view
     → slice_set (slice_set (slice_set names src Free) target (slice_index_or (slice_set names src Free) target d)) src (View view) ≡ names
 restored names target src view d inside at =
-    ap (λ (ss : List Slot). slice_set ss src (View view)) (set-get_or (slice_set names src Free) target d) ∙ put_back names src (View view) inside at
+    ap (λ (ss : List Slot). slice_set ss src (View view)) (set-get_or (slice_set names src Free) target d)
+    ∙ put_back names src (View view) inside at
 
-names_inside : (names : List Slot) (target src : ℕ) → first_cause (join_causes names target src) ≡ None → (target < length names) × (src < length names)
+names_inside : (names : List Slot) (target src : ℕ) → first_cause (join_causes names target src) ≡ None
+    → (target < length names) × (src < length names)
 names_inside names target src none = (grind (arith, nat_tests), grind (arith, nat_tests))
 
 both_some : (m n : ℕ) → 0 < m → 0 < n → IsTrue (not (m == 0) && not (n == 0))
@@ -78,7 +82,8 @@ back_again names target src view back free kept d e new none took stays refused 
     is ∙ ap (λ (f : Slot). slice_set (slice_set (slice_set names src f) target kept) src (View back)) free_is
     ∙ ap (λ (k : Slot). slice_set (slice_set (slice_set names src Free) target k) src (View back))
     (kept_is ∙ ap (λ (f : Slot). slice_index_or (slice_set names src f) target e) free_is)
-    ∙ ap (λ (v : ViewValue). slice_set (slice_set (slice_set names src Free) target (slice_index_or (slice_set names src Free) target e)) src (View v)) same
+    ∙ ap (λ (v : ViewValue). slice_set (slice_set (slice_set names src Free) target
+    (slice_index_or (slice_set names src Free) target e)) src (View v)) same
     ∙ restored names target src view e inside.1 at in
     (both_some (readable (slot_named names src)) (readable (slot_named names target)) some some', all)
 
@@ -90,4 +95,8 @@ pub joined_memory : (end : End) (old new : List Slot) (target src : ℕ) → fir
     → IsTrue (not (readable (slot_named old src) == 0) && not (readable (slot_named old target) == 0)) → new ≡ old
     → Step old (joining end target src) (Refused Memory) new
 joined_memory Back old new target src none some same = (none, some, subst (MayFree (src ∷ []) old) (sym same) (MayFree-none (src ∷ []) old))
-joined_memory Front old new target src none some same = (none, some, subst (MayFree (src ∷ []) old) (sym same) (MayFree-none (src ∷ []) old))
+joined_memory Front old new target src none some same = (
+  none,
+  some,
+  subst (MayFree (src ∷ []) old) (sym same) (MayFree-none (src ∷ []) old),
+)

@@ -51,12 +51,14 @@ SameOutcome old (Adopt dst bytes) reply other new another =
     SameReply reply other × ((new ≡ another) ⊎ ((room : ℕ) × (another ≡ with_bytes new dst bytes.items room)))
 SameOutcome old (Recover src dst) reply other new another =
     (SameReply reply other × (new ≡ another))
-    ⊎ (IsTrue (is_native_view (slot_named old src)) × IsRecoveredOrDeclined old src dst reply new × IsRecoveredOrDeclined old src dst other another)
+    ⊎ (IsTrue (is_native_view (slot_named old src)) × IsRecoveredOrDeclined old src dst reply new
+    × IsRecoveredOrDeclined old src dst other another)
 SameOutcome old command reply other new another = SameReply reply other × (new ≡ another)
 
 abbrev pub NoOtherChoices : Type 0
 NoOtherChoices =
-    (old : List Slot) (command : Cmd) (reply other : Reply) (new another : List Slot) → Step old command reply new → Step old command other another
+    (old : List Slot) (command : Cmd) (reply other : Reply) (new another : List Slot) → Step old command reply new
+    → Step old command other another
     → is_want_of_memory reply ≡ false → is_want_of_memory other ≡ false → SameOutcome old command reply other new another
 
 -- a command is refused for a failed allocation only where it may want it and no cause holds; this costs at most what it

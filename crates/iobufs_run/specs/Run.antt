@@ -99,8 +99,10 @@ MayWantMemory names (Advance target n) = ⊥
 MayWantMemory names (Take target n) = IsTrue (not (n == 0))
 MayWantMemory names (Gather dst sources) = IsTrue (not (length sources.items == 0))
 MayWantMemory names (GatherMut dst sources) = IsTrue (not (length sources.items == 0))
-MayWantMemory names (Append target src) = IsTrue (not (readable (slot_named names src) == 0) && not (readable (slot_named names target) == 0))
-MayWantMemory names (Prepend target src) = IsTrue (not (readable (slot_named names src) == 0) && not (readable (slot_named names target) == 0))
+MayWantMemory names (Append target src) = IsTrue (not (readable (slot_named names src) == 0)
+    && not (readable (slot_named names target) == 0))
+MayWantMemory names (Prepend target src) = IsTrue (not (readable (slot_named names src) == 0)
+    && not (readable (slot_named names target) == 0))
 MayWantMemory names (Coalesce src dst) = IsTrue (is_in_pieces (slot_named names src))
 MayWantMemory names (Build dst capacity items) = Unit {0}
 MayWantMemory names (Encode src dst) = Unit {0}
@@ -188,11 +190,13 @@ Does old (Slice src dst lo hi) = Gives Done (slice_set old dst (slot_sliced (slo
 Does old (Split src dst at) =
     Gives Done (slice_set (slice_set old src (slot_rest (slot_named old src) at)) dst (slot_split_front (slot_named old src) at))
 Does old (Advance target n) = Gives Done (slice_set old target (slot_advanced (slot_named old target) n))
-Does old (Take target n) = Gives (Bytes (take n (bytes_held (slot_named old target)))) (slice_set old target (slot_copied (slot_named old target) n))
+Does old (Take target n) = Gives (Bytes (take n (bytes_held (slot_named old target))))
+    (slice_set old target (slot_copied (slot_named old target) n))
 Does old (Gather dst sources) =
     Gives Done (slice_set (all_freed old sources.items) dst (Text (joined (map (λ src. view_held (slot_named old src)) sources.items))))
 Does old (GatherMut dst sources) =
-    Gives Done (slice_set (all_freed old sources.items) dst (Parts (kept_parts (map (λ src. part_held (slot_named old src)) sources.items))))
+    Gives Done (slice_set (all_freed old sources.items) dst
+    (Parts (kept_parts (map (λ src. part_held (slot_named old src)) sources.items))))
 Does old (Append target src) = Gives Done (moved_to old src target (slot_joined Back (slot_named old target) (slot_named old src)))
 Does old (Prepend target src) = Gives Done (moved_to old src target (slot_joined Front (slot_named old target) (slot_named old src)))
 Does old (Coalesce src dst) = Gives Done (moved_to old src dst (slot_coalesced (slot_named old src)))

@@ -64,7 +64,6 @@ enum End {
     Back,
 }
 
-// Written out, so that what a caller proves about a table that it drops names no field.
 impl Drop for Table {
     fn drop(self) {
         let Table { slots: _ } = self;
@@ -173,7 +172,8 @@ impl Table {
 
     /// Borrows what the command `Show` prints of a name, or returns why it is refused. Nothing is copied.
     pub fn shown(&self, target: usize) -> Result<&Slot, Refusal>
-        ensures ok { IfOk result (λ slot. (refusal_for self.now (Cmd.Show target) ≡ None) × (slot.now ≡ slot_named self.now target)) }
+        ensures ok { IfOk result (λ slot. (refusal_for self.now (Cmd.Show target) ≡ None)
+            × (slot.now ≡ slot_named self.now target)) }
         ensures held { IfOk result (λ slot. slot.now ≢ Slot.Free) }
         ensures err { IfErr result (λ refusal. Step self.now (Cmd.Show target) (Reply.Refused refusal) self.now) }
     {

@@ -17,14 +17,21 @@ refused_so P (Err x) e h p = subst P (sym h) p
 
 -- five byte strings, concatenated, are as long as they are together
 pub length_five : (a b c d e : List ℕ) → length (a ++ (b ++ (c ++ (d ++ e)))) ≡ length a + length b + length c + length d + length e
-length_five a b c d e = omega (arith, length-append a (b ++ (c ++ (d ++ e))), length-append b (c ++ (d ++ e)), length-append c (d ++ e), length-append d e)
+length_five a b c d e = omega (
+  arith,
+  length-append a (b ++ (c ++ (d ++ e))),
+  length-append b (c ++ (d ++ e)),
+  length-append c (d ++ e),
+  length-append d e,
+)
 
 further : (skip m n all : ℕ) → all ≡ m + n → skip + all ≡ skip + m + n
 further skip m n all e = omega (arith, e)
 
 -- the values are found, fewer than there are to be, and what is after them has a fault
 pub fault_behind : {Value Cfg : Type 0} (written : Value → List ℕ) (is_found : MarkedText → ℕ → Cfg → Value → Type 0)
-    (is_fault : MarkedText → ℕ → Cfg → Fault → Type 0) (text : MarkedText) (cfg : Cfg) (f : Fault) (xs : List Value) (n skip : ℕ) → length xs < n
+    (is_fault : MarkedText → ℕ → Cfg → Fault → Type 0) (text : MarkedText) (cfg : Cfg) (f : Fault) (xs : List Value) (n skip : ℕ)
+    → length xs < n
     → AreFound written is_found text skip cfg xs → is_fault text (skip + length (flat_map written xs)) cfg f
     → IsOneFault written is_found is_fault n text skip cfg f
 fault_behind written is_found is_fault text cfg f xs zero skip few found fault = absurd (omega (arith, few))
@@ -41,8 +48,10 @@ fault_behind written is_found is_fault text cfg f (x ∷ xs) (suc n) skip few fo
     )
 
 -- the values are found, and one after them
-pub found_more : {Value Cfg : Type 0} (written : Value → List ℕ) (is_found : MarkedText → ℕ → Cfg → Value → Type 0) (text : MarkedText) (cfg : Cfg)
-    (x : Value) (xs : List Value) (skip : ℕ) → AreFound written is_found text skip cfg xs → is_found text (skip + length (flat_map written xs)) cfg x
+pub found_more : {Value Cfg : Type 0} (written : Value → List ℕ) (is_found : MarkedText → ℕ → Cfg → Value → Type 0) (text : MarkedText)
+    (cfg : Cfg)
+    (x : Value) (xs : List Value) (skip : ℕ) → AreFound written is_found text skip cfg xs
+    → is_found text (skip + length (flat_map written xs)) cfg x
     → AreFound written is_found text skip cfg (xs ++ x ∷ [])
 found_more written is_found text cfg x [] skip found is =
     let here : skip + 0 ≡ skip = omega arith in

@@ -53,7 +53,8 @@ pub record IsForm (Value Cfg : Type 0) (written : Value → List ℕ) (same : Va
   pub refuses : (value : Value) (cfg : Cfg) (text : MarkedText) (skip : ℕ) (rest : List ℕ) (fault : Fault) → admits cfg value
       → drop skip text.bytes ≡ written value ++ rest → is_fault text skip cfg fault → fault ≡ no_memory
   -- two faults at equal bytes are equal, unless one is a failed allocation
-  pub one_fault : (s t : MarkedText) (skip : ℕ) (cfg : Cfg) (a b : Fault) → s.bytes ≡ t.bytes → is_fault s skip cfg a → is_fault t skip cfg b
+  pub one_fault : (s t : MarkedText) (skip : ℕ) (cfg : Cfg) (a b : Fault) → s.bytes ≡ t.bytes → is_fault s skip cfg a
+      → is_fault t skip cfg b
       → (a ≡ b) ⊎ ((a ≡ no_memory) ⊎ (b ≡ no_memory))
 
 abbrev pub IsCodecFault : (Error → Type 0) → Fault → Type 0
@@ -64,7 +65,8 @@ abbrev pub behind : MarkedText → ℕ → MarkedText
 behind text skip = record { bytes = drop skip text.bytes; mark = text.mark; cuts = [] }
 
 -- a length in the range follows the first bytes, and the value is made of the bytes after it
-pub record IsMadeThere {Value : Type 0} (makes : View → Value → Type 0) (text : MarkedText) (skip : ℕ) (range : RangeCfg) (value : Value) : Type 0 where
+pub record IsMadeThere {Value : Type 0} (makes : View → Value → Type 0) (text : MarkedText) (skip : ℕ) (range : RangeCfg)
+    (value : Value) : Type 0 where
   pub n : ℕ
   pub read : IsLengthRead (drop skip text.bytes) range (Ok n)
   pub within : length (spell n) + n ≤ length (drop skip text.bytes)
@@ -84,7 +86,8 @@ IsByteAt text skip byte = take 1 (drop skip text.bytes) ≡ byte ∷ []
 
 abbrev pub IsBoolFault : MarkedText → ℕ → Fault → Type 0
 IsBoolFault text skip fault =
-    ((fault ≡ Codec EndOfBuffer) × (drop skip text.bytes ≡ [])) ⊎ ((fault ≡ InvalidBool) × ((byte : ℕ) × IsByteAt text skip byte × (1 < byte)))
+    ((fault ≡ Codec EndOfBuffer) × (drop skip text.bytes ≡ []))
+    ⊎ ((fault ≡ InvalidBool) × ((byte : ℕ) × IsByteAt text skip byte × (1 < byte)))
 
 abbrev pub IsSameOption : {Value : Type 0} → (Value → Value → Type 0) → Option Value → Option Value → Type 0
 IsSameOption same None None = Unit {0}
@@ -104,6 +107,7 @@ abbrev pub IsOptionFault : {Cfg : Type 0} → (MarkedText → ℕ → Cfg → Fa
 IsOptionFault is_fault text skip cfg fault = IsBoolFault text skip fault ⊎ (IsByteAt text skip 1 × is_fault text (skip + 1) cfg fault)
 
 abbrev pub IsPairFault : {Value Cfg : Type 0} (written : Value → List ℕ) (is_found : MarkedText → ℕ → Cfg → Value → Type 0)
-    (is_fault : MarkedText → ℕ → Cfg → Fault → Type 0) (behind_fault : MarkedText → ℕ → Fault → Type 0) → MarkedText → ℕ → Cfg → Fault → Type 0
+    (is_fault : MarkedText → ℕ → Cfg → Fault → Type 0) (behind_fault : MarkedText → ℕ → Fault → Type 0) → MarkedText → ℕ → Cfg → Fault
+    → Type 0
 IsPairFault {Value} written is_found is_fault behind_fault text skip cfg fault =
     is_fault text skip cfg fault ⊎ ((x : Value) × is_found text skip cfg x × behind_fault text (skip + length (written x)) fault)

@@ -33,14 +33,18 @@ use Rattle.iobufs_values.specs.Form.{IsForm, IsCodecFault, no_memory, behind, Is
 
 -- ---- faults that are errors of the codec
 
-only_memory : (is : Error → Type 0) → ((error : Error) → is error → error ≡ Memory) → (fault : Fault) → IsCodecFault is fault → fault ≡ no_memory
+only_memory : (is : Error → Type 0) → ((error : Error) → is error → error ≡ Memory) → (fault : Fault) → IsCodecFault is fault
+    → fault ≡ no_memory
 only_memory is memory (Codec error) h = ap Codec (memory error h)
 only_memory is memory InvalidBool h = absurd h
 only_memory is memory (InvalidEnum tag) h = absurd h
 only_memory is memory (ExtraData n) h = absurd h
 
 lifted : (a b : Error) → (a ≡ b) ⊎ ((a ≡ Memory) ⊎ (b ≡ Memory)) → (Codec a ≡ Codec b) ⊎ ((Codec a ≡ no_memory) ⊎ (Codec b ≡ no_memory))
-lifted a b h = elim h [ inl same ↦ inl (ap Codec same) | inr memory ↦ elim memory [ inl p ↦ inr (inl (ap Codec p)) | inr q ↦ inr (inr (ap Codec q)) ] ]
+lifted a b h = elim h [
+  | inl same ↦ inl (ap Codec same)
+  | inr memory ↦ elim memory [ inl p ↦ inr (inl (ap Codec p)) | inr q ↦ inr (inr (ap Codec q)) ]
+]
 
 one_of : (is other : Error → Type 0) → ((a b : Error) → is a → other b → (a ≡ b) ⊎ ((a ≡ Memory) ⊎ (b ≡ Memory))) → (a b : Fault)
     → IsCodecFault is a → IsCodecFault other b → (a ≡ b) ⊎ ((a ≡ no_memory) ⊎ (b ≡ no_memory))
@@ -77,7 +81,8 @@ number_form Cfg written size form = record {
       only_memory (λ error. IsNumberRead written size (drop skip text.bytes) (Err error))
       (λ error is. number_back written size n (drop skip text.bytes) rest (Err error) form p e is) fault h;
   one_fault = λ s t skip _ a b e p q.
-      one_of (λ error. IsNumberRead written size (drop skip s.bytes) (Err error)) (λ error. IsNumberRead written size (drop skip t.bytes) (Err error))
+      one_of (λ error. IsNumberRead written size (drop skip s.bytes) (Err error))
+      (λ error. IsNumberRead written size (drop skip t.bytes) (Err error))
       (λ x y is other. number_alike written size form (behind s skip) (behind t skip) (Err x) (Err y) (ap (drop skip) e) is other) a b p q;
 }
 
@@ -100,10 +105,13 @@ length_form = record {
 
 -- the bytes of what was made, and how many they are with their length
 pub made_bytes : {Value : Type 0} (bytes_of : Value → List ℕ) (makes : View → Value → Type 0)
-    → ((view : View) (made : Value) → makes view made → bytes_of made ≡ view.bytes) → (text : MarkedText) (skip : ℕ) (range : RangeCfg) (value : Value)
-    → (there : IsMadeThere makes text skip range value) → bytes_of value ≡ take there.n (drop (length (spell there.n)) (drop skip text.bytes))
+    → ((view : View) (made : Value) → makes view made → bytes_of made ≡ view.bytes)
+    → (text : MarkedText) (skip : ℕ) (range : RangeCfg) (value : Value)
+    → (there : IsMadeThere makes text skip range value)
+    → bytes_of value ≡ take there.n (drop (length (spell there.n)) (drop skip text.bytes))
 made_bytes bytes_of makes same text skip range value there =
-    same (taken_view text (skip + length (spell there.n)) there.n) value there.made ∙ bytes-taken_view text (skip + length (spell there.n)) there.n
+    same (taken_view text (skip + length (spell there.n)) there.n) value there.made
+    ∙ bytes-taken_view text (skip + length (spell there.n)) there.n
     ∙ ap (take there.n) (sym (drop-drop (length (spell there.n)) skip text.bytes))
 
 pub made_long : {Value : Type 0} (bytes_of : Value → List ℕ) (makes : View → Value → Type 0)
@@ -126,10 +134,12 @@ bytes_form bytes_of makes same = record {
   same_written = λ x y e. ap bytes_written e;
   no_front = λ x y _ _ u v p q e. bytes_one (bytes_of x) (bytes_of y) u v p.0 q.0 e;
   found_written = λ value range text skip h.
-      bytes_front (behind text skip) range (bytes_of value) (h.n, (h.read, h.within), made_bytes bytes_of makes same text skip range value h);
+      bytes_front (behind text skip) range (bytes_of value)
+      (h.n, (h.read, h.within), made_bytes bytes_of makes same text skip range value h);
   refuses = λ value range text skip rest fault p e h.
       only_memory (IsViewFault (behind text skip) range)
-      (λ error is. view_back (record { bytes = bytes_of value; mark = static_mark }) range (behind text skip) rest (Err error) p.0 p.1 e is) fault h;
+      (λ error is. view_back (record { bytes = bytes_of value; mark = static_mark }) range (behind text skip) rest
+      (Err error) p.0 p.1 e is) fault h;
   one_fault = λ s t skip range a b e p q.
       one_of (IsViewFault (behind s skip) range) (IsViewFault (behind t skip) range)
       (λ x y is other. views_alike (behind s skip) (behind t skip) range (Err x) (Err y) (ap (drop skip) e) is other) a b p q;
@@ -139,7 +149,8 @@ bytes_form bytes_of makes same = record {
 
 pub array_form : (Cfg : Type 0) (n : ℕ)
     → IsForm (List ℕ) Cfg (λ bytes. bytes) (λ x y. x ≡ y) (λ _ bytes. length bytes ≡ n)
-    (λ text skip _ bytes. (length bytes ≡ n) × (take n (drop skip text.bytes) ≡ bytes)) (λ text skip _ fault. IsCodecFault (IsShortThere text skip n) fault)
+    (λ text skip _ bytes. (length bytes ≡ n) × (take n (drop skip text.bytes) ≡ bytes))
+    (λ text skip _ fault. IsCodecFault (IsShortThere text skip n) fault)
 array_form Cfg n = record {
   same_written = λ x y e. e;
   no_front = λ x y _ _ u v p q e. sym (take_at x u n p) ∙ ap (take n) e ∙ take_at y v n q;
@@ -147,7 +158,8 @@ array_form Cfg n = record {
   refuses = λ x _ text skip rest fault p e h.
       only_memory (IsShortThere text skip n)
       (λ error is. absurd (omega (arith, is.1, p, ap (λ (xs : List ℕ). length xs) e, length-append x rest))) fault h;
-  one_fault = λ s t skip _ a b e p q. one_of (IsShortThere s skip n) (IsShortThere t skip n) (λ x y is other. inl (is.0 ∙ sym other.0)) a b p q;
+  one_fault = λ s t skip _ a b e p q. one_of (IsShortThere s skip n) (IsShortThere t skip n)
+      (λ x y is other. inl (is.0 ∙ sym other.0)) a b p q;
 }
 
 -- ---- a `bool`
@@ -187,7 +199,8 @@ no_bool_fault : (text : MarkedText) (skip byte : ℕ) (fault : Fault) → byte �
 no_bool_fault text skip byte fault small at h =
     elim h [
       | inl ended ↦ no_first (drop skip text.bytes) byte at ended.1
-      | inr wrong ↦ let (other, there, large) = wrong.1 in absurd (omega (arith, small, large, two_firsts (drop skip text.bytes) byte other at there))
+      | inr wrong ↦ let (other, there, large) = wrong.1 in absurd
+          (omega (arith, small, large, two_firsts (drop skip text.bytes) byte other at there))
     ]
 
 one_bool_fault : (s t : MarkedText) (skip : ℕ) (a b : Fault) → s.bytes ≡ t.bytes → IsBoolFault s skip a → IsBoolFault t skip b → a ≡ b
@@ -228,20 +241,24 @@ pub whole_by : (u d : List ℕ) → take (length u) d ≡ u → d ≡ u ++ drop 
 whole_by u d front = sym (take-append-drop (length u) d) ∙ ap (λ xs. xs ++ drop (length u) d) front
 
 -- where the first value of two is found, the other is after it
-pub behind_first : {A C : Type 0} {written : A → List ℕ} {same : A → A → Type 0} {admits : C → A → Type 0} {is_found : MarkedText → ℕ → C → A → Type 0}
+pub behind_first : {A C : Type 0} {written : A → List ℕ} {same : A → A → Type 0} {admits : C → A → Type 0}
+    {is_found : MarkedText → ℕ → C → A → Type 0}
     {is_fault : MarkedText → ℕ → C → Fault → Type 0} → IsForm A C written same admits is_found is_fault
     → (x y : A) (cfg : C) (text : MarkedText) (skip : ℕ) (more : List ℕ)
-    → admits cfg x → drop skip text.bytes ≡ written x ++ more → is_found text skip cfg y → drop (skip + length (written y)) text.bytes ≡ more
+    → admits cfg x → drop skip text.bytes ≡ written x ++ more → is_found text skip cfg y
+    → drop (skip + length (written y)) text.bytes ≡ more
 behind_first {written = written} form x y cfg text skip more ok e found =
     let d = drop skip text.bytes in
     let (ok', front) = form.found_written y cfg text skip found in
     let whole : d ≡ written y ++ drop (length (written y)) d = whole_by (written y) d front in
-    let same : written x ≡ written y = form.same_written x y (form.no_front x y cfg cfg more (drop (length (written y)) d) ok ok' (sym e ∙ whole)) in
+    let same : written x ≡ written y = form.same_written x y
+    (form.no_front x y cfg cfg more (drop (length (written y)) d) ok ok' (sym e ∙ whole)) in
     sym (drop-drop (length (written y)) skip text.bytes) ∙ ap (drop (length (written y))) e
     ∙ ap (λ n. drop n (written x ++ more)) (ap length (sym same)) ∙ drop-append_seam (written x) more
 
 -- a value that is found, and a refusal at the same bytes: memory
-pub found_or_memory : {A C : Type 0} {written : A → List ℕ} {same : A → A → Type 0} {admits : C → A → Type 0} {is_found : MarkedText → ℕ → C → A → Type 0}
+pub found_or_memory : {A C : Type 0} {written : A → List ℕ} {same : A → A → Type 0} {admits : C → A → Type 0}
+    {is_found : MarkedText → ℕ → C → A → Type 0}
     {is_fault : MarkedText → ℕ → C → Fault → Type 0} → IsForm A C written same admits is_found is_fault
     → (x : A) (cfg : C) (s t : MarkedText) (skip : ℕ) (error : Fault) → s.bytes ≡ t.bytes
     → is_found s skip cfg x → is_fault t skip cfg error → error ≡ no_memory
@@ -252,7 +269,8 @@ found_or_memory {written = written} form x cfg s t skip error e found fault =
     form.refuses x cfg t skip (drop (length (written x)) d) error ok (ap (drop skip) (sym e) ∙ whole) fault
 
 -- two values that are found at the same bytes are the same
-pub found_same : {A C : Type 0} {written : A → List ℕ} {same : A → A → Type 0} {admits : C → A → Type 0} {is_found : MarkedText → ℕ → C → A → Type 0}
+pub found_same : {A C : Type 0} {written : A → List ℕ} {same : A → A → Type 0} {admits : C → A → Type 0}
+    {is_found : MarkedText → ℕ → C → A → Type 0}
     {is_fault : MarkedText → ℕ → C → Fault → Type 0} → IsForm A C written same admits is_found is_fault
     → (x y : A) (cfg : C) (s t : MarkedText) (skip : ℕ) → s.bytes ≡ t.bytes
     → is_found s skip cfg x → is_found t skip cfg y → same x y
@@ -266,8 +284,10 @@ found_same {written = written} form x y cfg s t skip e p q =
     form.no_front x y cfg cfg (drop (length (written x)) d) (drop (length (written y)) f) ok ok' (sym whole ∙ ap (drop skip) e ∙ whole')
 
 pub pair_form : {A C B D : Type 0}
-    {wa : A → List ℕ} {sa : A → A → Type 0} {oka : C → A → Type 0} {fa : MarkedText → ℕ → C → A → Type 0} {ea : MarkedText → ℕ → C → Fault → Type 0}
-    {wb : B → List ℕ} {sb : B → B → Type 0} {okb : D → B → Type 0} {fb : MarkedText → ℕ → D → B → Type 0} {eb : MarkedText → ℕ → D → Fault → Type 0}
+    {wa : A → List ℕ} {sa : A → A → Type 0} {oka : C → A → Type 0} {fa : MarkedText → ℕ → C → A → Type 0}
+    {ea : MarkedText → ℕ → C → Fault → Type 0}
+    {wb : B → List ℕ} {sb : B → B → Type 0} {okb : D → B → Type 0} {fb : MarkedText → ℕ → D → B → Type 0}
+    {eb : MarkedText → ℕ → D → Fault → Type 0}
     → IsForm A C wa sa oka fa ea → IsForm B D wb sb okb fb eb
     → IsForm (A × B) (C × D) (λ p. wa p.0 ++ wb p.1) (λ p q. sa p.0 q.0 × sb p.1 q.1) (λ cfg p. oka cfg.0 p.0 × okb cfg.1 p.1)
     (λ text skip cfg p. fa text skip cfg.0 p.0 × fb text (skip + length (wa p.0)) cfg.1 p.1)
@@ -275,15 +295,18 @@ pub pair_form : {A C B D : Type 0}
 pair_form {wa = wa} {wb = wb} {eb = eb} a b = record {
   same_written = λ p q h. ap (λ xs. xs ++ wb p.1) (a.same_written p.0 q.0 h.0) ∙ ap (λ xs. wa q.0 ++ xs) (b.same_written p.1 q.1 h.1);
   no_front = λ p q cfg other u v ok ok' e.
-      let whole : wa p.0 ++ (wb p.1 ++ u) ≡ wa q.0 ++ (wb q.1 ++ v) = sym (append_assoc (wa p.0) (wb p.1) u) ∙ e ∙ append_assoc (wa q.0) (wb q.1) v in
+      let whole : wa p.0 ++ (wb p.1 ++ u) ≡ wa q.0 ++ (wb q.1 ++ v) = sym (append_assoc (wa p.0) (wb p.1) u) ∙ e
+      ∙ append_assoc (wa q.0) (wb q.1) v in
       let first = a.no_front p.0 q.0 cfg.0 other.0 (wb p.1 ++ u) (wb q.1 ++ v) ok.0 ok'.0 whole in
-      let rest = append_cancel_left (wa p.0) (wb p.1 ++ u) (wb q.1 ++ v) (whole ∙ ap (λ xs. xs ++ (wb q.1 ++ v)) (sym (a.same_written p.0 q.0 first))) in
+      let rest = append_cancel_left (wa p.0) (wb p.1 ++ u) (wb q.1 ++ v)
+      (whole ∙ ap (λ xs. xs ++ (wb q.1 ++ v)) (sym (a.same_written p.0 q.0 first))) in
       (first, b.no_front p.1 q.1 cfg.1 other.1 u v ok.1 ok'.1 rest);
   found_written = λ p cfg text skip h.
       let (ok, front) = a.found_written p.0 cfg.0 text skip h.0 in
       let (ok', front') = b.found_written p.1 cfg.1 text (skip + length (wa p.0)) h.1 in (
         (ok, ok'),
-        two_bytes (drop skip text.bytes) (wa p.0) (wb p.1) front (ap (take (length (wb p.1))) (drop-drop (length (wa p.0)) skip text.bytes) ∙ front'),
+        two_bytes (drop skip text.bytes) (wa p.0) (wb p.1) front
+            (ap (take (length (wb p.1))) (drop-drop (length (wa p.0)) skip text.bytes) ∙ front'),
       );
   refuses = λ p cfg text skip rest error ok e h.
       let whole : drop skip text.bytes ≡ wa p.0 ++ (wb p.1 ++ rest) = e ∙ append_assoc (wa p.0) (wb p.1) rest in
@@ -302,7 +325,8 @@ pair_form {wa = wa} {wb = wb} {eb = eb} a b = record {
         | inr (x, found, second) ↦ elim q [
           | inl other ↦ inr (inr (found_or_memory a x cfg.0 s t skip f same found other))
           | inr (y, found', second') ↦
-              let len : length (wa x) ≡ length (wa y) = ap length (a.same_written x y (found_same a x y cfg.0 s t skip same found found')) in
+              let len : length (wa x) ≡ length (wa y) = ap length
+              (a.same_written x y (found_same a x y cfg.0 s t skip same found found')) in
               b.one_fault s t (skip + length (wa x)) cfg.1 e f same second (subst (λ n. eb t (skip + n) cfg.1 f) (sym len) second')
         ]
       ];
@@ -310,7 +334,8 @@ pair_form {wa = wa} {wb = wb} {eb = eb} a b = record {
 
 -- ---- written values are read back
 
-pub read_back : {A C : Type 0} {written : A → List ℕ} {same : A → A → Type 0} {admits : C → A → Type 0} {is_found : MarkedText → ℕ → C → A → Type 0}
+pub read_back : {A C : Type 0} {written : A → List ℕ} {same : A → A → Type 0} {admits : C → A → Type 0}
+    {is_found : MarkedText → ℕ → C → A → Type 0}
     {is_fault : MarkedText → ℕ → C → Fault → Type 0} → IsForm A C written same admits is_found is_fault
     → (x y : A) (cfg : C) (text : MarkedText) (skip : ℕ) (rest : List ℕ)
     → admits cfg x → drop skip text.bytes ≡ written x ++ rest → is_found text skip cfg y → same x y
@@ -321,14 +346,17 @@ read_back {written = written} form x y cfg text skip rest ok e found =
     form.no_front x y cfg cfg rest (drop (length (written y)) d) ok ok' (sym e ∙ whole)
 
 pub form_as : {S A C D : Type 0} {w : A → List ℕ} {same : A → A → Type 0} {ok : C → A → Type 0} {found : MarkedText → ℕ → C → A → Type 0}
-    {fault : MarkedText → ℕ → C → Fault → Type 0} → (parts : S → A) (config : D → C) (written : S → List ℕ) → ((s : S) → written s ≡ w (parts s))
+    {fault : MarkedText → ℕ → C → Fault → Type 0} → (parts : S → A) (config : D → C) (written : S → List ℕ)
+    → ((s : S) → written s ≡ w (parts s))
     → IsForm A C w same ok found fault
-    → IsForm S D written (λ s t. same (parts s) (parts t)) (λ cfg s. ok (config cfg) (parts s)) (λ text skip cfg s. found text skip (config cfg) (parts s))
+    → IsForm S D written (λ s t. same (parts s) (parts t)) (λ cfg s. ok (config cfg) (parts s))
+    (λ text skip cfg s. found text skip (config cfg) (parts s))
     (λ text skip cfg f. fault text skip (config cfg) f)
 form_as {w = w} parts config written is form = record {
   same_written = λ x y h. is x ∙ form.same_written (parts x) (parts y) h ∙ sym (is y);
   no_front = λ x y cfg other u v p q e.
-      form.no_front (parts x) (parts y) (config cfg) (config other) u v p q (ap (λ zs. zs ++ u) (sym (is x)) ∙ e ∙ ap (λ zs. zs ++ v) (is y));
+      form.no_front (parts x) (parts y) (config cfg) (config other) u v p q
+      (ap (λ zs. zs ++ u) (sym (is x)) ∙ e ∙ ap (λ zs. zs ++ v) (is y));
   found_written = λ x cfg text skip h.
       let (ok', front) = form.found_written (parts x) (config cfg) text skip h in
       (ok', subst (λ (zs : List ℕ). take (length zs) (drop skip text.bytes) ≡ zs) (sym (is x)) front);
@@ -368,8 +396,10 @@ option_found w s ok found fault a (Some x) cfg text skip h =
     (in', two_bytes (drop skip text.bytes) (1 ∷ []) (w x) h.0 (ap (take (length (w x))) (drop-drop 1 skip text.bytes) ∙ front))
 
 option_refused : {A C : Type 0} (w : A → List ℕ) (s : A → A → Type 0) (ok : C → A → Type 0) (found : MarkedText → ℕ → C → A → Type 0)
-    (fault : MarkedText → ℕ → C → Fault → Type 0) → IsForm A C w s ok found fault → (x : Option A) (cfg : C) (text : MarkedText) (skip : ℕ) (rest : List ℕ)
-    (f : Fault) → IsOptionAdmitted ok cfg x → drop skip text.bytes ≡ option_written w x ++ rest → IsOptionFault fault text skip cfg f → f ≡ no_memory
+    (fault : MarkedText → ℕ → C → Fault → Type 0) → IsForm A C w s ok found fault
+    → (x : Option A) (cfg : C) (text : MarkedText) (skip : ℕ) (rest : List ℕ)
+    (f : Fault) → IsOptionAdmitted ok cfg x → drop skip text.bytes ≡ option_written w x ++ rest → IsOptionFault fault text skip cfg f
+    → f ≡ no_memory
 option_refused w s ok found fault a None cfg text skip rest f p e h =
     elim h [
       | inl wrong ↦ absurd (no_bool_fault text skip 0 f (omega arith) (ap (take 1) e) wrong)
@@ -382,7 +412,8 @@ option_refused w s ok found fault a (Some x) cfg text skip rest f p e h =
     ]
 
 option_faults : {A C : Type 0} (w : A → List ℕ) (s : A → A → Type 0) (ok : C → A → Type 0) (found : MarkedText → ℕ → C → A → Type 0)
-    (fault : MarkedText → ℕ → C → Fault → Type 0) → IsForm A C w s ok found fault → (x y : MarkedText) (skip : ℕ) (cfg : C) (e f : Fault) → x.bytes ≡ y.bytes
+    (fault : MarkedText → ℕ → C → Fault → Type 0) → IsForm A C w s ok found fault → (x y : MarkedText) (skip : ℕ) (cfg : C) (e f : Fault)
+    → x.bytes ≡ y.bytes
     → IsOptionFault fault x skip cfg e → IsOptionFault fault y skip cfg f → (e ≡ f) ⊎ ((e ≡ no_memory) ⊎ (f ≡ no_memory))
 option_faults w s ok found fault a x y skip cfg e f is p q =
     let one : drop skip x.bytes ≡ drop skip y.bytes = ap (drop skip) is in

@@ -1,4 +1,5 @@
--- A byte for the kind followed by a value, and a value of one of two kinds: the first byte determines which.
+-- A byte for the kind followed by a value, and a value of one of two kinds: the first byte determines which. Impls cite the
+-- lemmas, so they are in `specs/`.
 --     IsTagAt                                the first of these bytes is of the kind, or of another
 --     IsNoKind                                  no byte is there
 --     IsKindFound, IsKindFault               the byte of a kind followed by a value; why it isn't decoded
@@ -55,7 +56,8 @@ IsSameEither first second (First x) (Second y) = ⊥
 IsSameEither first second (Second x) (First y) = ⊥
 IsSameEither first second (Second x) (Second y) = second x y
 
-abbrev pub IsEitherAdmitted : {A B C D : Type 0} → (ℕ → Bool) → (B → List ℕ) → (C → A → Type 0) → (D → B → Type 0) → C × D → Either A B → Type 0
+abbrev pub IsEitherAdmitted : {A B C D : Type 0} → (ℕ → Bool) → (B → List ℕ) → (C → A → Type 0) → (D → B → Type 0) → C × D → Either A B
+    → Type 0
 IsEitherAdmitted is_tag written first second cfg (First x) = first cfg.0 x
 IsEitherAdmitted is_tag written first second cfg (Second y) = second cfg.1 y × IsTagAt is_tag false (written y)
 
@@ -184,7 +186,8 @@ or_first : (p q : ℕ → Bool) (bytes : List ℕ) → IsTagAt q true bytes → 
 or_first p q bytes f = record { tag = f.tag; at = f.at; tells = ap (λ told. p f.tag || told) f.tells ∙ or_true (p f.tag) }
 
 -- the first byte of a value tells its kind, and so that it is of one of the two
-pub either_first : {A B : Type 0} {wa : A → List ℕ} {wb : B → List ℕ} {p q : ℕ → Bool} → ((x : A) → IsTagAt p true (wa x)) → ((y : B) → IsTagAt q true (wb y))
+pub either_first : {A B : Type 0} {wa : A → List ℕ} {wb : B → List ℕ} {p q : ℕ → Bool} → ((x : A) → IsTagAt p true (wa x))
+    → ((y : B) → IsTagAt q true (wb y))
     → (value : Either A B) → IsTagAt (λ byte. p byte || q byte) true (either_written wa wb value)
 either_first {wa = wa} {p = p} {q = q} first second (First x) = first_or p q (wa x) (first x)
 either_first {wb = wb} {p = p} {q = q} first second (Second y) = or_first p q (wb y) (second y)
@@ -198,8 +201,10 @@ either_same wa wb sa sb first second (Second x) (First y) h = absurd h
 either_same wa wb sa sb first second (Second x) (Second y) h = second x y h
 
 either_front : {A B C D : Type 0} {p : ℕ → Bool}
-    {wa : A → List ℕ} {sa : A → A → Type 0} {oka : C → A → Type 0} {fa : MarkedText → ℕ → C → A → Type 0} {ea : MarkedText → ℕ → C → Fault → Type 0}
-    {wb : B → List ℕ} {sb : B → B → Type 0} {okb : D → B → Type 0} {fb : MarkedText → ℕ → D → B → Type 0} {eb : MarkedText → ℕ → D → Fault → Type 0}
+    {wa : A → List ℕ} {sa : A → A → Type 0} {oka : C → A → Type 0} {fa : MarkedText → ℕ → C → A → Type 0}
+    {ea : MarkedText → ℕ → C → Fault → Type 0}
+    {wb : B → List ℕ} {sb : B → B → Type 0} {okb : D → B → Type 0} {fb : MarkedText → ℕ → D → B → Type 0}
+    {eb : MarkedText → ℕ → D → Fault → Type 0}
     → IsForm A C wa sa oka fa ea → ((x : A) → IsTagAt p true (wa x)) → IsForm B D wb sb okb fb eb
     → (x y : Either A B) (cfg other : C × D) (u v : List ℕ) → IsEitherAdmitted p wb oka okb cfg x → IsEitherAdmitted p wb oka okb other y
     → either_written wa wb x ++ u ≡ either_written wa wb y ++ v → IsSameEither sa sb x y
@@ -214,12 +219,15 @@ either_front a begins b (Second x) (Second y) cfg other u v ok ok' e = b.no_fron
 first_there : (p q : ℕ → Bool) (d w : List ℕ) → take (length w) d ≡ w → IsTagAt q true w → IsTagAt p false d → IsTagAt p false w
 first_there p q d w front begins f =
     let whole : d ≡ w ++ drop (length w) d = whole_by w d front in
-    let same : f.tag ≡ begins.tag = two_firsts d f.tag begins.tag f.at (ap (take 1) whole ∙ begins_on w (drop (length w) d) begins.tag begins.at) in
+    let same : f.tag ≡ begins.tag = two_firsts d f.tag begins.tag f.at
+    (ap (take 1) whole ∙ begins_on w (drop (length w) d) begins.tag begins.at) in
     record { tag = begins.tag; at = begins.at; tells = ap p (sym same) ∙ f.tells }
 
 either_found : {A B C D : Type 0} {p q : ℕ → Bool}
-    {wa : A → List ℕ} {sa : A → A → Type 0} {oka : C → A → Type 0} {fa : MarkedText → ℕ → C → A → Type 0} {ea : MarkedText → ℕ → C → Fault → Type 0}
-    {wb : B → List ℕ} {sb : B → B → Type 0} {okb : D → B → Type 0} {fb : MarkedText → ℕ → D → B → Type 0} {eb : MarkedText → ℕ → D → Fault → Type 0}
+    {wa : A → List ℕ} {sa : A → A → Type 0} {oka : C → A → Type 0} {fa : MarkedText → ℕ → C → A → Type 0}
+    {ea : MarkedText → ℕ → C → Fault → Type 0}
+    {wb : B → List ℕ} {sb : B → B → Type 0} {okb : D → B → Type 0} {fb : MarkedText → ℕ → D → B → Type 0}
+    {eb : MarkedText → ℕ → D → Fault → Type 0}
     → IsForm A C wa sa oka fa ea → ((x : A) → IsTagAt p true (wa x)) → IsForm B D wb sb okb fb eb → ((y : B) → IsTagAt q true (wb y))
     → (x : Either A B) (cfg : C × D) (text : MarkedText) (skip : ℕ) → IsEitherFound p fa fb text skip cfg x
     → IsEitherAdmitted p wb oka okb cfg x × (take (length (either_written wa wb x)) (drop skip text.bytes) ≡ either_written wa wb x)
@@ -229,8 +237,10 @@ either_found {p = p} {q = q} {wb = wb} a begins b begins' (Second y) cfg text sk
     ((in', first_there p q (drop skip text.bytes) (wb y) front (begins' y) h.0), front)
 
 either_refused : {A B C D : Type 0} {p : ℕ → Bool}
-    {wa : A → List ℕ} {sa : A → A → Type 0} {oka : C → A → Type 0} {fa : MarkedText → ℕ → C → A → Type 0} {ea : MarkedText → ℕ → C → Fault → Type 0}
-    {wb : B → List ℕ} {sb : B → B → Type 0} {okb : D → B → Type 0} {fb : MarkedText → ℕ → D → B → Type 0} {eb : MarkedText → ℕ → D → Fault → Type 0}
+    {wa : A → List ℕ} {sa : A → A → Type 0} {oka : C → A → Type 0} {fa : MarkedText → ℕ → C → A → Type 0}
+    {ea : MarkedText → ℕ → C → Fault → Type 0}
+    {wb : B → List ℕ} {sb : B → B → Type 0} {okb : D → B → Type 0} {fb : MarkedText → ℕ → D → B → Type 0}
+    {eb : MarkedText → ℕ → D → Fault → Type 0}
     → IsForm A C wa sa oka fa ea → ((x : A) → IsTagAt p true (wa x)) → IsForm B D wb sb okb fb eb
     → (x : Either A B) (cfg : C × D) (text : MarkedText) (skip : ℕ) (rest : List ℕ) (f : Fault) → IsEitherAdmitted p wb oka okb cfg x
     → drop skip text.bytes ≡ either_written wa wb x ++ rest → IsEitherFault p ea eb text skip cfg f → f ≡ no_memory
@@ -256,8 +266,10 @@ either_refused {p = p} {wb = wb} a begins b (Second y) cfg text skip rest f ok e
     ]
 
 either_faults : {A B C D : Type 0} {p : ℕ → Bool}
-    {wa : A → List ℕ} {sa : A → A → Type 0} {oka : C → A → Type 0} {fa : MarkedText → ℕ → C → A → Type 0} {ea : MarkedText → ℕ → C → Fault → Type 0}
-    {wb : B → List ℕ} {sb : B → B → Type 0} {okb : D → B → Type 0} {fb : MarkedText → ℕ → D → B → Type 0} {eb : MarkedText → ℕ → D → Fault → Type 0}
+    {wa : A → List ℕ} {sa : A → A → Type 0} {oka : C → A → Type 0} {fa : MarkedText → ℕ → C → A → Type 0}
+    {ea : MarkedText → ℕ → C → Fault → Type 0}
+    {wb : B → List ℕ} {sb : B → B → Type 0} {okb : D → B → Type 0} {fb : MarkedText → ℕ → D → B → Type 0}
+    {eb : MarkedText → ℕ → D → Fault → Type 0}
     → IsForm A C wa sa oka fa ea → ((x : A) → IsTagAt p true (wa x)) → IsForm B D wb sb okb fb eb
     → (t u : MarkedText) (skip : ℕ) (cfg : C × D) (e f : Fault) → t.bytes ≡ u.bytes
     → IsEitherFault p ea eb t skip cfg e → IsEitherFault p ea eb u skip cfg f → (e ≡ f) ⊎ ((e ≡ no_memory) ⊎ (f ≡ no_memory))
@@ -290,10 +302,13 @@ either_faults {p = p} a begins b t u skip cfg e f is g h =
     ]
 
 pub either_form : {A B C D : Type 0} {p q : ℕ → Bool}
-    {wa : A → List ℕ} {sa : A → A → Type 0} {oka : C → A → Type 0} {fa : MarkedText → ℕ → C → A → Type 0} {ea : MarkedText → ℕ → C → Fault → Type 0}
-    {wb : B → List ℕ} {sb : B → B → Type 0} {okb : D → B → Type 0} {fb : MarkedText → ℕ → D → B → Type 0} {eb : MarkedText → ℕ → D → Fault → Type 0}
+    {wa : A → List ℕ} {sa : A → A → Type 0} {oka : C → A → Type 0} {fa : MarkedText → ℕ → C → A → Type 0}
+    {ea : MarkedText → ℕ → C → Fault → Type 0}
+    {wb : B → List ℕ} {sb : B → B → Type 0} {okb : D → B → Type 0} {fb : MarkedText → ℕ → D → B → Type 0}
+    {eb : MarkedText → ℕ → D → Fault → Type 0}
     → IsForm A C wa sa oka fa ea → ((x : A) → IsTagAt p true (wa x)) → IsForm B D wb sb okb fb eb → ((y : B) → IsTagAt q true (wb y))
-    → IsForm (Either A B) (C × D) (either_written wa wb) (IsSameEither sa sb) (IsEitherAdmitted p wb oka okb) (IsEitherFound p fa fb) (IsEitherFault p ea eb)
+    → IsForm (Either A B) (C × D) (either_written wa wb) (IsSameEither sa sb) (IsEitherAdmitted p wb oka okb) (IsEitherFound p fa fb)
+    (IsEitherFault p ea eb)
 either_form {wa = wa} {sa = sa} {wb = wb} {sb = sb} a begins b begins' = record {
   same_written = either_same wa wb sa sb a.same_written b.same_written;
   no_front = λ x y cfg other u v ok ok' e. either_front a begins b x y cfg other u v ok ok' e;

@@ -29,24 +29,30 @@ list_written written values = spell (length values) ++ flat_map written values
 abbrev pub list_items : {Value : Type 0} → (Value → List PutOrPush) → List Value → List PutOrPush
 list_items items values = put_item (spell (length values)) ∷ flat_map items values
 
-abbrev pub AreFound : {Value Cfg : Type 0} → (Value → List ℕ) → (MarkedText → ℕ → Cfg → Value → Type 0) → MarkedText → ℕ → Cfg → List Value → Type 0
+abbrev pub AreFound : {Value Cfg : Type 0} → (Value → List ℕ) → (MarkedText → ℕ → Cfg → Value → Type 0) → MarkedText → ℕ → Cfg → List Value
+    → Type 0
 AreFound written is_found text skip cfg [] = Unit {0}
-AreFound written is_found text skip cfg (x ∷ xs) = is_found text skip cfg x × AreFound written is_found text (skip + length (written x)) cfg xs
+AreFound written is_found text skip cfg (x ∷ xs) = is_found text skip cfg x
+    × AreFound written is_found text (skip + length (written x)) cfg xs
 
-abbrev pub IsListFound : {Value Cfg : Type 0} → (Value → List ℕ) → (MarkedText → ℕ → Cfg → Value → Type 0) → MarkedText → ℕ → RangeCfg × Cfg → List Value
+abbrev pub IsListFound : {Value Cfg : Type 0} → (Value → List ℕ) → (MarkedText → ℕ → Cfg → Value → Type 0) → MarkedText → ℕ → RangeCfg × Cfg
+    → List Value
     → Type 0
 IsListFound written is_found text skip cfg values = IsLengthRead (drop skip text.bytes) cfg.0 (Ok (length values))
     × AreFound written is_found text (skip + length (spell (length values))) cfg.1 values
 
-abbrev pub IsOneFault : {Value Cfg : Type 0} → (Value → List ℕ) → (MarkedText → ℕ → Cfg → Value → Type 0) → (MarkedText → ℕ → Cfg → Fault → Type 0)
+abbrev pub IsOneFault : {Value Cfg : Type 0} → (Value → List ℕ) → (MarkedText → ℕ → Cfg → Value → Type 0)
+    → (MarkedText → ℕ → Cfg → Fault → Type 0)
     → ℕ → MarkedText → ℕ → Cfg → Fault → Type 0
 IsOneFault written is_found is_fault zero text skip cfg fault = ⊥
 IsOneFault written is_found is_fault (suc n) text skip cfg fault =
     IsPairFault written is_found is_fault (λ t k f. IsOneFault written is_found is_fault n t k cfg f) text skip cfg fault
 
-abbrev pub IsListFault : {Value Cfg : Type 0} → (Value → List ℕ) → (MarkedText → ℕ → Cfg → Value → Type 0) → (MarkedText → ℕ → Cfg → Fault → Type 0)
+abbrev pub IsListFault : {Value Cfg : Type 0} → (Value → List ℕ) → (MarkedText → ℕ → Cfg → Value → Type 0)
+    → (MarkedText → ℕ → Cfg → Fault → Type 0)
     → MarkedText → ℕ → RangeCfg × Cfg → Fault → Type 0
-IsListFault written is_found is_fault text skip cfg fault = IsCodecFault (λ error. IsLengthRead (drop skip text.bytes) cfg.0 (Err error)) fault
+IsListFault written is_found is_fault text skip cfg fault = IsCodecFault
+    (λ error. IsLengthRead (drop skip text.bytes) cfg.0 (Err error)) fault
     ⊎ ((n : ℕ) × IsLengthRead (drop skip text.bytes) cfg.0 (Ok n)
     × (IsOneFault written is_found is_fault n text (skip + length (spell n)) cfg.1 fault ⊎ ((fault ≡ no_memory) × (0 < n))))
 
@@ -58,13 +64,15 @@ AreSame same (x ∷ xs) (y ∷ ys) = same x y × AreSame same xs ys
 
 -- ---- the items of a list join to what is written of it
 
-pub joins_each : {Value : Type 0} (written : Value → List ℕ) (items : Value → List PutOrPush) → ((value : Value) → items_bytes (items value) ≡ written value)
+pub joins_each : {Value : Type 0} (written : Value → List ℕ) (items : Value → List PutOrPush)
+    → ((value : Value) → items_bytes (items value) ≡ written value)
     → (values : List Value) → items_bytes (flat_map items values) ≡ flat_map written values
 joins_each written items joins [] = refl
 joins_each written items joins (x ∷ xs) =
     joins_two (items x) (flat_map items xs) (written x) (flat_map written xs) (joins x) (joins_each written items joins xs)
 
-pub joins_list : {Value : Type 0} (written : Value → List ℕ) (items : Value → List PutOrPush) → ((value : Value) → items_bytes (items value) ≡ written value)
+pub joins_list : {Value : Type 0} (written : Value → List ℕ) (items : Value → List PutOrPush)
+    → ((value : Value) → items_bytes (items value) ≡ written value)
     → (values : List Value) → items_bytes (list_items items values) ≡ list_written written values
 joins_list written items joins values = ap (λ zs. spell (length values) ++ zs) (joins_each written items joins values)
 
@@ -92,7 +100,8 @@ each_front form (x ∷ xs) [] cfg other u v n p q e = absurd (omega (arith, n))
 each_front {w = w} {ok = ok} form (x ∷ xs) (y ∷ ys) cfg other u v n p q e =
     let whole : w x ++ (flat_map w xs ++ u) ≡ w y ++ (flat_map w ys ++ v) =
     sym (append_assoc (w x) (flat_map w xs) u) ∙ e ∙ append_assoc (w y) (flat_map w ys) v in
-    let first = form.no_front x y cfg other (flat_map w xs ++ u) (flat_map w ys ++ v) (All-head (ok cfg) x xs p) (All-head (ok other) y ys q) whole in
+    let first = form.no_front x y cfg other (flat_map w xs ++ u) (flat_map w ys ++ v) (All-head (ok cfg) x xs p)
+    (All-head (ok other) y ys q) whole in
     let rest = append_cancel_left (w x) (flat_map w xs ++ u) (flat_map w ys ++ v)
     (whole ∙ ap (λ zs. zs ++ (flat_map w ys ++ v)) (sym (form.same_written x y first))) in
     (first, each_front form xs ys cfg other u v (omega (arith, n)) (All-tail (ok cfg) x xs p) (All-tail (ok other) y ys q) rest)
@@ -137,7 +146,8 @@ each_faults {w = w} {found = found} {fault = fault} form (suc n) t u skip cfg e 
       | inr (x, is_there, second) ↦ elim q [
         | inl other ↦ inr (inr (found_or_memory form x cfg t u skip f is is_there other))
         | inr (y, is_there', second') ↦
-            let len : length (w x) ≡ length (w y) = ap length (form.same_written x y (found_same form x y cfg t u skip is is_there is_there')) in
+            let len : length (w x) ≡ length (w y) = ap length
+            (form.same_written x y (found_same form x y cfg t u skip is is_there is_there')) in
             each_faults form n t u (skip + length (w x)) cfg e f is second
             (subst (λ k. IsOneFault w found fault n u (skip + k) cfg f) (sym len) second')
       ]
@@ -195,7 +205,8 @@ list_faults {w = w} {found = found} {fault = fault} form t u skip cfg e f is p q
 pub list_form : {A C : Type 0} {w : A → List ℕ} {s : A → A → Type 0} {ok : C → A → Type 0} {found : MarkedText → ℕ → C → A → Type 0}
     {fault : MarkedText → ℕ → C → Fault → Type 0} → IsForm A C w s ok found fault
     → IsForm (List A) (RangeCfg × C) (list_written w) (AreSame s)
-    (λ cfg xs. ((length xs < 2 ^ 64) × (in_range cfg.0 (length xs) ≡ true)) × All (ok cfg.1) xs) (IsListFound w found) (IsListFault w found fault)
+    (λ cfg xs. ((length xs < 2 ^ 64) × (in_range cfg.0 (length xs) ≡ true)) × All (ok cfg.1) xs) (IsListFound w found)
+    (IsListFault w found fault)
 list_form {w = w} {s = s} {ok = ok} form = record {
   same_written = λ xs ys h. ap (λ n. spell n ++ flat_map w xs) (same_count s xs ys h)
       ∙ ap (λ zs. spell (length ys) ++ zs) (same_each w s form.same_written xs ys h);

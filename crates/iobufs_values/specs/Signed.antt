@@ -17,7 +17,8 @@ pub signed_form : {S U C : Type 0} {w : U → List ℕ} {same : U → U → Type
     → IsForm S C (λ x. w (bits x)) (λ x y. x ≡ y) (λ _ x. fits x) (λ text skip cfg x. fits x × found text skip cfg (bits x)) fault
 signed_form {w = w} fits bits form one admitted = record {
   same_written = λ x y e. ap (λ z. w (bits z)) e;
-  no_front = λ x y cfg other u v p q e. one x y p q (form.no_front (bits x) (bits y) cfg other u v (admitted cfg x p) (admitted other y q) e);
+  no_front = λ x y cfg other u v p q e. one x y p q
+      (form.no_front (bits x) (bits y) cfg other u v (admitted cfg x p) (admitted other y q) e);
   found_written = λ x cfg text skip h. let (in', front) = form.found_written (bits x) cfg text skip h.1 in (h.0, front);
   refuses = λ x cfg text skip rest fault p e h. form.refuses (bits x) cfg text skip rest fault (admitted cfg x p) e h;
   one_fault = λ s t skip cfg a b e p q. form.one_fault s t skip cfg a b e p q;

@@ -53,7 +53,8 @@ impl<const TAG: u8, T: EncodeSize> EncodeSize for Kind<TAG, T> {
         (TAG, &self.value).encode_inline_size()
     }
 
-    ghost joins_items = { λ kind. joins_two (put_item (TAG ∷ []) ∷ []) (T.items kind.value) (TAG ∷ []) (T.written kind.value)
+    ghost joins_items = { λ kind. joins_two (put_item (TAG ∷ []) ∷ []) (T.items kind.value) (TAG ∷ [])
+        (T.written kind.value)
         (joins-put (TAG ∷ [])) (T.joins_items kind.value) };
 }
 
@@ -93,7 +94,8 @@ impl<const TAG: u8, T: Look + Drop> Look for Kind<TAG, T> {
         Ok((Kind { value }, 1 + len))
     }
 
-    ghost form = { form_as (λ kind. kind.value) (λ cfg. cfg) (λ kind. TAG ∷ T.written kind.value) (λ kind. refl) (kind_form TAG T.form) };
+    ghost form = { form_as (λ kind. kind.value) (λ cfg. cfg) (λ kind. TAG ∷ T.written kind.value) (λ kind. refl)
+        (kind_form TAG T.form) };
 }
 
 impl<const TAG: u8, T: Look + Drop> Tagged for Kind<TAG, T> {

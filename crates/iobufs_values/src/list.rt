@@ -59,7 +59,8 @@ impl<T: Look + Drop> Look for List<T> {
 
     ghost is_fault = { IsListFault T.written T.is_found T.is_fault };
 
-    ghost admits = { λ cfg list. ((length list.values.items < 2 ^ 64) × (in_range cfg.0 (length list.values.items) ≡ true))
+    ghost admits = { λ cfg list. ((length list.values.items < 2 ^ 64)
+        × (in_range cfg.0 (length list.values.items) ≡ true))
         × All (T.admits cfg.1) list.values.items };
 
     ghost same = { λ x y. AreSame T.same x.values.items y.values.items };
@@ -76,13 +77,15 @@ impl<T: Look + Drop> Look for List<T> {
         Ok((List { values }, len + more))
     }
 
-    ghost form = { form_as (λ list. list.values.items) (λ cfg. cfg) (λ list. list_written T.written list.values.items) (λ list. refl)
+    ghost form = { form_as (λ list. list.values.items) (λ cfg. cfg) (λ list. list_written T.written list.values.items)
+        (λ list. refl)
         (list_form T.form) };
 }
 
 // The encoded size of the values in order; `None` above `usize::MAX`.
 fn each_size<T: EncodeSize>(values: &[T]) -> Option<usize>
-    ensures { SomeIff result (length (flat_map T.written values.now) < 2 ^ 64) (length (flat_map T.written values.now)) }
+    ensures { SomeIff result (length (flat_map T.written values.now) < 2 ^ 64)
+        (length (flat_map T.written values.now)) }
 {
     let mut size = 0usize;
     for value in values {
@@ -142,7 +145,8 @@ fn look_each<T: Look + Drop, B: Peek>(
     ensures found { IfOk result (λ found. AreFound T.written T.is_found (B.marked buf.now) skip cfg.now found.0.items) }
     ensures len { IfOk result (λ found. found.1 ≡ length (flat_map T.written found.0.items)) }
     ensures within { IfOk result (λ found. skip + found.1 ≤ length (B.text buf.now)) }
-    ensures fault { IfErr result (λ fault. IsOneFault T.written T.is_found T.is_fault count (B.marked buf.now) skip cfg.now fault
+    ensures fault { IfErr result (λ fault. IsOneFault T.written T.is_found T.is_fault count
+        (B.marked buf.now) skip cfg.now fault
         ⊎ ((fault ≡ no_memory) × (0 < count))) }
 {
     has_len(buf);

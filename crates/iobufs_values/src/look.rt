@@ -47,7 +47,8 @@ pub trait Look: EncodeSize + Sized {
         ensures found { IfOk result (is_found (B.marked buf.old) 0 cfg.now) }
         ensures left { IfOk result (λ value. buf.new ≡ B.copied buf.old (length (Self.written value))) }
         ensures bytes { IfOk result (λ value. B.text buf.old ≡ Self.written value ++ B.text buf.new) }
-        ensures back { (value : Self) (rest : List ℕ) → admits cfg.now value → B.text buf.old ≡ Self.written value ++ rest
+        ensures back { (value : Self) (rest : List ℕ) → admits cfg.now value
+            → B.text buf.old ≡ Self.written value ++ rest
             → IsReadBackWhole same value rest (B.text buf.new) result }
         ensures fault { IfErr result (is_fault (B.marked buf.old) 0 cfg.now) }
         ensures unchanged { OnErr result (buf.new ≡ buf.old) }
@@ -64,9 +65,12 @@ pub trait Look: EncodeSize + Sized {
         Self: Drop,
         ensures found { IfOk result (is_found (B.marked buf.now) 0 cfg.now) }
         ensures whole { IfOk result (λ value. B.text buf.now ≡ Self.written value) }
-        ensures back { (value : Self) → admits cfg.now value → B.text buf.now ≡ Self.written value → IsDecodedBack same value result }
-        ensures fault { IfErr result (λ fault. is_fault (B.marked buf.now) 0 cfg.now fault ⊎ ((value : Self) × (n : ℕ) × (fault ≡ ExtraData n)
-            × (is_found (B.marked buf.now) 0 cfg.now value) × (0 < n) × (length (B.text buf.now) ≡ length (Self.written value) + n))) }
+        ensures back { (value : Self) → admits cfg.now value → B.text buf.now ≡ Self.written value
+            → IsDecodedBack same value result }
+        ensures fault { IfErr result (λ fault. is_fault (B.marked buf.now) 0 cfg.now fault
+            ⊎ ((value : Self) × (n : ℕ) × (fault ≡ ExtraData n)
+            × (is_found (B.marked buf.now) 0 cfg.now value) × (0 < n)
+            × (length (B.text buf.now) ≡ length (Self.written value) + n))) }
     {
         let (value, len) = Self::look(alloc, buf, 0, cfg)?;
         let left = buf.remaining() - len;

@@ -17,7 +17,8 @@ impl Look for u8 {
 
     ghost is_found = { λ text skip _ n. IsNumberRead (λ n. n ∷ []) 1 (drop skip text.bytes) (Ok n) };
 
-    ghost is_fault = { λ text skip _ fault. IsCodecFault (λ error. IsNumberRead (λ n. n ∷ []) 1 (drop skip text.bytes) (Err error)) fault };
+    ghost is_fault = { λ text skip _ fault. IsCodecFault
+        (λ error. IsNumberRead (λ n. n ∷ []) 1 (drop skip text.bytes) (Err error)) fault };
 
     ghost admits = { λ _ n. n < 2 ^ 8 };
 
@@ -40,7 +41,8 @@ impl Look for u16 {
 
     ghost is_found = { λ text skip _ n. IsNumberRead (to_be_bytes w16) 2 (drop skip text.bytes) (Ok n) };
 
-    ghost is_fault = { λ text skip _ fault. IsCodecFault (λ error. IsNumberRead (to_be_bytes w16) 2 (drop skip text.bytes) (Err error)) fault };
+    ghost is_fault = { λ text skip _ fault. IsCodecFault
+        (λ error. IsNumberRead (to_be_bytes w16) 2 (drop skip text.bytes) (Err error)) fault };
 
     ghost admits = { λ _ n. n < 2 ^ 16 };
 
@@ -61,7 +63,8 @@ impl Look for u32 {
 
     ghost is_found = { λ text skip _ n. IsNumberRead (to_be_bytes w32) 4 (drop skip text.bytes) (Ok n) };
 
-    ghost is_fault = { λ text skip _ fault. IsCodecFault (λ error. IsNumberRead (to_be_bytes w32) 4 (drop skip text.bytes) (Err error)) fault };
+    ghost is_fault = { λ text skip _ fault. IsCodecFault
+        (λ error. IsNumberRead (to_be_bytes w32) 4 (drop skip text.bytes) (Err error)) fault };
 
     ghost admits = { λ _ n. n < 2 ^ 32 };
 
@@ -82,7 +85,8 @@ impl Look for u64 {
 
     ghost is_found = { λ text skip _ n. IsNumberRead (to_be_bytes w64) 8 (drop skip text.bytes) (Ok n) };
 
-    ghost is_fault = { λ text skip _ fault. IsCodecFault (λ error. IsNumberRead (to_be_bytes w64) 8 (drop skip text.bytes) (Err error)) fault };
+    ghost is_fault = { λ text skip _ fault. IsCodecFault
+        (λ error. IsNumberRead (to_be_bytes w64) 8 (drop skip text.bytes) (Err error)) fault };
 
     ghost admits = { λ _ n. n < 2 ^ 64 };
 
@@ -103,7 +107,8 @@ impl Look for u128 {
 
     ghost is_found = { λ text skip _ n. IsNumberRead (to_be_bytes w128) 16 (drop skip text.bytes) (Ok n) };
 
-    ghost is_fault = { λ text skip _ fault. IsCodecFault (λ error. IsNumberRead (to_be_bytes w128) 16 (drop skip text.bytes) (Err error)) fault };
+    ghost is_fault = { λ text skip _ fault. IsCodecFault
+        (λ error. IsNumberRead (to_be_bytes w128) 16 (drop skip text.bytes) (Err error)) fault };
 
     ghost admits = { λ _ n. n < 2 ^ 128 };
 
@@ -124,7 +129,8 @@ impl Look for usize {
 
     ghost is_found = { λ text skip range n. IsLengthRead (drop skip text.bytes) range (Ok n) };
 
-    ghost is_fault = { λ text skip range fault. IsCodecFault (λ error. IsLengthRead (drop skip text.bytes) range (Err error)) fault };
+    ghost is_fault = { λ text skip range fault. IsCodecFault
+        (λ error. IsLengthRead (drop skip text.bytes) range (Err error)) fault };
 
     ghost admits = { λ range n. (n < 2 ^ 64) × (in_range range n ≡ true) };
 

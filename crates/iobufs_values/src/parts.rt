@@ -53,10 +53,12 @@ pub trait ByParts: Sized {
     ) -> Result<Self, Fault>
         ensures found { IfOk result (λ value. Self.Parts.is_found (B.marked buf.now) 0 cfg.now (parts value)) }
         ensures whole { IfOk result (λ value. B.text buf.now ≡ Self.Parts.written (parts value)) }
-        ensures back { (value : Self) → Self.Parts.admits cfg.now (parts value) → B.text buf.now ≡ Self.Parts.written (parts value)
+        ensures back { (value : Self) → Self.Parts.admits cfg.now (parts value)
+            → B.text buf.now ≡ Self.Parts.written (parts value)
             → IsDecodedBack (λ x y. Self.Parts.same (parts x) (parts y)) value result }
         ensures fault { IfErr result (λ fault. Self.Parts.is_fault (B.marked buf.now) 0 cfg.now fault
-            ⊎ ((all : Self.Parts) × (n : ℕ) × (fault ≡ ExtraData n) × (Self.Parts.is_found (B.marked buf.now) 0 cfg.now all) × (0 < n)
+            ⊎ ((all : Self.Parts) × (n : ℕ) × (fault ≡ ExtraData n)
+            × (Self.Parts.is_found (B.marked buf.now) 0 cfg.now all) × (0 < n)
             × (length (B.text buf.now) ≡ length (Self.Parts.written all) + n))) }
     {
         let all = <Self::Parts as Look>::decode_cfg(alloc, buf, cfg)?;
@@ -93,13 +95,16 @@ where
 
     /// Encodes into chunks as `EncodeExt` does with the fields; views are pushed and not copied. `X` is `IoBufs`.
     final fn encode_iobufs<X: FromText>(self, alloc: Global) -> Result<X, Error>
-        ensures pieces { IfOk result (λ made. X.as_text made ≡ finished (building_after (empty_building (items_inline (Self.Parts.items (Self.parts self))))
+        ensures pieces { IfOk result (λ made. X.as_text made ≡ finished
+            (building_after (empty_building (items_inline (Self.Parts.items (Self.parts self))))
             (Self.Parts.items (Self.parts self)))) }
         ensures bytes { IfOk result (λ made. (X.as_text made).bytes ≡ Self.Parts.written (Self.parts self)) }
         ensures too_long { 2 ^ 64 ≤ length (Self.Parts.written (Self.parts self)) → result ≡ Err Error.TooLong }
-        ensures bad_layout { length (Self.Parts.written (Self.parts self)) < 2 ^ 64 → 2 ^ 63 ≤ items_inline (Self.Parts.items (Self.parts self))
+        ensures bad_layout { length (Self.Parts.written (Self.parts self)) < 2 ^ 64
+            → 2 ^ 63 ≤ items_inline (Self.Parts.items (Self.parts self))
             → result ≡ Err Error.BadLayout }
-        ensures memory { length (Self.Parts.written (Self.parts self)) < 2 ^ 64 → items_inline (Self.Parts.items (Self.parts self)) < 2 ^ 63
+        ensures memory { length (Self.Parts.written (Self.parts self)) < 2 ^ 64
+            → items_inline (Self.Parts.items (Self.parts self)) < 2 ^ 63
             → IsOkUnless result Error.Memory }
         ensures nothing { length (Self.Parts.written (Self.parts self)) ≡ 0 → IsOk result }
     {
@@ -111,7 +116,8 @@ where
     final fn encode(self, alloc: Global) -> Result<IoBufMut, Error>
         ensures ok { IfOk result (λ part. part ≡ record { filled = Self.Parts.written (Self.parts self); spare = 0 }) }
         ensures too_long { 2 ^ 64 ≤ length (Self.Parts.written (Self.parts self)) → result ≡ Err Error.TooLong }
-        ensures bad_layout { length (Self.Parts.written (Self.parts self)) < 2 ^ 64 → 2 ^ 63 ≤ length (Self.Parts.written (Self.parts self))
+        ensures bad_layout { length (Self.Parts.written (Self.parts self)) < 2 ^ 64
+            → 2 ^ 63 ≤ length (Self.Parts.written (Self.parts self))
             → result ≡ Err Error.BadLayout }
         ensures memory { length (Self.Parts.written (Self.parts self)) < 2 ^ 63 → IsOkUnless result Error.Memory }
         ensures nothing { length (Self.Parts.written (Self.parts self)) ≡ 0 → IsOk result }

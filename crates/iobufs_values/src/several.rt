@@ -12,9 +12,11 @@ use std::alloc::Global;
 impl<A: Look + Drop, B: Look + Drop> Look for (A, B) {
     type Cfg = (A::Cfg, B::Cfg);
 
-    ghost is_found = { λ text skip cfg p. A.is_found text skip cfg.0 p.0 × B.is_found text (skip + length (A.written p.0)) cfg.1 p.1 };
+    ghost is_found = { λ text skip cfg p. A.is_found text skip cfg.0 p.0
+        × B.is_found text (skip + length (A.written p.0)) cfg.1 p.1 };
 
-    ghost is_fault = { λ text skip cfg fault. IsPairFault A.written A.is_found A.is_fault (λ t k f. B.is_fault t k cfg.1 f) text skip cfg.0 fault };
+    ghost is_fault = { λ text skip cfg fault. IsPairFault A.written A.is_found A.is_fault
+        (λ t k f. B.is_fault t k cfg.1 f) text skip cfg.0 fault };
 
     ghost admits = { λ cfg p. A.admits cfg.0 p.0 × B.admits cfg.1 p.1 };
 
@@ -80,7 +82,8 @@ impl<A: Look + Drop, B: Look + Drop, C: Look + Drop, D: Look + Drop> Look for (A
     ghost is_found = { λ text skip cfg p. A.is_found text skip cfg.0 p.0
         × (B.is_found text (skip + length (A.written p.0)) cfg.1 p.1
         × (C.is_found text (skip + length (A.written p.0) + length (B.written p.1)) cfg.2 p.2
-        × D.is_found text (skip + length (A.written p.0) + length (B.written p.1) + length (C.written p.2)) cfg.3 p.3)) };
+        × D.is_found text (skip + length (A.written p.0) + length (B.written p.1) + length
+        (C.written p.2)) cfg.3 p.3)) };
 
     ghost is_fault = { λ text skip cfg fault. IsPairFault A.written A.is_found A.is_fault
         (λ t k f. IsPairFault B.written B.is_found B.is_fault
@@ -123,7 +126,8 @@ impl<A: Look + Drop, B: Look + Drop, C: Look + Drop, D: Look + Drop, E: Look + D
         × (B.is_found text (skip + length (A.written p.0)) cfg.1 p.1
         × (C.is_found text (skip + length (A.written p.0) + length (B.written p.1)) cfg.2 p.2
         × (D.is_found text (skip + length (A.written p.0) + length (B.written p.1) + length (C.written p.2)) cfg.3 p.3
-        × E.is_found text (skip + length (A.written p.0) + length (B.written p.1) + length (C.written p.2) + length (D.written p.3)) cfg.4 p.4))) };
+        × E.is_found text (skip + length (A.written p.0) + length (B.written p.1) + length (C.written p.2) + length
+        (D.written p.3)) cfg.4 p.4))) };
 
     ghost is_fault = { λ text skip cfg fault. IsPairFault A.written A.is_found A.is_fault
         (λ t k f. IsPairFault B.written B.is_found B.is_fault
@@ -132,7 +136,8 @@ impl<A: Look + Drop, B: Look + Drop, C: Look + Drop, D: Look + Drop, E: Look + D
         (λ t k f. E.is_fault t k cfg.4 f) t k cfg.3 f) t k cfg.2 f) t k cfg.1 f)
         text skip cfg.0 fault };
 
-    ghost admits = { λ cfg p. A.admits cfg.0 p.0 × (B.admits cfg.1 p.1 × (C.admits cfg.2 p.2 × (D.admits cfg.3 p.3 × E.admits cfg.4 p.4))) };
+    ghost admits = { λ cfg p. A.admits cfg.0 p.0
+        × (B.admits cfg.1 p.1 × (C.admits cfg.2 p.2 × (D.admits cfg.3 p.3 × E.admits cfg.4 p.4))) };
 
     ghost same = { λ p q. A.same p.0 q.0 × (B.same p.1 q.1 × (C.same p.2 q.2 × (D.same p.3 q.3 × E.same p.4 q.4))) };
 
@@ -175,8 +180,10 @@ impl<
         × (B.is_found text (skip + length (A.written p.0)) cfg.1 p.1
         × (C.is_found text (skip + length (A.written p.0) + length (B.written p.1)) cfg.2 p.2
         × (D.is_found text (skip + length (A.written p.0) + length (B.written p.1) + length (C.written p.2)) cfg.3 p.3
-        × (E.is_found text (skip + length (A.written p.0) + length (B.written p.1) + length (C.written p.2) + length (D.written p.3)) cfg.4 p.4
-        × F.is_found text (skip + length (A.written p.0) + length (B.written p.1) + length (C.written p.2) + length (D.written p.3)
+        × (E.is_found text (skip + length (A.written p.0) + length (B.written p.1) + length (C.written p.2) + length
+        (D.written p.3)) cfg.4 p.4
+        × F.is_found text (skip + length (A.written p.0) + length (B.written p.1) + length (C.written p.2) + length
+        (D.written p.3)
         + length (E.written p.4)) cfg.5 p.5)))) };
 
     ghost is_fault = { λ text skip cfg fault. IsPairFault A.written A.is_found A.is_fault
@@ -187,10 +194,12 @@ impl<
         (λ t k f. F.is_fault t k cfg.5 f) t k cfg.4 f) t k cfg.3 f) t k cfg.2 f) t k cfg.1 f)
         text skip cfg.0 fault };
 
-    ghost admits = { λ cfg p. A.admits cfg.0 p.0 × (B.admits cfg.1 p.1 × (C.admits cfg.2 p.2 × (D.admits cfg.3 p.3 × (E.admits cfg.4 p.4
+    ghost admits = { λ cfg p. A.admits cfg.0 p.0
+        × (B.admits cfg.1 p.1 × (C.admits cfg.2 p.2 × (D.admits cfg.3 p.3 × (E.admits cfg.4 p.4
         × F.admits cfg.5 p.5)))) };
 
-    ghost same = { λ p q. A.same p.0 q.0 × (B.same p.1 q.1 × (C.same p.2 q.2 × (D.same p.3 q.3 × (E.same p.4 q.4 × F.same p.5 q.5)))) };
+    ghost same = { λ p q. A.same p.0 q.0 × (B.same p.1 q.1
+        × (C.same p.2 q.2 × (D.same p.3 q.3 × (E.same p.4 q.4 × F.same p.5 q.5)))) };
 
     fn look<R: Peek>(
         alloc: Global,
@@ -214,7 +223,8 @@ impl<
         Ok(((one, two, three, four, five, six), end - skip))
     }
 
-    ghost form = { form_as (λ p. (p.0, (p.1, (p.2, (p.3, (p.4, p.5)))))) (λ cfg. (cfg.0, (cfg.1, (cfg.2, (cfg.3, (cfg.4, cfg.5))))))
+    ghost form = { form_as (λ p. (p.0, (p.1, (p.2, (p.3, (p.4, p.5))))))
+        (λ cfg. (cfg.0, (cfg.1, (cfg.2, (cfg.3, (cfg.4, cfg.5))))))
         (λ p. A.written p.0 ++ (B.written p.1 ++ (C.written p.2 ++ (D.written p.3 ++ (E.written p.4 ++ F.written p.5))))) (λ p. refl)
         (pair_form A.form (pair_form B.form (pair_form C.form (pair_form D.form (pair_form E.form F.form))))) };
 }

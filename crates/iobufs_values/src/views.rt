@@ -74,7 +74,8 @@ impl Look for IoBuf {
         range: &RangeCfg,
     ) -> Result<(IoBuf, usize), Fault>
         requires { skip ≤ length (B.text buf.now) }
-        ensures found { IfOk result (λ found. IsMadeThere (λ view made. made ≡ view) (B.marked buf.now) skip range.now found.0) }
+        ensures found { IfOk result (λ found. IsMadeThere (λ view made. made ≡ view)
+            (B.marked buf.now) skip range.now found.0) }
         ensures len { IfOk result (λ found. found.1 ≡ length (bytes_written found.0.bytes)) }
         ensures within { IfOk result (λ found. skip + found.1 ≤ length (B.text buf.now)) }
         ensures fault { IfErr result (IsCodecFault (IsViewFault (behind (B.marked buf.now) skip) range.now)) }
@@ -103,7 +104,8 @@ impl Look for Bytes {
         range: &RangeCfg,
     ) -> Result<(Bytes, usize), Fault>
         requires { skip ≤ length (B.text buf.now) }
-        ensures found { IfOk result (λ found. IsMadeThere (λ view made. made ≡ view.bytes) (B.marked buf.now) skip range.now found.0) }
+        ensures found { IfOk result (λ found. IsMadeThere (λ view made. made ≡ view.bytes)
+            (B.marked buf.now) skip range.now found.0) }
         ensures len { IfOk result (λ found. found.1 ≡ length (bytes_written found.0)) }
         ensures within { IfOk result (λ found. skip + found.1 ≤ length (B.text buf.now)) }
         ensures fault { IfErr result (IsCodecFault (IsViewFault (behind (B.marked buf.now) skip) range.now)) }

@@ -1,7 +1,7 @@
 -- A view put after others; an empty one changes nothing.
 use Rattle.iobufs.proofs.Text.{AreFull, AreFull-append, AreViews, AreViews-append, IsView, List, MarkedText, View, [], ap, append-nil, append-push, append_assoc, arith, by_lt, common_steps, default_text, eq-eqb, flat_map-append, fold, if◌then◌else◌, joined, length, length-append, length-bytes, nat_tests, not_zero, of_pieces, of_pieces-one, pieces_bytes, refl, subst, sym, text_append, text_glue, text_len, ◌++◌, ◌+◌, ◌<◌, ◌==◌, ◌∙◌, ◌∷◌, ◌≡◌, ◌≤◌}
 
--- no pieces make the empty text
+-- no chunks make the empty text
 pub of_pieces-none : of_pieces [] ≡ default_text
 unfolding of_pieces
 of_pieces-none = refl
@@ -19,11 +19,12 @@ add-full vs ws v is full =
     added-by vs ws v is (λ h e. subst AreFull (sym e) (AreFull-append vs (v ∷ []) full (h, tt))) (λ h e. subst AreFull (sym e) full)
 
 -- where views have room for their bytes and so has one more, they have it with that one after them, or without it where it is empty
-pub add-views : (vs ws : List View) (v : View) → ws ≡ (if length v.bytes == 0 then vs else vs ++ v ∷ []) → AreViews vs → IsView v → AreViews ws
+pub add-views : (vs ws : List View) (v : View) → ws ≡ (if length v.bytes == 0 then vs else vs ++ v ∷ []) → AreViews vs → IsView v
+    → AreViews ws
 add-views vs ws v is all view =
     added-by vs ws v is (λ h e. subst AreViews (sym e) (AreViews-append vs (v ∷ []) all (view, tt))) (λ h e. subst AreViews (sym e) all)
 
--- full pieces with a view after them, but without it where it is empty, make their text with the view appended
+-- full chunks with a view after them, but without it where it is empty, make their text with the view appended
 pub add-text : (vs ws : List View) (v : View) → ws ≡ (if length v.bytes == 0 then vs else vs ++ v ∷ []) → AreFull vs
     → of_pieces ws ≡ text_append (of_pieces vs) v
 add-text vs ws v is full =
@@ -61,9 +62,13 @@ full-joined : (ws vs : List View) → AreFull ws → AreFull vs → of_pieces (w
 full-joined ws [] some full = ap of_pieces (append-nil ws)
 full-joined ws (v ∷ vs) some full =
     let more : ws ++ v ∷ [] ≡ (if length v.bytes == 0 then ws else ws ++ v ∷ []) = rw (not_zero (length v.bytes) full.0) refl in
-    cc (append_assoc ws (v ∷ []) vs, full-joined (ws ++ v ∷ []) vs (add-full ws (ws ++ v ∷ []) v more some) full.1, add-text ws (ws ++ v ∷ []) v more some)
+    cc (
+      append_assoc ws (v ∷ []) vs,
+      full-joined (ws ++ v ∷ []) vs (add-full ws (ws ++ v ∷ []) v more some) full.1,
+      add-text ws (ws ++ v ∷ []) v more some,
+    )
 
--- full pieces make the text that joining them makes
+-- full chunks make the text that joining them makes
 pub of_pieces-joined : (vs : List View) → AreFull vs → of_pieces vs ≡ joined vs
 of_pieces-joined vs full = full-joined [] vs tt full ∙ ap (λ (t : MarkedText). fold text_append t vs) of_pieces-none
 

@@ -26,16 +26,27 @@ front-pushed : (bytes : List ℕ) (ss : List Segment) → items_pushed (items_fr
 front-pushed bytes [] = refl
 front-pushed bytes (standing view ∷ ss) = let ih = front-pushed bytes ss in omega arith
 front-pushed bytes (gap n ∷ ss) =
-    omega (arith, front-pushed (drop n bytes) ss, run-pushed (take n bytes), items_pushed-append (inline_run (take n bytes)) (items_front (drop n bytes) ss))
+    omega (
+      arith,
+      front-pushed (drop n bytes) ss,
+      run-pushed (take n bytes),
+      items_pushed-append (inline_run (take n bytes)) (items_front (drop n bytes) ss),
+    )
 
 -- segments after others get the bytes that no gap had
-front-append : (bytes : List ℕ) (ss ts : List Segment) → items_front bytes (ss ++ ts) ≡ items_front bytes ss ++ items_front (drop (gaps_len ss) bytes) ts
+front-append : (bytes : List ℕ) (ss ts : List Segment)
+    → items_front bytes (ss ++ ts) ≡ items_front bytes ss ++ items_front (drop (gaps_len ss) bytes) ts
 front-append bytes [] ts = refl
 front-append bytes (standing view ∷ ss) ts =
     let same : gaps_len ss ≡ 0 + gaps_len ss = omega arith in
-    ap (λ items. push_item view ∷ items) (front-append bytes ss ts) ∙ ap (λ n. push_item view ∷ items_front bytes ss ++ items_front (drop n bytes) ts) same
+    ap (λ items. push_item view ∷ items) (front-append bytes ss ts)
+    ∙ ap (λ n. push_item view ∷ items_front bytes ss ++ items_front (drop n bytes) ts) same
 front-append bytes (gap n ∷ ss) ts =
-    cc (front-append (drop n bytes) ss ts, drop-drop (gaps_len ss) n bytes, append_assoc (inline_run (take n bytes)) (items_front (drop n bytes) ss) _)
+    cc (
+      front-append (drop n bytes) ss ts,
+      drop-drop (gaps_len ss) n bytes,
+      append_assoc (inline_run (take n bytes)) (items_front (drop n bytes) ss) _,
+    )
 
 front-pushed_segments : (bytes : List ℕ) (run : ℕ) (view : View)
     → items_front bytes (segments_pushed run view) ≡ inline_run (take run bytes) ++ push_item view ∷ []
@@ -92,8 +103,10 @@ pub put-capacity : (part : Part) (bytes : List ℕ) → length bytes ≤ part.sp
 put-capacity part bytes fits = let n = length-append part.filled bytes in omega arith
 
 -- a put into the fields of a builder is a put into what they say
-pub put-kept : (part after : Part) (ss : List Segment) (placed : ℕ) (b : Building) (bytes : List ℕ) → gaps_len ss ≡ placed → placed ≤ length part.filled
-    → building_from part ss placed ≡ b → length bytes ≤ building_room b → after ≡ part_put part bytes → building_from after ss placed ≡ building_put b bytes
+pub put-kept : (part after : Part) (ss : List Segment) (placed : ℕ) (b : Building) (bytes : List ℕ) → gaps_len ss ≡ placed
+    → placed ≤ length part.filled
+    → building_from part ss placed ≡ b → length bytes ≤ building_room b → after ≡ part_put part bytes
+    → building_from after ss placed ≡ building_put b bytes
 put-kept part after ss placed b bytes counted within is fits put =
     cc (put-building part ss placed bytes counted within (omega (arith, room-building part ss placed counted within, ap building_room is)))
 
@@ -101,10 +114,12 @@ put-kept part after ss placed b bytes counted within is fits put =
 pub push-kept : (part : Part) (ss after : List Segment) (placed end : ℕ) (b : Building) (run : ℕ) (view : View) → gaps_len ss ≡ placed
     → placed ≤ length part.filled → building_from part ss placed ≡ b → run ≡ length part.filled - placed → 0 < length view.bytes
     → after ≡ ss ++ segments_pushed run view → end ≡ placed + run → building_from part after end ≡ building_push b view
-push-kept part ss after placed end b run view counted within is run_is some pushed moved = cc (push-building part ss placed run view counted within run_is some)
+push-kept part ss after placed end b run view counted within is run_is some pushed moved = cc
+    (push-building part ss placed run view counted within run_is some)
 
 -- how many bytes pushes may still add
-pub pushes-kept : (part : Part) (ss : List Segment) (placed pushable : ℕ) (b : Building) → part_capacity part + stood_len ss + pushable + 1 ≡ 2 ^ 64
+pub pushes-kept : (part : Part) (ss : List Segment) (placed pushable : ℕ) (b : Building)
+    → part_capacity part + stood_len ss + pushable + 1 ≡ 2 ^ 64
     → building_from part ss placed ≡ b → room_for_pushes b ≡ pushable
 pushes-kept part ss placed pushable b limited is = ap room_for_pushes (sym is) ∙ pushes-building part ss placed pushable limited
 
@@ -123,7 +138,8 @@ in_turn-front bytes (gap n ∷ standing view ∷ ss) (some, stands, others) =
     in_turn-run (take n bytes) view (items_front (drop n bytes) ss) stands (in_turn-front (drop n bytes) ss others)
 
 -- the builder that fields represent has its items in turn and within its capacity, if the fields keep their invariant
-pub IsBuilding-kept : (part : Part) (ss : List Segment) (placed pushable : ℕ) (b : Building) → gaps_len ss ≡ placed → placed ≤ length part.filled
+pub IsBuilding-kept : (part : Part) (ss : List Segment) (placed pushable : ℕ) (b : Building) → gaps_len ss ≡ placed
+    → placed ≤ length part.filled
     → AreSegments ss → part_capacity part + stood_len ss + pushable + 1 ≡ 2 ^ 64 → building_from part ss placed ≡ b → IsBuilding b
 IsBuilding-kept part ss placed pushable b counted within segments limited is = subst IsBuilding is (
     record {

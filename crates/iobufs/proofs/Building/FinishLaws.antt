@@ -1,4 +1,4 @@
--- The pieces that a builder finishes to.
+-- The chunks that a builder finishes to.
 use Rattle.iobufs.proofs.Text.{AreSegments, Building, List, Part, PutOrPush, Segment, View, [], ap, append_assoc, arith, building_after, building_bytes, building_from, building_items, building_push, building_put, by_lt, common_steps, default_view, drop, drop-drop, empty_building, filled, finished, gap, gaps_len, if◌then◌else◌, inline_run, items_bytes, items_bytes-append, items_front, items_inline, items_pushed, joined, length, length-append, length-drop, length-take, nat_tests, native_mark, nil_from_length, not_zero, part_capacity, part_frozen, pieces_bytes, push-none, push_item, put_item, put_nothing, refl, room_for_pushes, run-bytes, standing, sym, take, take_all, view_rest, view_split_front, views_from, ℕ, ◌++◌, ◌+◌, ◌-◌, ◌<◌, ◌==◌, ◌^◌, ◌∙◌, ◌∷◌, ◌≡◌, ◌≤◌}
 use Rattle.iobufs.proofs.Building.AddLaws.{len-append}
 use Rattle.iobufs.proofs.Building.GapLaws.{segments-first}
@@ -12,7 +12,8 @@ inline-some : (room : ℕ) (bytes : List ℕ) → 0 < length bytes → inline_vi
 inline-some room bytes some = grind (arith, nat_tests, common_steps)
 
 views-some : (room : ℕ) (bytes : List ℕ) (items : List PutOrPush) → 0 < length bytes
-    → views_from room (inline_run bytes ++ items) ≡ record { bytes = bytes; mark = native_mark room } ∷ views_from (room - length bytes) items
+    → views_from room (inline_run bytes ++ items) ≡ record { bytes = bytes; mark = native_mark room } ∷ views_from
+    (room - length bytes) items
 views-some room [] items some = absurd (omega arith)
 views-some room (b ∷ bs) items some = refl
 
@@ -28,10 +29,12 @@ rest-inside : (room : ℕ) (bytes : List ℕ) (n : ℕ) → 0 < n → n < length
     → view_rest (record { bytes = bytes; mark = native_mark room }) n ≡ record { bytes = drop n bytes; mark = native_mark (room - n) }
 rest-inside room bytes n some inside = grind (arith, nat_tests, common_steps)
 
-rest-whole : (room : ℕ) (bytes : List ℕ) (n : ℕ) → 0 < n → n ≡ length bytes → view_rest (record { bytes = bytes; mark = native_mark room }) n ≡ default_view
+rest-whole : (room : ℕ) (bytes : List ℕ) (n : ℕ) → 0 < n → n ≡ length bytes
+    → view_rest (record { bytes = bytes; mark = native_mark room }) n ≡ default_view
 rest-whole room bytes n some whole = grind (arith, nat_tests, common_steps)
 
-rest-inline : (room : ℕ) (bytes : List ℕ) (n : ℕ) → n ≤ length bytes → view_rest (inline_view room bytes) n ≡ inline_view (room - n) (drop n bytes)
+rest-inline : (room : ℕ) (bytes : List ℕ) (n : ℕ) → n ≤ length bytes
+    → view_rest (inline_view room bytes) n ≡ inline_view (room - n) (drop n bytes)
 rest-inline room bytes n fits =
     by_lt 0 n (λ some.
     let d = length-drop n bytes in
@@ -66,7 +69,8 @@ filled-views room bytes (gap n ∷ ss) segments fits =
     let len : length w ≡ n = (let t = length-take n bytes in omega arith) in
     let items = items_front left ss ++ inline_run (drop (gaps_len ss) left) in
     let run : record { bytes = w; mark = native_mark room } ∷ views_from (room - n) items ≡ views_from room (inline_run w ++ items) =
-    ap (λ k. record { bytes = w; mark = native_mark room } ∷ views_from (room - k) items) (sym len) ∙ sym (views-some room w items (omega arith)) in
+    ap (λ k. record { bytes = w; mark = native_mark room } ∷ views_from (room - k) items) (sym len)
+    ∙ sym (views-some room w items (omega arith)) in
     ap (λ (v : View). v ∷ filled (view_rest (inline_view room bytes) n) ss) (split-some room bytes n some inside)
     ∙ ap (λ (v : View). record { bytes = w; mark = native_mark room } ∷ filled v ss) (rest-inline room bytes n inside)
     ∙ ap (λ vs. record { bytes = w; mark = native_mark room } ∷ vs) (filled-views (room - n) left ss first.1 (omega arith))
@@ -87,7 +91,7 @@ inline-bytes room (b ∷ bs) = ap (λ (v : View). v.bytes) (inline-some room (b 
 pub frozen-bytes : (part : Part) → (part_frozen part).bytes ≡ part.filled
 frozen-bytes part = inline-bytes (part_capacity part) part.filled
 
--- the bytes of the pieces are all bytes
+-- the bytes of the chunks are all bytes
 views-bytes : (room : ℕ) (items : List PutOrPush) → pieces_bytes (views_from room items) ≡ items_bytes items
 views-bytes room [] = refl
 views-bytes room (put_item bytes ∷ items) = ap (λ more. bytes ++ more) (views-bytes (room - length bytes) items)

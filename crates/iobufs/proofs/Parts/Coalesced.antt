@@ -2,7 +2,8 @@
 use Rattle.iobufs.proofs.Text.{List, None, Part, [], arith, bad_layout_one, empty_part, length, none-some, part_put, parts_coalesced, parts_filled, refl, same_part, single_part, sym, ℕ, ◌∷◌, ◌≡◌}
 
 -- where no part is the only one, they become one of their bytes, with no room after them
-pub coalesced-several : (parts : List Part) → single_part parts ≡ None → parts_coalesced parts ≡ record { filled = parts_filled parts; spare = 0 }
+pub coalesced-several : (parts : List Part) → single_part parts ≡ None
+    → parts_coalesced parts ≡ record { filled = parts_filled parts; spare = 0 }
 coalesced-several [] h = refl
 coalesced-several (p ∷ []) h = absurd (none-some p (sym h))
 coalesced-several (p ∷ q ∷ parts) h = refl

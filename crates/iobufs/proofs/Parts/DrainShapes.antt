@@ -16,16 +16,19 @@ shared_out-none (p ∷ parts) =
     λ i. p ∷ (ap (parts_shared_out parts) none ∙ shared_out-none parts) i
 
 -- with two or more that can all hold a byte, no bytes need no case of their own
-pub drained-several : (parts : List Part) (n : ℕ) → 1 < length parts → HaveCapacity parts → parts_drained parts n ≡ kept_parts (parts_shared_out parts n)
+pub drained-several : (parts : List Part) (n : ℕ) → 1 < length parts → HaveCapacity parts
+    → parts_drained parts n ≡ kept_parts (parts_shared_out parts n)
 drained-several [] n several able = absurd (omega arith)
 drained-several (p ∷ []) n several able = absurd (omega arith)
 drained-several (p ∷ q ∷ parts) n several able =
-    cond_both (nat_eq n 0) (p ∷ q ∷ parts) (kept_parts (parts_shared_out (p ∷ q ∷ parts) n)) (λ ps. ps ≡ kept_parts (parts_shared_out (p ∷ q ∷ parts) n))
+    cond_both (nat_eq n 0) (p ∷ q ∷ parts) (kept_parts (parts_shared_out (p ∷ q ∷ parts) n))
+    (λ ps. ps ≡ kept_parts (parts_shared_out (p ∷ q ∷ parts) n))
     (λ e. sym (cc (eqb-true n 0 e, shared_out-none (p ∷ q ∷ parts), with_capacity-all (p ∷ q ∷ parts) able)))
     (λ _. refl)
 
 -- less than the first part holds goes from it alone
-pub shared_out-first : (p : Part) (parts : List Part) (n : ℕ) → n < length p.filled → parts_shared_out (p ∷ parts) n ≡ part_drained p n ∷ parts
+pub shared_out-first : (p : Part) (parts : List Part) (n : ℕ) → n < length p.filled
+    → parts_shared_out (p ∷ parts) n ≡ part_drained p n ∷ parts
 shared_out-first p parts n less =
     ap (λ ps. part_drained p n ∷ ps) (ap (parts_shared_out parts) (omega arith) ∙ shared_out-none parts)
 
@@ -43,7 +46,8 @@ capacity-with_capacity [] = refl
 capacity-with_capacity (p ∷ parts) =
     let ih = capacity-with_capacity parts in
     let all = sum_by-cons part_capacity p parts in
-    cond_both (nat_lt 0 (part_capacity p)) (p ∷ with_capacity parts) (with_capacity parts) (λ ps. parts_capacity ps ≡ parts_capacity (p ∷ parts))
+    cond_both (nat_lt 0 (part_capacity p)) (p ∷ with_capacity parts) (with_capacity parts)
+    (λ ps. parts_capacity ps ≡ parts_capacity (p ∷ parts))
     (λ _. omega (arith, sum_by-cons part_capacity p (with_capacity parts)))
     (λ e. omega (arith, ltb-false 0 (part_capacity p) e))
 
@@ -53,15 +57,22 @@ capacity-shared_out [] n = omega arith
 capacity-shared_out (p ∷ parts) n =
     let ih = capacity-shared_out parts (n - length p.filled) in
     let d = length-drop n p.filled in
-    omega (arith, sum_by-cons part_capacity p parts, sum_by-cons part_capacity (part_drained p n) (parts_shared_out parts (n - length p.filled)))
+    omega (
+      arith,
+      sum_by-cons part_capacity p parts,
+      sum_by-cons part_capacity (part_drained p n) (parts_shared_out parts (n - length p.filled)),
+    )
 
 -- a part more after others
-pub with_capacity-push : (parts : List Part) (p : Part) → 0 < part_capacity p → with_capacity (parts ++ p ∷ []) ≡ with_capacity parts ++ p ∷ []
+pub with_capacity-push : (parts : List Part) (p : Part) → 0 < part_capacity p
+    → with_capacity (parts ++ p ∷ []) ≡ with_capacity parts ++ p ∷ []
 with_capacity-push parts p more =
-    filter-append (λ q. nat_lt 0 (part_capacity q)) parts (p ∷ []) ∙ ap (λ ps. with_capacity parts ++ ps) (with_capacity-all (p ∷ []) (more, tt))
+    filter-append (λ q. nat_lt 0 (part_capacity q)) parts (p ∷ [])
+    ∙ ap (λ ps. with_capacity parts ++ ps) (with_capacity-all (p ∷ []) (more, tt))
 
 -- one that can't hold a byte goes, wherever it stands
-pub with_capacity-spent : (ahead parts : List Part) (p : Part) → part_capacity p ≡ 0 → with_capacity (ahead ++ p ∷ parts) ≡ with_capacity (ahead ++ parts)
+pub with_capacity-spent : (ahead parts : List Part) (p : Part) → part_capacity p ≡ 0
+    → with_capacity (ahead ++ p ∷ parts) ≡ with_capacity (ahead ++ parts)
 with_capacity-spent ahead parts p none =
     filter-append (λ q. nat_lt 0 (part_capacity q)) ahead (p ∷ parts)
     ∙ ap (λ ps. with_capacity ahead ++ ps)

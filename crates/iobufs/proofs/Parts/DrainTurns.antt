@@ -32,12 +32,20 @@ draining-begins row used n behind parts some =
       empty = behind.empty;
       one = parts.some;
       have_capacity = parts.have_capacity;
-      some = omega (arith, ap (λ ps. length (parts_filled ps)) (take-append-drop k row), filled-length (take k row) (drop k row), behind.empty, some);
-      left_is = ap kept_parts (sym (shared_out-behind (drop k row) (take k row) n behind.empty)) ∙ sym (drained-parts (in_order row used) n parts);
+      some = omega (
+        arith,
+        ap (λ ps. length (parts_filled ps)) (take-append-drop k row),
+        filled-length (take k row) (drop k row),
+        behind.empty,
+        some,
+      );
+      left_is = ap kept_parts (sym (shared_out-behind (drop k row) (take k row) n behind.empty))
+          ∙ sym (drained-parts (in_order row used) n parts);
     }
 
 -- where no bytes are to go any more, the parts in order are those that were to be left, and those that are drained stand at the back
-pub draining-ends : (row : List Part) (used n : ℕ) (left : List Part) → n ≡ 0 → IsDraining row used n left → (in_order row used ≡ left) × AreBehind row used
+pub draining-ends : (row : List Part) (used n : ℕ) (left : List Part) → n ≡ 0 → IsDraining row used n left
+    → (in_order row used ≡ left) × AreBehind row used
 draining-ends row used n left none d =
     let placed = ap (λ ps. in_order ps used) d.row_is ∙ order-both d.others d.behind used d.used_is in
     let same = ap (parts_shared_out d.others) none ∙ shared_out-none d.others in
@@ -50,7 +58,8 @@ first_of [] n more some = absurd (omega arith)
 first_of (p ∷ rest) n more some = (p, rest, refl)
 
 -- if the first entry of the deque holds bytes, some buffer is not drained
-first_behind : (others behind : List Part) (n : ℕ) → length (parts_filled behind) ≡ 0 → n < length (get_or (others ++ behind) 0 (empty_part 0)).filled
+first_behind : (others behind : List Part) (n : ℕ) → length (parts_filled behind) ≡ 0
+    → n < length (get_or (others ++ behind) 0 (empty_part 0)).filled
     → (p : Part) × (rest : List Part) × (others ≡ p ∷ rest)
 first_behind [] behind n none less = absurd (omega (arith, first-filled behind, none, less))
 first_behind (p ∷ rest) behind n none less = (p, rest, refl)
@@ -59,7 +68,8 @@ first_behind (p ∷ rest) behind n none less = (p, rest, refl)
 pub draining-stops : (row new : List Part) (used n : ℕ) (left : List Part) → IsDraining row used n left
     → n < length (get_or row 0 (empty_part 0)).filled → new ≡ first_drained row n → IsDraining new used 0 left
 draining-stops row new used n left d less drained =
-    let (p, rest, are) = first_behind d.others d.behind n d.empty (subst (λ (ps : List Part). n < length (get_or ps 0 (empty_part 0)).filled) d.row_is less) in
+    let (p, rest, are) = first_behind d.others d.behind n d.empty
+    (subst (λ (ps : List Part). n < length (get_or ps 0 (empty_part 0)).filled) d.row_is less) in
     let row_is : row ≡ p ∷ (rest ++ d.behind) = d.row_is ∙ ap (λ ps. ps ++ d.behind) are in
     let inside : n < length p.filled = subst (λ (ps : List Part). n < length (get_or ps 0 (empty_part 0)).filled) row_is less in
     let after = length-append d.behind (part_drained p n ∷ rest) in
@@ -71,7 +81,13 @@ draining-stops row new used n left d less drained =
       empty = d.empty;
       one = omega (arith, after);
       have_capacity = λ more.
-          let all = d.have_capacity (omega (arith, (ap (λ (ps : List Part). length ps) are), length-append d.behind d.others, after, more)) in
+          let all = d.have_capacity (omega (
+            arith,
+            (ap (λ (ps : List Part). length ps) are),
+            length-append d.behind d.others,
+            after,
+            more,
+          )) in
           let able = subst HaveCapacity are (able-rest d.behind d.others all) in
           able-both d.behind (part_drained p n ∷ rest) (able-front d.behind d.others all) (omega (arith, length-drop n p.filled), able.1);
       some = omega arith;
@@ -79,7 +95,8 @@ draining-stops row new used n left d less drained =
     }
 
 -- the first buffer, of `len` bytes, is drained: it goes after the others
-module _ (row rest : List Part) (p q : Part) (used n len : ℕ) (left : List Part) (d : IsDraining row used n left) (more : 0 < n) (front : row ≡ p ∷ rest)
+module _ (row rest : List Part) (p q : Part) (used n len : ℕ) (left : List Part) (d : IsDraining row used n left) (more : 0 < n)
+    (front : row ≡ p ∷ rest)
     (len_is : len ≡ length p.filled) (most : len ≤ n) (is : q ≡ part_drained p len) where
   -- p is the first of the buffers that aren't drained, and the rest is the others of these and then the drained ones
   first_is : (others : List Part) × (d.others ≡ p ∷ others) × (rest ≡ others ++ d.behind)
@@ -104,7 +121,8 @@ module _ (row rest : List Part) (p q : Part) (used n len : ℕ) (left : List Par
   able_all : (others : List Part) → d.others ≡ p ∷ others → 1 < length (d.behind ++ p ∷ others) → HaveCapacity (d.behind ++ p ∷ others)
   able_all others are = subst (λ (ps : List Part). 1 < length (d.behind ++ ps) → HaveCapacity (d.behind ++ ps)) are d.have_capacity
 
-  pub draining-kept : (new : List Part) → (1 < length new → 0 < part_capacity q) → new ≡ rest ++ q ∷ [] → IsDraining new (used + 1) (n - len) left
+  pub draining-kept : (new : List Part) → (1 < length new → 0 < part_capacity q) → new ≡ rest ++ q ∷ []
+      → IsDraining new (used + 1) (n - len) left
   draining-kept new able last =
       let (others, are, tail) = first_is in
       let none : length q.filled ≡ 0 = omega (arith, ap (λ (x : Part). length x.filled) is, length-drop len p.filled) in
@@ -120,7 +138,15 @@ module _ (row rest : List Part) (p q : Part) (used n len : ℕ) (left : List Par
         one = omega (arith, ahead, after);
         have_capacity = λ more.
             let all = able_all others are (omega (arith, (length-append d.behind (p ∷ others)), ahead, after, more)) in
-            let last_able = able (omega (arith, count, (length-append (others ++ d.behind) (q ∷ [])), (length-append others d.behind), ahead, after, more)) in
+            let last_able = able (omega (
+              arith,
+              count,
+              (length-append (others ++ d.behind) (q ∷ [])),
+              (length-append others d.behind),
+              ahead,
+              after,
+              more,
+            )) in
             able-both (d.behind ++ q ∷ []) others (able-both d.behind (q ∷ []) (able-front d.behind (p ∷ others) all) (last_able, tt))
             (able-rest d.behind (p ∷ others) all).1;
         some = fewer others are;
@@ -147,7 +173,8 @@ module _ (row rest : List Part) (p q : Part) (used n len : ℕ) (left : List Par
       }
 
 -- the first part alone loses bytes
-pub shortened-row : (row new : List Part) (used n : ℕ) → AreBehind row used → IsParts (in_order row used) → n ≤ length (parts_filled (in_order row used))
+pub shortened-row : (row new : List Part) (used n : ℕ) → AreBehind row used → IsParts (in_order row used)
+    → n ≤ length (parts_filled (in_order row used))
     → n < length (get_or row 0 (empty_part 0)).filled → new ≡ first_drained row n
     → (in_order new used ≡ parts_drained (in_order row used) n) × AreBehind new used
 shortened-row row new used n behind parts some less drained =
@@ -172,13 +199,19 @@ kept-drained-row row new used behind n full still len capacity kept some is are 
 
 -- a part that can hold a byte, put after two or more in order, is kept with their sums
 pub kept-pushed : (row new : List Part) (used none : ℕ) (p : Part) (full len capacity n m : ℕ)
-    → AreKept row used full len capacity → new ≡ in_order row used ++ p ∷ [] → none ≡ 0 → 1 < length (in_order row used) → 0 < part_capacity p → parts_capacity (in_order row used) + part_capacity p < 2 ^ 64
+    → AreKept row used full len capacity → new ≡ in_order row used ++ p ∷ [] → none ≡ 0 → 1 < length (in_order row used)
+    → 0 < part_capacity p → parts_capacity (in_order row used) + part_capacity p < 2 ^ 64
     → n ≡ length p.filled → m ≡ part_capacity p → AreKept new none full (len + n) (capacity + m)
 kept-pushed row new used none p full len capacity n m kept is zero several more fits len_is capacity_is =
     let all = in_order row used in
     let bytes = ap (λ ps. length (parts_filled ps)) is ∙ filled-length all (p ∷ []) in
     let sum = ap parts_capacity is ∙ sum_by_push part_capacity all p in
     let last = length-append p.filled [] in
-    kept-none new none full (len + n) (capacity + m) zero (subst (λ ps. HaveNoSpare full ps) (sym is) (full-push full all (p ∷ []) kept.no_spare))
-    (record { len_is = omega (arith, bytes, last, kept.sums.len_is, len_is); capacity_is = omega (arith, sum, kept.sums.capacity_is, capacity_is) })
+    kept-none new none full (len + n) (capacity + m) zero
+    (subst (λ ps. HaveNoSpare full ps) (sym is) (full-push full all (p ∷ []) kept.no_spare))
+    (record {
+      len_is = omega (arith, bytes, last, kept.sums.len_is, len_is);
+      capacity_is = omega
+          (arith, sum, kept.sums.capacity_is, capacity_is);
+    })
     (subst IsParts (sym is) (parts-push all p kept.parts several more fits))

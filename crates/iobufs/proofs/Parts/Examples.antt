@@ -30,14 +30,17 @@ two_drained_past : parts_drained (ab 2 ∷ of (99 ∷ 100 ∷ []) 0 ∷ []) 3 �
 two_drained_past = refl
 
 -- parts that can't hold a byte any more go, wherever they stand
-four_not_drained : parts_drained (empty_part 4 ∷ ab 1 ∷ of (99 ∷ []) 0 ∷ of (100 ∷ []) 0 ∷ []) 0 ≡ empty_part 4 ∷ ab 1 ∷ of (99 ∷ []) 0 ∷ of (100 ∷ []) 0 ∷ []
+four_not_drained : parts_drained (empty_part 4 ∷ ab 1 ∷ of (99 ∷ []) 0 ∷ of (100 ∷ []) 0 ∷ []) 0 ≡ empty_part 4 ∷ ab 1 ∷ of (99 ∷ []) 0 ∷ of
+    (100 ∷ []) 0 ∷ []
 four_not_drained = refl
 
-four_drained_two : parts_drained (empty_part 4 ∷ ab 1 ∷ of (99 ∷ []) 0 ∷ of (100 ∷ []) 0 ∷ []) 2 ≡ empty_part 4 ∷ empty_part 1 ∷ of (99 ∷ []) 0
+four_drained_two : parts_drained (empty_part 4 ∷ ab 1 ∷ of (99 ∷ []) 0 ∷ of (100 ∷ []) 0 ∷ []) 2 ≡ empty_part 4 ∷ empty_part 1 ∷ of
+    (99 ∷ []) 0
     ∷ of (100 ∷ []) 0 ∷ []
 four_drained_two = refl
 
-four_drained_three : parts_drained (empty_part 4 ∷ empty_part 1 ∷ of (99 ∷ []) 0 ∷ of (100 ∷ []) 0 ∷ []) 1 ≡ empty_part 4 ∷ empty_part 1 ∷ of (100 ∷ []) 0 ∷ []
+four_drained_three : parts_drained (empty_part 4 ∷ empty_part 1 ∷ of (99 ∷ []) 0 ∷ of (100 ∷ []) 0 ∷
+    []) 1 ≡ empty_part 4 ∷ empty_part 1 ∷ of (100 ∷ []) 0 ∷ []
 four_drained_three = refl
 
 -- where none is left, one that can't hold a byte stands
@@ -57,7 +60,8 @@ two_with_len : parts_with_len (ab 2 ∷ empty_part 4 ∷ []) 5 ≡ of (97 ∷ 98
 two_with_len = refl
 
 -- four parts, one advanced, then filled and frozen
-four_then_filled : parts_fill (parts_drained (ab 2 ∷ ab 2 ∷ ab 2 ∷ ab 2 ∷ []) 2) (120 ∷ 121 ∷ []) ≡ of (120 ∷ 121 ∷ []) 0 ∷ ab 2 ∷ ab 2 ∷ ab 2 ∷ []
+four_then_filled : parts_fill (parts_drained (ab 2 ∷ ab 2 ∷ ab 2 ∷ ab 2 ∷ []) 2) (120 ∷ 121 ∷ []) ≡ of
+    (120 ∷ 121 ∷ []) 0 ∷ ab 2 ∷ ab 2 ∷ ab 2 ∷ []
 four_then_filled = refl
 
 four_frozen : parts_frozen (of (120 ∷ 121 ∷ []) 0 ∷ ab 2 ∷ ab 2 ∷ ab 2 ∷ [])
@@ -69,7 +73,7 @@ four_frozen : parts_frozen (of (120 ∷ 121 ∷ []) 0 ∷ ab 2 ∷ ab 2 ∷ ab 2
 unfolding text_glue
 four_frozen = refl
 
--- parts without bytes are no pieces
+-- parts without bytes are no chunks
 one_frozen : parts_frozen (empty_part 3 ∷ ab 2 ∷ empty_part 1 ∷ []) ≡ record { bytes = 97 ∷ 98 ∷ []; mark = native_mark 4; cuts = [] }
 one_frozen = refl
 

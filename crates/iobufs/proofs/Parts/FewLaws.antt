@@ -14,7 +14,8 @@ spent-empty p none = same_part p (empty_part 0) (nil_from_length p.filled (omega
 
 -- before others, a part that can hold a byte is kept
 pub with_capacity-able : (p : Part) (parts : List Part) → 0 < part_capacity p → with_capacity (p ∷ parts) ≡ p ∷ with_capacity parts
-with_capacity-able p parts more = cond-true (nat_lt 0 (part_capacity p)) (p ∷ with_capacity parts) (with_capacity parts) (lt-ltb 0 (part_capacity p) more)
+with_capacity-able p parts more = cond-true (nat_lt 0 (part_capacity p)) (p ∷ with_capacity parts) (with_capacity parts)
+    (lt-ltb 0 (part_capacity p) more)
 
 -- before others, a part that can't hold a byte goes
 pub with_capacity-none : (p : Part) (parts : List Part) → part_capacity p ≡ 0 → with_capacity (p ∷ parts) ≡ with_capacity parts
@@ -93,7 +94,8 @@ shared-with_capacity (p ∷ parts) n =
     let rest = n - length p.filled in
     by_lt 0 (part_capacity p) (λ some.
     ap (λ ps. with_capacity (parts_shared_out ps n)) (with_capacity-able p parts some)
-    ∙ beside (part_drained p n) (parts_shared_out (with_capacity parts) rest) (parts_shared_out parts rest) (shared-with_capacity parts rest))
+    ∙ beside (part_drained p n) (parts_shared_out (with_capacity parts) rest) (parts_shared_out parts rest)
+    (shared-with_capacity parts rest))
     (λ none.
     let same : rest ≡ n = omega arith in
     ap (λ ps. with_capacity (parts_shared_out ps n)) (with_capacity-none p parts (omega arith)) ∙ shared-with_capacity parts n
@@ -152,12 +154,18 @@ chunks-kept_parts parts = of_default parts_chunks refl (with_capacity parts) ∙
     of_able [] = refl
     of_able (p ∷ parts) =
         by_lt 0 (part_capacity p)
-        (λ some. cc (with_capacity-able p parts some, chunks-both (p ∷ []) (with_capacity parts), of_able parts, chunks-both (p ∷ []) parts))
+        (λ some. cc (
+          with_capacity-able p parts some,
+          chunks-both (p ∷ []) (with_capacity parts),
+          of_able parts,
+          chunks-both (p ∷ []) parts,
+        ))
         (λ none. cc (with_capacity-none p parts (omega arith), of_able parts, chunks-empty p parts (omega arith)))
 
 -- the kept parts freeze to the text of all
 pub frozen-kept : (parts : List Part) → parts_frozen (kept_parts parts) ≡ parts_frozen parts
-frozen-kept parts = of_default parts_frozen (frozen-none default_text (empty_part 0 ∷ []) refl) (with_capacity parts) ∙ of_able default_text parts
+frozen-kept parts = of_default parts_frozen (frozen-none default_text (empty_part 0 ∷ []) refl) (with_capacity parts)
+    ∙ of_able default_text parts
   where
     of_able : (text : MarkedText) (parts : List Part)
         → fold text_append text (map part_frozen (with_capacity parts)) ≡ fold text_append text (map part_frozen parts)
@@ -212,12 +220,18 @@ pub ruleset freezing_few = (filled-kept_parts, frozen-kept, coalesced-kept)
 -- the first bytes of three lists, of which so many stand in each
 pub taken-three : (f s t : List ℕ) (n a b : ℕ) → a ≡ n - length f → b ≡ a - length s
     → take n (f ++ (s ++ (t ++ []))) ≡ (take n f ++ take a s) ++ take b t
-taken-three f s t n a b first second = cc (take_both n f (s ++ (t ++ [])), take_both a s (t ++ []), append-nil t, append_assoc (take n f) (take a s) (take b t))
+taken-three f s t n a b first second = cc (
+  take_both n f (s ++ (t ++ [])),
+  take_both a s (t ++ []),
+  append-nil t,
+  append_assoc (take n f) (take a s) (take b t),
+)
 
 -- three lists that were read one after the other into a destination that they fill
 pub read-three : (dst one two all f s t : List ℕ) (first second third : ℕ)
     → length one ≡ length dst → length two ≡ length one → length all ≡ length two
-    → first ≡ 0 + min (length f) (length dst - 0) → second ≡ first + min (length s) (length one - first) → third ≡ second + min (length t) (length two - second)
+    → first ≡ 0 + min (length f) (length dst - 0) → second ≡ first + min (length s) (length one - first)
+    → third ≡ second + min (length t) (length two - second)
     → take first one ≡ take 0 dst ++ take (length dst - 0) f → take second two ≡ take first one ++ take (length one - first) s
     → take third all ≡ take second two ++ take (length two - second) t
     → length dst ≤ length (f ++ (s ++ (t ++ []))) → all ≡ take (length dst) (f ++ (s ++ (t ++ [])))
@@ -226,9 +240,13 @@ read-three dst one two all f s t first second third l m n a b c u v w fits =
     let long : length (f ++ (s ++ (t ++ []))) ≡ length f + (length s + length t) =
     omega (arith, length-append f (s ++ (t ++ [])), length-append s (t ++ []), length-append t []) in
     let full : length all ≤ third = omega (arith, l, m, n, a, b, c, long, fits) in
-    cc (take_all third all full, taken-three f s t (length dst) (length one - first) (length two - second) (omega (arith, l, a)) (omega (arith, l, m, a, b)))
+    cc (
+      take_all third all full,
+      taken-three f s t (length dst) (length one - first) (length two - second) (omega (arith, l, a))
+          (omega (arith, l, m, a, b)),
+    )
 
--- three parts that are put as pieces in order, but for those that hold no bytes
+-- three parts that are put as chunks in order, but for those that hold no bytes
 pub frozen-three : (p q r : Part) (none one two all : List View) → none ≡ []
     → one ≡ (if length (part_frozen p).bytes == 0 then none else none ++ part_frozen p ∷ [])
     → two ≡ (if length (part_frozen q).bytes == 0 then one else one ++ part_frozen q ∷ [])
@@ -241,4 +259,5 @@ frozen-three p q r none one two all empty first second third =
     ∙ ap (λ (t : MarkedText). text_append t (part_frozen r))
     (add-text one two (part_frozen q) second full
     ∙ ap (λ (t : MarkedText). text_append t (part_frozen q))
-    (add-text none one (part_frozen p) first start ∙ ap (λ (t : MarkedText). text_append t (part_frozen p)) (ap of_pieces empty ∙ of_pieces-none)))
+    (add-text none one (part_frozen p) first start
+    ∙ ap (λ (t : MarkedText). text_append t (part_frozen p)) (ap of_pieces empty ∙ of_pieces-none)))

@@ -10,10 +10,12 @@ pub frozen-len : (p : Part) → length (part_frozen p).bytes ≤ part_capacity p
 frozen-len p = grind (arith, nat_tests, common_steps)
 
 -- parts that hold no bytes add nothing
-pub frozen-none : (text : MarkedText) (parts : List Part) → length (parts_filled parts) ≡ 0 → fold text_append text (map part_frozen parts) ≡ text
+pub frozen-none : (text : MarkedText) (parts : List Part) → length (parts_filled parts) ≡ 0
+    → fold text_append text (map part_frozen parts) ≡ text
 frozen-none text [] none = refl
 frozen-none text (p ∷ ps) none =
     let n = length-append p.filled (parts_filled ps) in
-    ap (λ (t : MarkedText). fold text_append t (map part_frozen ps)) (rw (eq-eqb (length p.filled) 0 (omega arith)) refl) ∙ frozen-none text ps (omega arith)
+    ap (λ (t : MarkedText). fold text_append t (map part_frozen ps)) (rw (eq-eqb (length p.filled) 0 (omega arith)) refl)
+    ∙ frozen-none text ps (omega arith)
 
 pub ruleset freezing = (frozen-one, frozen-len, len-append)

@@ -17,11 +17,13 @@ full-push (suc n) [] more full = absurd full
 full-push (suc n) (p ∷ parts) more full = (full.0, full-push n parts more full.1)
 
 -- bytes are filled in after those that have none
-pub fill-after : (n : ℕ) (parts : List Part) (w : List ℕ) → HaveNoSpare n parts → parts_fill parts w ≡ take n parts ++ parts_fill (drop n parts) w
+pub fill-after : (n : ℕ) (parts : List Part) (w : List ℕ) → HaveNoSpare n parts
+    → parts_fill parts w ≡ take n parts ++ parts_fill (drop n parts) w
 fill-after zero parts w full = refl
 fill-after (suc n) [] w full = absurd full
 fill-after (suc n) (p ∷ parts) w full =
-    let same = same_part (part_put p (take p.spare w)) p (ap (λ k. p.filled ++ take k w) full.0 ∙ append-nil p.filled) (omega (arith, full.0)) in
+    let same = same_part (part_put p (take p.spare w)) p (ap (λ k. p.filled ++ take k w) full.0 ∙ append-nil p.filled)
+    (omega (arith, full.0)) in
     λ i. same i ∷ (ap (λ k. parts_fill parts (drop k w)) full.0 ∙ fill-after n parts w full.1) i
 
 -- filling leaves them full
@@ -54,7 +56,8 @@ fewer (p ∷ parts) m =
     (λ _. omega (arith, few)) (λ _. omega (arith, few))
 
 -- of the first n, at least k are left if no more than n - k parts go
-full-left : (k n m : ℕ) (parts : List Part) → k + length parts ≤ n + length (able_left parts m) → HaveNoSpare n parts → HaveNoSpare k (able_left parts m)
+full-left : (k n m : ℕ) (parts : List Part) → k + length parts ≤ n + length (able_left parts m) → HaveNoSpare n parts
+    → HaveNoSpare k (able_left parts m)
 full-left zero n m parts few full = tt
 full-left (suc k) n m [] few full = absurd (omega (arith, few, full-within n [] full))
 full-left (suc k) zero m (p ∷ parts) few full = absurd (omega (arith, few, fewer (p ∷ parts) m))
@@ -76,7 +79,8 @@ fewer-drained parts m are =
     count (p ∷ able) = omega arith
 
 -- if n - k parts go, the first k that draining leaves have none
-pub full-drained : (k n m : ℕ) (parts : List Part) → HaveNoSpare n parts → IsParts parts → k ≡ n - (length parts - length (parts_drained parts m))
+pub full-drained : (k n m : ℕ) (parts : List Part) → HaveNoSpare n parts → IsParts parts
+    → k ≡ n - (length parts - length (parts_drained parts m))
     → HaveNoSpare k (parts_drained parts m)
 full-drained k n m parts full are is =
     let drained = drained-parts parts m are in

@@ -6,7 +6,8 @@ use Rattle.iobufs.proofs.Parts.PartChunks.{chunks-both, chunks-none}
 -- a row of which none is drained
 pub order-none : (row : List Part) (used : ℕ) → used ≡ 0 → in_order row used ≡ row
 order-none row used none =
-    ap (λ k. drop k row ++ take k row) (omega arith) ∙ (λ i. drop_all (length row) row (omega arith) i ++ take_all (length row) row (omega arith) i)
+    ap (λ k. drop k row ++ take k row) (omega arith)
+    ∙ (λ i. drop_all (length row) row (omega arith) i ++ take_all (length row) row (omega arith) i)
 
 -- a row of which no part is drained is kept, where the sums beside it are its own
 pub kept-none : (row : List Part) (used full len capacity : ℕ) → used ≡ 0 → HaveNoSpare full row → AreSummed row len capacity → IsParts row
@@ -28,7 +29,8 @@ order-both others behind used e =
     ∙ (λ i. drop_at others behind (length others) refl i ++ take_at others behind (length others) refl i)
 
 -- parts without bytes at the back of a row are those that are drained
-pub behind-both : (others behind : List Part) (used : ℕ) → used ≡ length behind → length (parts_filled behind) ≡ 0 → AreBehind (others ++ behind) used
+pub behind-both : (others behind : List Part) (used : ℕ) → used ≡ length behind → length (parts_filled behind) ≡ 0
+    → AreBehind (others ++ behind) used
 behind-both others behind used e none =
     let sum = length-append others behind in
     record {
@@ -51,7 +53,8 @@ pub filled-length : (ps qs : List Part) → length (parts_filled (ps ++ qs)) ≡
 filled-length ps qs = ap length (filled-both ps qs) ∙ length-append (parts_filled ps) (parts_filled qs)
 
 frozen-both : (text : MarkedText) (ps qs : List Part)
-    → fold text_append text (map part_frozen (ps ++ qs)) ≡ fold text_append (fold text_append text (map part_frozen ps)) (map part_frozen qs)
+    → fold text_append text (map part_frozen (ps ++ qs)) ≡ fold text_append (fold text_append text (map part_frozen ps))
+    (map part_frozen qs)
 frozen-both text [] qs = refl
 frozen-both text (p ∷ ps) qs = frozen-both (text_append text (part_frozen p)) ps qs
 
@@ -60,14 +63,24 @@ pub filled-order : (row : List Part) (used : ℕ) → AreBehind row used → par
 filled-order row used behind =
     let k = length row - used in
     let none = nil_from_length (parts_filled (drop k row)) behind.empty in
-    cc (take-append-drop k row, filled-both (take k row) (drop k row), append-nil (parts_filled (take k row)), filled-both (drop k row) (take k row))
+    cc (
+      take-append-drop k row,
+      filled-both (take k row) (drop k row),
+      append-nil (parts_filled (take k row)),
+      filled-both (drop k row) (take k row),
+    )
 
 -- a row has the chunks of its parts in order
 pub chunks-order : (row : List Part) (used : ℕ) → AreBehind row used → parts_chunks row ≡ parts_chunks (in_order row used)
 chunks-order row used behind =
     let k = length row - used in
     let none = chunks-none (drop k row) behind.empty in
-    cc (take-append-drop k row, chunks-both (take k row) (drop k row), append-nil (parts_chunks (take k row)), chunks-both (drop k row) (take k row))
+    cc (
+      take-append-drop k row,
+      chunks-both (take k row) (drop k row),
+      append-nil (parts_chunks (take k row)),
+      chunks-both (drop k row) (take k row),
+    )
 
 -- a row freezes to the text of its parts in order
 pub frozen-order : (row : List Part) (used : ℕ) → AreBehind row used → parts_frozen row ≡ parts_frozen (in_order row used)
@@ -99,7 +112,8 @@ first-length [] n = refl
 first-length (p ∷ row) n = refl
 
 -- a row in which its first part is put back drained is the row whose first part is drained
-pub first-set : (row : List Part) (p q : Part) (n : ℕ) → 0 < length row → p ≡ get_or row 0 p → q ≡ part_drained p n → set row 0 q ≡ first_drained row n
+pub first-set : (row : List Part) (p q : Part) (n : ℕ) → 0 < length row → p ≡ get_or row 0 p → q ≡ part_drained p n
+    → set row 0 q ≡ first_drained row n
 first-set [] p q n some first is = absurd (omega arith)
 first-set (r ∷ row) p q n some first is = ap (λ x. x ∷ row) (is ∙ ap (λ x. part_drained x n) first)
 

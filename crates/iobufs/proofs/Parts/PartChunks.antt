@@ -1,4 +1,4 @@
--- The bytes of parts, as a reader sees them piece by piece.
+-- The bytes of parts, as a reader sees them chunk by chunk.
 use Rattle.iobufs.proofs.Text.{IsChunkOf, List, Part, [], ap, append-nil, append_assoc, arith, by_lt, first_chunk, full_chunks, length, length-append, length-take, map, min, nil_from_length, parts_chunks, parts_filled, refl, slice_get, suc, sym, take, take-append-le, take-nil, take_all, take_both, zero, ℕ, ◌++◌, ◌+◌, ◌-◌, ◌<◌, ◌∙◌, ◌∷◌, ◌≡◌, ◌≤◌}
 
 -- one part holds its bytes
@@ -59,7 +59,8 @@ pub byte_behind : (bytes rest : List ℕ) (at : ℕ) → length bytes ≤ at →
 byte_behind [] rest at h = let same : at ≡ at - 0 = omega arith in ap (slice_get rest) same
 byte_behind (byte ∷ bytes) rest zero h = absurd (omega arith)
 byte_behind (byte ∷ bytes) rest (suc at) h =
-    let same : at - length bytes ≡ suc at - length (byte ∷ bytes) = omega arith in byte_behind bytes rest at (omega arith) ∙ ap (slice_get rest) same
+    let same : at - length bytes ≡ suc at - length (byte ∷ bytes) = omega arith in byte_behind bytes rest at (omega arith)
+    ∙ ap (slice_get rest) same
 
 -- one part's share of the first k bytes
 pub share-turn : (all before bytes rest : List ℕ) (k n : ℕ) → n ≡ min k (length bytes) → all ≡ before ++ take k (bytes ++ rest)
@@ -87,7 +88,8 @@ read-done all dst at within fits h =
     sym (full ∙ take_all at dst (omega (arith, length-take (length dst) all, length-take at dst, ap (λ (w : List ℕ). length w) full)))
 
 -- one more chunk of at most k
-pub chunk-turn : (before texts : List (List ℕ)) (text : List ℕ) (k : ℕ) → 0 < k → before ++ take k (text ∷ texts) ≡ (before ++ text ∷ []) ++ take (k - 1) texts
+pub chunk-turn : (before texts : List (List ℕ)) (text : List ℕ) (k : ℕ) → 0 < k
+    → before ++ take k (text ∷ texts) ≡ (before ++ text ∷ []) ++ take (k - 1) texts
 chunk-turn before texts text zero h = absurd (omega arith)
 chunk-turn before texts text (suc k) h =
     sym (append_assoc before (text ∷ []) (take k texts)) ∙ ap (λ m. (before ++ text ∷ []) ++ take m texts) (omega arith)

@@ -4,7 +4,8 @@ use Rattle.iobufs.proofs.Text.{HaveCapacity, IsParts, List, Part, [], ap, arith,
 -- sums over parts, as an iterator gives them
 pub filled-sum : (parts : List Part) → sum_by (λ (p : Part). length p.filled) parts ≡ length (parts_filled parts)
 filled-sum [] = refl
-filled-sum (p ∷ parts) = sum_by-cons _ p parts ∙ ap (λ n. length p.filled + n) (filled-sum parts) ∙ sym (length-append p.filled (parts_filled parts))
+filled-sum (p ∷ parts) = sum_by-cons _ p parts ∙ ap (λ n. length p.filled + n) (filled-sum parts)
+    ∙ sym (length-append p.filled (parts_filled parts))
 
 -- the capacity of all is their bytes and their room
 pub capacity-parts : (parts : List Part) → parts_capacity parts ≡ length (parts_filled parts) + parts_spare parts
@@ -69,8 +70,10 @@ pub same-with_len : (parts : List Part) (n : ℕ) → HaveSame parts (parts_with
 same-with_len [] n = tt
 same-with_len (p ∷ parts) n =
     let m = min n (part_capacity p) in
-    let r : length (replicate {A = ℕ} (m - length p.filled) 0) ≡ m - length p.filled = length-replicate (m - length p.filled) 0 in
-    (omega (arith, length-take m p.filled, length-append (take m p.filled) (replicate (m - length p.filled) 0)), same-with_len parts (n - part_capacity p))
+    let r : length (replicate {A = ℕ} (m - length p.filled) 0) ≡ m - length p.filled = length-replicate (m - length p.filled) 0 in (
+      omega (arith, length-take m p.filled, length-append (take m p.filled) (replicate (m - length p.filled) 0)),
+      same-with_len parts (n - part_capacity p),
+    )
 
 -- so many bytes filled leave them parts
 pub parts-with_len : (parts : List Part) (n : ℕ) → IsParts parts → IsParts (parts_with_len parts n)

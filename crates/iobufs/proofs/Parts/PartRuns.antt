@@ -16,14 +16,16 @@ pub kept-first : (first p : Part) → part_capacity first ≡ 0 → 0 < part_cap
 kept-first first p none more =
     kept-all (p ∷ []) (more, tt) (omega arith)
     ∙ ap parts_or_default
-    (sym (cond-false (nat_lt 0 (part_capacity first)) (first ∷ with_capacity (p ∷ [])) (with_capacity (p ∷ [])) (le-ltb 0 (part_capacity first) (omega arith))))
+    (sym (cond-false (nat_lt 0 (part_capacity first)) (first ∷ with_capacity (p ∷ [])) (with_capacity (p ∷ []))
+    (le-ltb 0 (part_capacity first) (omega arith))))
 
 -- two parts
 pub kept-two : (p q : Part) → 0 < part_capacity p → 0 < part_capacity q → p ∷ q ∷ [] ≡ kept_parts (p ∷ q ∷ [])
 kept-two p q first second = kept-all (p ∷ q ∷ []) (first, (second, tt)) (omega arith)
 
 -- one part more than two or more
-pub parts-push : (parts : List Part) (p : Part) → IsParts parts → 1 < length parts → 0 < part_capacity p → parts_capacity parts + part_capacity p < 2 ^ 64
+pub parts-push : (parts : List Part) (p : Part) → IsParts parts → 1 < length parts → 0 < part_capacity p
+    → parts_capacity parts + part_capacity p < 2 ^ 64
     → IsParts (parts ++ p ∷ [])
 parts-push parts p are several more fits = record {
   some = omega (arith, length-append parts (p ∷ []));
@@ -32,7 +34,8 @@ parts-push parts p are several more fits = record {
 }
 
 -- a function that is equal on no part and on the default part is equal on parts, and on those with the default part for none
-pub of_default : {A : Type 0} (f : List Part → A) → f (empty_part 0 ∷ []) ≡ f [] → (parts : List Part) → f (parts_or_default parts) ≡ f parts
+pub of_default : {A : Type 0} (f : List Part → A) → f (empty_part 0 ∷ []) ≡ f [] → (parts : List Part)
+    → f (parts_or_default parts) ≡ f parts
 of_default f same [] = same
 of_default f same (p ∷ parts) = refl
 
@@ -41,15 +44,18 @@ pub capacity-kept : (parts : List Part) → parts_capacity (kept_parts parts) �
 capacity-kept parts = of_default parts_capacity refl (with_capacity parts) ∙ capacity-with_capacity parts
 
 -- one more part beside those that are kept
-pub kept-more : (parts : List Part) (p : Part) → 0 < part_capacity p → kept_parts (kept_parts parts ++ p ∷ []) ≡ kept_parts (parts ++ p ∷ [])
-kept-more parts p more = ap parts_or_default (beside (with_capacity parts) (able-with_capacity parts) ∙ sym (with_capacity-push parts p more))
+pub kept-more : (parts : List Part) (p : Part) → 0 < part_capacity p
+    → kept_parts (kept_parts parts ++ p ∷ []) ≡ kept_parts (parts ++ p ∷ [])
+kept-more parts p more = ap parts_or_default (beside (with_capacity parts) (able-with_capacity parts)
+    ∙ sym (with_capacity-push parts p more))
   where
     beside : (parts : List Part) → HaveCapacity parts → with_capacity (parts_or_default parts ++ p ∷ []) ≡ parts ++ p ∷ []
     beside [] able = with_capacity-push [] p more
     beside (q ∷ parts) able = with_capacity-push (q ∷ parts) p more ∙ ap (λ ps. ps ++ p ∷ []) (with_capacity-all (q ∷ parts) able)
 
 -- where parts that can hold a byte are kept, they are some, and have capacity
-pub able-some : (parts : List Part) → 1 < length (kept_parts parts) → (length (with_capacity parts) ≡ length (kept_parts parts)) × (0 < parts_capacity parts)
+pub able-some : (parts : List Part) → 1 < length (kept_parts parts)
+    → (length (with_capacity parts) ≡ length (kept_parts parts)) × (0 < parts_capacity parts)
 able-some parts more = of_able (with_capacity parts) (able-with_capacity parts) (capacity-with_capacity parts) more
   where
     of_able : (able : List Part) → HaveCapacity able → parts_capacity able ≡ parts_capacity parts → 1 < length (parts_or_default able)
@@ -74,7 +80,8 @@ refused-long front last fits last_fits long =
       several = λ short. absurd (omega arith);
     }
 
--- a last part with capacity, after three others with some or more, was refused for a failed allocation where the capacity of all fits a number
+-- a last part with capacity, after three others with some or more, was refused for a failed allocation where the capacity of all fits a
+-- number
 pub refused-short : (front : List Part) (last : Part) → 0 < parts_capacity front → 0 < part_capacity last
     → parts_capacity front + part_capacity last < 2 ^ 64 → 3 ≤ length (with_capacity front) → IsRowRefusedAt (front ++ last ∷ []) Memory
 refused-short front last some more short several =
@@ -88,7 +95,11 @@ refused-short front last some more short several =
       more = more;
       told = sym (cond-true (nat_lt (parts_capacity (front ++ last ∷ [])) (2 ^ 64)) Memory TooLong
           (lt-ltb (parts_capacity (front ++ last ∷ [])) (2 ^ 64) (omega arith)));
-      several = λ _. omega (arith, ap (λ (ps : List Part). length ps) (with_capacity-push front last more), length-append (with_capacity front) (last ∷ []));
+      several = λ _. omega (
+        arith,
+        ap (λ (ps : List Part). length ps) (with_capacity-push front last more),
+        length-append (with_capacity front) (last ∷ []),
+      );
     }
 
 pub ruleset growing = (kept-first, kept-two, parts-push)

@@ -16,15 +16,18 @@ turn f g h step all now i x y s s' l e q r so_far =
 share_taken : (w : List ℕ) (n s : ℕ) → n ≡ min (length w) s → take n w ≡ take s w
 share_taken w n s e =
     by_lt (length w) s
-    (λ h. let k : n ≡ length w = omega arith in ap (λ m. take m w) k ∙ take_all (length w) w (omega arith) ∙ sym (take_all s w (omega arith)))
+    (λ h. let k : n ≡ length w = omega arith in ap (λ m. take m w) k ∙ take_all (length w) w (omega arith)
+    ∙ sym (take_all s w (omega arith)))
     (λ h. let k : n ≡ s = omega arith in ap (λ m. take m w) k)
 
 share_dropped : (w : List ℕ) (n s : ℕ) → n ≡ min (length w) s → drop n w ≡ drop s w
 share_dropped w n s e =
-    by_lt (length w) s (λ h. drop_all n w (omega arith) ∙ sym (drop_all s w (omega arith))) (λ h. let k : n ≡ s = omega arith in ap (λ m. drop m w) k)
+    by_lt (length w) s (λ h. drop_all n w (omega arith) ∙ sym (drop_all s w (omega arith)))
+    (λ h. let k : n ≡ s = omega arith in ap (λ m. drop m w) k)
 
 -- the part takes n bytes, u, and w' is left of them
-pub fill-turn : (all now : List Part) (i : ℕ) (x y : Part) (w w' u : List ℕ) (n : ℕ) → i < length now → x ≡ get_or now i x → y ≡ part_put x u
+pub fill-turn : (all now : List Part) (i : ℕ) (x y : Part) (w w' u : List ℕ) (n : ℕ) → i < length now → x ≡ get_or now i x
+    → y ≡ part_put x u
     → u ≡ take n w → w' ≡ drop n w → n ≡ min (length w) x.spare
     → all ≡ take i now ++ parts_fill (drop i now) w → all ≡ take (i + 1) (set now i y) ++ parts_fill (drop (i + 1) (set now i y)) w'
 fill-turn all now i x y w w' u n l e q a b m so_far =

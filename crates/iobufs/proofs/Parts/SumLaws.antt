@@ -56,7 +56,8 @@ len-overwritten (p ∷ parts) w =
     )
 
 -- bytes written over those that are filled leave both sums
-pub summed-overwritten : (parts new : List Part) (w : List ℕ) (len capacity : ℕ) → AreSummed parts len capacity → new ≡ parts_overwritten parts w
+pub summed-overwritten : (parts new : List Part) (w : List ℕ) (len capacity : ℕ) → AreSummed parts len capacity
+    → new ≡ parts_overwritten parts w
     → AreSummed new len capacity
 summed-overwritten parts new w len capacity sums is =
     rw is (record {
@@ -65,7 +66,8 @@ summed-overwritten parts new w len capacity sums is =
     })
 
 -- the capacity falls by what goes
-capacity-shared : (parts : List Part) (n : ℕ) → parts_capacity (parts_shared_out parts n) + min n (length (parts_filled parts)) ≡ parts_capacity parts
+capacity-shared : (parts : List Part) (n : ℕ) → parts_capacity (parts_shared_out parts n) + min n
+    (length (parts_filled parts)) ≡ parts_capacity parts
 capacity-shared [] n = omega arith
 capacity-shared (p ∷ parts) n =
     let rest = n - length p.filled in
@@ -78,12 +80,14 @@ capacity-shared (p ∷ parts) n =
       sum_by-cons part_capacity (part_drained p n) (parts_shared_out parts rest),
     )
 
-capacity-drained : (parts : List Part) (n : ℕ) → parts_capacity (parts_drained parts n) + min n (length (parts_filled parts)) ≡ parts_capacity parts
+capacity-drained : (parts : List Part) (n : ℕ) → parts_capacity (parts_drained parts n) + min n
+    (length (parts_filled parts)) ≡ parts_capacity parts
 capacity-drained [] n = omega arith
 capacity-drained (p ∷ []) n = capacity-shared (p ∷ []) n
 capacity-drained (p ∷ q ∷ parts) n =
     let all = p ∷ q ∷ parts in
-    cond_both (nat_eq n 0) all (kept_parts (parts_shared_out all n)) (λ ps. parts_capacity ps + min n (length (parts_filled all)) ≡ parts_capacity all)
+    cond_both (nat_eq n 0) all (kept_parts (parts_shared_out all n))
+    (λ ps. parts_capacity ps + min n (length (parts_filled all)) ≡ parts_capacity all)
     (λ e. omega (arith, eqb-true n 0 e))
     (λ _. omega (arith, capacity-kept (parts_shared_out all n), capacity-shared all n))
 

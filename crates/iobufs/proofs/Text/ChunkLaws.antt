@@ -1,4 +1,4 @@
--- The chunks of a text (`text_chunks`): of pieces that hold bytes the bytes of each, of the empty text none.
+-- The chunks of a text (`text_chunks`): of chunks that hold bytes the bytes of each, of the empty text none.
 use Rattle.iobufs.proofs.Text.Known.{AreFull, List, Mark, MarkedText, View, [], ap, arith, cut_up, drop, drop_past, full_chunks, is_full, length, map, moved_up, of_pieces, refl, suc, sym, take, take-append_seam, text_chunks, text_glue, text_len, true, view_len, zero, ℕ, ◌++◌, ◌+◌, ◌-◌, ◌<◌, ◌∙◌, ◌∷◌, ◌≡◌}
 use Rattle.iobufs.proofs.Text.Sides.{no_sub}
 
@@ -8,7 +8,8 @@ moved_off n k key bytes (cut ∷ cuts) =
     let d : n + cut.0 - (n + key) ≡ cut.0 - key = omega arith in
     rw d (ap (λ rest. take (cut.0 - key) bytes ∷ rest) (moved_off n k cut.0 (drop (cut.0 - key) bytes) cuts))
 
-cut_up-of_pieces : (v : View) (vs : List View) → let t = of_pieces (v ∷ vs) in cut_up t.bytes 0 t.cuts ≡ map (λ (w : View). w.bytes) (v ∷ vs)
+cut_up-of_pieces : (v : View) (vs : List View) → let t = of_pieces (v ∷ vs) in cut_up t.bytes 0 t.cuts ≡ map (λ (w : View). w.bytes)
+    (v ∷ vs)
 unfolding of_pieces text_glue
 cut_up-of_pieces v [] = refl
 cut_up-of_pieces v (w ∷ vs) =
@@ -29,8 +30,9 @@ full_chunks-full (v ∷ vs) f = rw (full_is v.bytes f.0) (ap (λ rest. v.bytes �
     full_is [] l = absurd (omega arith)
     full_is (byte ∷ bytes) l = refl
 
--- the chunks of pieces that hold bytes are the pieces' bytes
-pub chunks-of_pieces : (v : View) (vs : List View) → AreFull (v ∷ vs) → text_chunks (of_pieces (v ∷ vs)) ≡ map (λ (w : View). w.bytes) (v ∷ vs)
+-- the chunks of views that hold bytes are the views' bytes
+pub chunks-of_pieces : (v : View) (vs : List View) → AreFull (v ∷ vs)
+    → text_chunks (of_pieces (v ∷ vs)) ≡ map (λ (w : View). w.bytes) (v ∷ vs)
 unfolding text_chunks
 chunks-of_pieces v vs f = ap full_chunks (cut_up-of_pieces v vs) ∙ full_chunks-full (v ∷ vs) f
 

@@ -1,4 +1,4 @@
--- Worked values of texts in pieces, computed by the definitions.
+-- Worked values of texts in chunks, computed by the definitions.
 use Rattle.iobufs.proofs.Text.Known.{List, MarkedText, View, [], chunk_count, default_text, default_view, joined, native_mark, of_view, refl, static_mark, taken_view, text_advanced, text_append, text_chunks, text_coalesced, text_glue, text_left, text_prepend, text_rest, text_right, text_split_front, ℕ, ◌∷◌, ◌≡◌}
 
 abbrev ab : List ℕ

@@ -82,7 +82,7 @@ pub use Rattle.iobufs.specs.Sending.{IsSent, IsStored}
 pub use Rattle.iobufs.specs.contracts.bufs_mut.IoBufsMut.{the_view}
 pub use Rattle.iobufs.specs.declared.bufs.IoBufs.TheInside.{Inside}
 pub use Rattle.iobufs.specs.declared.bufs.pieces.Form.{Form}
-pub use Rattle.iobufs.specs.declared.bufs.row.Piece.{Piece}
+pub use Rattle.iobufs.specs.declared.bufs.row.Entry.{Entry}
 pub use Rattle.iobufs.specs.declared.bufs.search.Located.{Located}
 pub use Rattle.iobufs.specs.Inside.Pushes.{building_from, items_front}
 pub use Rattle.iobufs.specs.Laws.Building.{bytes-built, items_bytes-append, items_inline-append, items_pushed-append, push-none, push-some, put_nothing}

@@ -33,7 +33,8 @@ greatest-cons : (n at : ℕ) (m k : Mark) (cuts : List (ℕ × Mark)) → n ≤ 
     → (key_upto (0, m) ((n, k) ∷ map (moved_up n) cuts) at).0 ≡ n + (key_upto (0, k) cuts (at - n)).0
 greatest-cons n at m k cuts l =
     let z : n + 0 ≡ n = omega arith in
-    rw (le-leb n at l) (ap (λ j. (key_upto (j, k) (map (moved_up n) cuts) at).0) (sym z) ∙ ap (λ (key : ℕ × Mark). key.0) (upto_up at n (0, k) cuts l))
+    rw (le-leb n at l) (ap (λ j. (key_upto (j, k) (map (moved_up n) cuts) at).0) (sym z)
+    ∙ ap (λ (key : ℕ × Mark). key.0) (upto_up at n (0, k) cuts l))
 
 greatest-past : (v w : View) (vs : List View) (at : ℕ) → view_len v ≤ at
     → greatest_key (of_pieces (v ∷ w ∷ vs)) at ≡ view_len v + greatest_key (of_pieces (w ∷ vs)) (at - view_len v)
@@ -53,7 +54,8 @@ located (v ∷ w ∷ vs) at zero o sum inside =
     let g = greatest-within v w vs at (omega arith) in
     ((cuts-none at (view_len v) _ (from_on-of_pieces v (w ∷ vs)) (omega arith)), omega arith)
 located (v ∷ w ∷ vs) at (suc i) o sum inside =
-    let n : piece_start (v ∷ w ∷ vs) (suc i) ≡ view_len v + piece_start (w ∷ vs) i = length-append v.bytes (pieces_bytes (take i (w ∷ vs))) in
+    let n : piece_start (v ∷ w ∷ vs) (suc i) ≡ view_len v + piece_start (w ∷ vs) i = length-append v.bytes
+    (pieces_bytes (take i (w ∷ vs))) in
     let ih = located (w ∷ vs) (at - view_len v) i o (omega arith) inside in
     let k = keys-past v w vs at (omega arith) in
     let g = greatest-past v w vs at (omega arith) in

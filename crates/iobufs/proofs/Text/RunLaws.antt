@@ -3,14 +3,16 @@ use Rattle.iobufs.proofs.Text.Known.{BufError, IsRefusedAt, List, MarkedText, Me
 use Rattle.iobufs.proofs.Joined.{bytes-append}
 use Rattle.iobufs.proofs.Text.JoinLaws.{joined-push}
 
-abbrev pub run_to_end : {S A : Type 0} (steps : S → Option A → S → Type 0) (s : S) (xs : List A) {t u : S} → Yields steps s xs t → steps t None u → Run steps
+abbrev pub run_to_end : {S A : Type 0} (steps : S → Option A → S → Type 0) (s : S) (xs : List A) {t u : S} → Yields steps s xs t
+    → steps t None u → Run steps
 run_to_end steps s xs {t} {u} ran e = run steps s xs true (to_end steps s xs (u, (t, ran, e)))
 
 abbrev pub run_to_item : {S A : Type 0} (steps : S → Option A → S → Type 0) (s : S) (xs : List A) {t u : S} → Yields steps s xs t → (x : A)
     → steps t (Some x) u → Run steps
 run_to_item steps s xs {t} {u} ran x e = run steps s (xs ++ x ∷ []) false (to_item steps s u xs x (t, ran, e))
 
-length-more : (views : List View) (view : View) (t : MarkedText) → t ≡ joined views → text_len (joined (views ++ view ∷ [])) ≡ text_len t + length view.bytes
+length-more : (views : List View) (view : View) (t : MarkedText) → t ≡ joined views
+    → text_len (joined (views ++ view ∷ [])) ≡ text_len t + length view.bytes
 length-more views view t e = cc (joined-push views view, bytes-append (joined views) view, length-append (joined views).bytes view.bytes)
 
 told : (total : ℕ) (cause : BufError) → (2 ^ 64 ≤ total → cause ≡ TooLong) → (total < 2 ^ 64 → cause ≡ Memory)
@@ -18,8 +20,10 @@ told : (total : ℕ) (cause : BufError) → (2 ^ 64 ≤ total → cause ≡ TooL
 told total cause long short =
     by_lt total (2 ^ 64) (λ h. rw (lt-ltb total (2 ^ 64) h) (short h)) (λ h. rw (le-ltb total (2 ^ 64) h) (long h))
 
--- a view with bytes after views with bytes, joined so far, is refused as too long where all don't fit a number, else for a failed allocation
-pub refused-at : (views : List View) (view : View) (t : MarkedText) (cause : BufError) → t ≡ joined views → text_len t < 2 ^ 64 → 0 < text_len t
+-- a view with bytes after views with bytes, joined so far, is refused as too long where all don't fit a number, else for a failed
+-- allocation
+pub refused-at : (views : List View) (view : View) (t : MarkedText) (cause : BufError) → t ≡ joined views → text_len t < 2 ^ 64
+    → 0 < text_len t
     → 0 < length view.bytes → (2 ^ 64 ≤ text_len t + length view.bytes → cause ≡ TooLong)
     → (text_len t + length view.bytes < 2 ^ 64 → cause ≡ Memory) → IsRefusedAt (views ++ view ∷ []) cause
 refused-at views view t cause e fits some more long short =
@@ -36,7 +40,8 @@ refused-at views view t cause e fits some more long short =
     }
 
 -- a text with a view appended fits a number where their lengths together do
-pub fits-more : (t u : MarkedText) (view : View) → u ≡ text_append t view → (2 ^ 64 ≤ text_len t + length view.bytes → ⊥) → text_len u < 2 ^ 64
+pub fits-more : (t u : MarkedText) (view : View) → u ≡ text_append t view → (2 ^ 64 ≤ text_len t + length view.bytes → ⊥)
+    → text_len u < 2 ^ 64
 fits-more t u view a never =
     let n = ap text_len a ∙ ap length (bytes-append t view) ∙ length-append t.bytes view.bytes in
     by_lt (text_len t + length view.bytes) (2 ^ 64) (λ h. omega arith) (λ h. absurd (never h))

@@ -54,7 +54,8 @@ down_up at n [] l = refl
 down_up at n (e ∷ es) l = let h = down_up at n es l in let k : n + e.0 - at ≡ n - at + e.0 = omega arith in cc
 
 pub filter_up : (at n : ℕ) (es : List (ℕ × Mark)) → n ≤ at
-    → map (moved_down at) (filter (λ e. nat_lt at e.0) (map (moved_up n) es)) ≡ map (moved_down (at - n)) (filter (λ e. nat_lt (at - n) e.0) es)
+    → map (moved_down at) (filter (λ e. nat_lt at e.0) (map (moved_up n) es)) ≡ map (moved_down (at - n))
+    (filter (λ e. nat_lt (at - n) e.0) es)
 filter_up at n [] l = refl
 filter_up at n (e ∷ es) l =
     let k : n + e.0 - at ≡ e.0 - (at - n) = omega arith in
@@ -69,7 +70,8 @@ filter_up_left at n (e ∷ es) l =
     rw (lt_up_left at n e.0 l) (both (λ x. x) (map (moved_up n)) (nat_lt e.0 (at - n)) _ _ _ _ (cc) ih)
 
 -- keys moved up have as their last key up to a place the one that they had up to the place moved down, moved up
-pub upto_up : (at n : ℕ) (k : ℕ × Mark) (es : List (ℕ × Mark)) → n ≤ at → key_upto (moved_up n k) (map (moved_up n) es) at ≡ moved_up n (key_upto k es (at - n))
+pub upto_up : (at n : ℕ) (k : ℕ × Mark) (es : List (ℕ × Mark)) → n ≤ at
+    → key_upto (moved_up n k) (map (moved_up n) es) at ≡ moved_up n (key_upto k es (at - n))
 upto_up at n k [] l = refl
 upto_up at n k (e ∷ es) l =
     rw (le_up at n e.0 l) (both (λ x. x) (moved_up n) (nat_le e.0 (at - n)) _ _ _ _ (upto_up at n e es l) (upto_up at n k es l))
@@ -114,7 +116,8 @@ right-glue_within at v y l =
     (rw (lt-ltb at (view_len v) l, above_all at (view_len v) _ f l, down_up at (view_len v) y.cuts (omega arith), (length-drop at v.bytes)))
 
 -- from a place after a view's bytes on stands what the text after the view has from there on
-pub right-glue_past : (at : ℕ) (v : View) (y : MarkedText) → view_len v ≤ at → text_right (text_glue (of_view v) y) at ≡ text_right y (at - view_len v)
+pub right-glue_past : (at : ℕ) (v : View) (y : MarkedText) → view_len v ≤ at
+    → text_right (text_glue (of_view v) y) at ≡ text_right y (at - view_len v)
 unfolding text_right text_glue
 right-glue_past at v y l =
     let u = mark_up at (view_len v) (0, y.mark) y.cuts l in
@@ -125,7 +128,8 @@ right-glue_past at v y l =
     (rw (le-ltb at (view_len v) l) (filter_up at (view_len v) y.cuts l))
 
 -- up to a place within a view or at its end stands its front
-pub left-glue_within : (at : ℕ) (v : View) (y : MarkedText) → at ≤ view_len v → text_left (text_glue (of_view v) y) at ≡ of_view (view_front v at)
+pub left-glue_within : (at : ℕ) (v : View) (y : MarkedText) → at ≤ view_len v
+    → text_left (text_glue (of_view v) y) at ≡ of_view (view_front v at)
 unfolding text_left text_glue
 left-glue_within at v y l =
     same_text _ _

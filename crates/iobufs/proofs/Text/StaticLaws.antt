@@ -13,7 +13,8 @@ still-static n bytes_mark e = absurd (subst IsStatic (sym e) tt)
 still-static n (native_mark room) e = absurd (subst IsStatic (sym e) tt)
 
 -- one byte or more inside one chunk are taken with static storage only if that chunk is static
-pub static-within : (vs : List View) (t : MarkedText) (skip n i o : ℕ) → of_pieces vs ≡ t → IsChunkPlace vs skip i o → skip < length (pieces_bytes vs)
+pub static-within : (vs : List View) (t : MarkedText) (skip n i o : ℕ) → of_pieces vs ≡ t → IsChunkPlace vs skip i o
+    → skip < length (pieces_bytes vs)
     → 0 < n → n ≤ view_len (piece_at vs i) - o → (taken_view t skip n).mark ≡ static_mark → (piece_at vs i).mark ≡ static_mark
 static-within vs t skip n i o e h l some m static =
     still-static o (piece_at vs i).mark
@@ -24,19 +25,22 @@ mark-frozen : (copy : List ℕ) → 0 < length copy → (part_frozen (record { f
 mark-frozen copy some = grind (arith, nat_tests, common_steps)
 
 -- bytes that span chunks are never taken with static storage
-pub across-native : (vs : List View) (t : MarkedText) (skip n i o : ℕ) → of_pieces vs ≡ t → IsChunkPlace vs skip i o → skip + n ≤ length (pieces_bytes vs)
+pub across-native : (vs : List View) (t : MarkedText) (skip n i o : ℕ) → of_pieces vs ≡ t → IsChunkPlace vs skip i o
+    → skip + n ≤ length (pieces_bytes vs)
     → view_len (piece_at vs i) - o < n → (taken_view t skip n).mark ≡ static_mark → ⊥
 across-native vs t skip n i o e h l m static =
     let copy = take n (drop o (pieces_bytes (drop i vs))) in
     let some : 0 < length copy = omega (arith, m, copied-length vs skip n i o h l) in
-    subst IsStatic (sym static ∙ sym (ap (λ (v : View). v.mark) (taken-across vs t skip n i o copy e h l m refl)) ∙ mark-frozen copy some) tt
+    subst IsStatic (sym static ∙ sym (ap (λ (v : View). v.mark) (taken-across vs t skip n i o copy e h l m refl))
+    ∙ mark-frozen copy some) tt
   where
     copied-length : (vs : List View) (skip n i o : ℕ) → IsChunkPlace vs skip i o → skip + n ≤ length (pieces_bytes vs)
         → length (take n (drop o (pieces_bytes (drop i vs)))) ≡ n
     copied-length vs skip n i o h l =
-        length-take-le n (drop o (pieces_bytes (drop i vs))) (omega (arith, rest-length vs i, length-drop o (pieces_bytes (drop i vs)), h.sum))
+        length-take-le n (drop o (pieces_bytes (drop i vs)))
+        (omega (arith, rest-length vs i, length-drop o (pieces_bytes (drop i vs)), h.sum))
 
--- where bytes are taken inside the first piece
+-- where bytes are taken inside the first chunk
 within-first : (vs : List View) (skip n : ℕ) → 0 < n → skip + n ≤ view_len (piece_at vs 0)
     → IsChunkPlace vs skip 0 skip × (skip < length (pieces_bytes vs)) × (n ≤ view_len (piece_at vs 0) - skip)
 within-first vs skip n some inside = ((record { sum = omega arith; inside = (omega arith) }), omega (arith, length-behind vs), omega arith)

@@ -15,7 +15,8 @@ any_down skip n (e ∷ es) =
     rw (lt-ltb skip e.0 h, lt-ltb 0 (e.0 - skip) (omega arith), b, ih))
     (λ h. rw (le-ltb skip e.0 h) ih)
 
-pub upto_zero : (skip : ℕ) (k : ℕ × Mark) (es : List (ℕ × Mark)) → key_upto k (map (moved_down skip) (filter (λ e. nat_lt skip e.0) es)) 0 ≡ k
+pub upto_zero : (skip : ℕ) (k : ℕ × Mark) (es : List (ℕ × Mark))
+    → key_upto k (map (moved_down skip) (filter (λ e. nat_lt skip e.0) es)) 0 ≡ k
 upto_zero skip k [] = refl
 upto_zero skip k (e ∷ es) =
     let ih = upto_zero skip k es in
@@ -31,7 +32,8 @@ pub taken_view-right : (skip n : ℕ) (t : MarkedText) → taken_view t skip n �
 unfolding taken_view text_right
 taken_view-right skip n t =
     let m = mark_past (key_upto (0, t.mark) t.cuts skip) skip in
-    let any : list_any (λ e. nat_lt 0 e.0 && nat_lt e.0 (0 + n)) (text_right t skip).cuts ≡ list_any (λ e. nat_lt skip e.0 && nat_lt e.0 (skip + n)) t.cuts =
+    let any : list_any (λ e. nat_lt 0 e.0 && nat_lt e.0 (0 + n)) (text_right t skip).cuts ≡ list_any
+    (λ e. nat_lt skip e.0 && nat_lt e.0 (skip + n)) t.cuts =
     rw (zero-add n) (any_down skip n t.cuts) in
     let at_front : mark_past (key_upto (0, m) (text_right t skip).cuts 0) 0 ≡ m = cc (upto_zero skip (0, m) t.cuts, mark_after-zero m) in
     ap (λ v. cond (nat_eq n 0) default_view v)
@@ -56,7 +58,8 @@ taken_view-within n v vs p l =
     let f = from_on-of_pieces v vs in
     let any : list_any (λ e. nat_lt 0 e.0 && nat_lt e.0 (0 + n)) t.cuts ≡ false = rw (zero-add n) (any_from_on (view_len v) n t.cuts f l) in
     let front : mark_past (key_upto (0, t.mark) t.cuts 0) 0 ≡ v.mark =
-    ap (λ (k : ℕ × Mark). mark_past k 0) (upto_none 0 (view_len v) (0, t.mark) t.cuts f (omega arith)) ∙ mark_after-zero t.mark ∙ mark-of_pieces v vs in
+    ap (λ (k : ℕ × Mark). mark_past k 0) (upto_none 0 (view_len v) (0, t.mark) t.cuts f (omega arith)) ∙ mark_after-zero t.mark
+    ∙ mark-of_pieces v vs in
     rw (not_zero n p)
     (same_view _ _ (ap (take n) (bytes-of_pieces (v ∷ vs)) ∙ take-append-le n v.bytes (pieces_bytes vs) l) (rw any front))
 

@@ -1,9 +1,10 @@
--- The views of a text (`text_views`): those of its pieces.
+-- The views of a text (`text_views`): those of its chunks.
 use Rattle.iobufs.proofs.Text.Known.{List, Mark, MarkedText, View, [], ap, arith, drop, drop_past, length, map, moved_up, of_pieces, refl, sym, take, take-append_seam, text_glue, view_len, ℕ, ◌++◌, ◌+◌, ◌-◌, ◌<◌, ◌∙◌, ◌∷◌, ◌≡◌}
 use Rattle.iobufs.proofs.Text.Sides.{no_sub}
 use Rattle.iobufs.specs.Views.{cut_views, text_views}
 
-moved_off : (n key : ℕ) (mark : Mark) (bytes : List ℕ) (cuts : List (ℕ × Mark)) → cut_views bytes (n + key) mark (map (moved_up n) cuts) ≡ cut_views bytes key mark cuts
+moved_off : (n key : ℕ) (mark : Mark) (bytes : List ℕ) (cuts : List (ℕ × Mark))
+    → cut_views bytes (n + key) mark (map (moved_up n) cuts) ≡ cut_views bytes key mark cuts
 moved_off n key mark bytes [] = refl
 moved_off n key mark bytes (cut ∷ cuts) =
     let d : n + cut.0 - (n + key) ≡ cut.0 - key = omega arith in
@@ -23,7 +24,7 @@ views-of_pieces v (w ∷ vs) =
     ap (λ k. cut_views y.bytes k y.mark (map (moved_up (view_len v)) y.cuts)) (sym n) ∙ moved_off (view_len v) 0 y.mark y.bytes y.cuts in
     rw (no_sub (view_len v), a, b, c, views-of_pieces w vs)
 
--- the views of a text of pieces are the pieces
+-- the views of a text of chunks are the chunks
 pub views-kept : (vs : List View) (t : MarkedText) → of_pieces vs ≡ t → 0 < length vs → text_views t ≡ vs
 unfolding text_views
 views-kept [] t e l = absurd (omega arith)

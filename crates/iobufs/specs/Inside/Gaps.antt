@@ -11,12 +11,12 @@ use Rattle.std.specs.Prelude.{ℕ, ◌+◌, ◌<◌, ◌==◌, if◌then◌else�
 use Rattle.iobufs_core.specs.View.{View, view_rest, view_split_front}
 use Rattle.iobufs.specs.Inside.Pieces.{view_len}
 use Rattle.iobufs.specs.Inside.RowValues.{Segment, gap, standing}
-use Rattle.iobufs.specs.declared.bufs.row.Piece.{Piece}
+use Rattle.iobufs.specs.declared.bufs.row.Entry.{Entry}
 
-abbrev pub segment_of : Piece → Segment
+abbrev pub segment_of : Entry → Segment
 segment_of piece = if view_len piece.view == 0 then gap piece.end else standing piece.view
 
-abbrev pub segments_in : List Piece → List Segment
+abbrev pub segments_in : List Entry → List Segment
 segments_in pieces = map segment_of pieces
 
 -- how many bytes are to come, and how many stand

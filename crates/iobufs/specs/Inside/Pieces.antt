@@ -49,7 +49,8 @@ AreViews (v ∷ vs) = IsView v × AreViews vs
 -- the first bytes, up to a place
 abbrev pub left_pieces : List View → ℕ → List View
 left_pieces [] at = []
-left_pieces (v ∷ vs) at = if at == 0 then [] else if nat_lt at (view_len v) then view_front v at ∷ [] else v ∷ left_pieces vs (at - view_len v)
+left_pieces (v ∷ vs) at = if at == 0 then [] else if nat_lt at (view_len v) then view_front v at ∷ [] else v ∷ left_pieces vs
+    (at - view_len v)
 
 -- the bytes from a place on
 abbrev pub right_pieces : List View → ℕ → List View

@@ -20,7 +20,8 @@ items_front bytes (standing view ∷ segments) = push_item view ∷ items_front 
 
 -- the last of the inline bytes follow the last view
 abbrev pub building_from : Part → List Segment → ℕ → Building
-building_from part segments placed = record { capacity = part_capacity part; front = items_front part.filled segments; last = drop placed part.filled }
+building_from part segments placed = record
+    { capacity = part_capacity part; front = items_front part.filled segments; last = drop placed part.filled }
 
 abbrev pub building_of : Inside → Building
 building_of b = building_from b.inline b.pushes.segments b.placed

@@ -30,7 +30,8 @@ IsBuiltBy a items b = (items_inline items ≤ building_room a) × (items_pushed 
 
 pub items_bytes-append : (xs ys : List PutOrPush) → items_bytes (xs ++ ys) ≡ items_bytes xs ++ items_bytes ys
 items_bytes-append [] ys = refl
-items_bytes-append (x ∷ xs) ys = ap (λ bs. item_bytes x ++ bs) (items_bytes-append xs ys) ∙ sym (append_assoc (item_bytes x) (items_bytes xs) (items_bytes ys))
+items_bytes-append (x ∷ xs) ys = ap (λ bs. item_bytes x ++ bs) (items_bytes-append xs ys)
+    ∙ sym (append_assoc (item_bytes x) (items_bytes xs) (items_bytes ys))
 
 pub items_inline-append : (xs ys : List PutOrPush) → items_inline (xs ++ ys) ≡ items_inline xs + items_inline ys
 items_inline-append [] ys = omega arith
@@ -102,7 +103,8 @@ bytes-one a (push_item view) =
     ∙ ap (λ bs. building_bytes a ++ bs) (sym (nil_from_length view.bytes none)))
     (λ (some : 0 < length view.bytes).
     ap building_bytes (push-some a view some) ∙ append-nil _ ∙ items_bytes-append a.front _
-    ∙ ap (λ bs. items_bytes a.front ++ bs) (items_bytes-append (inline_run a.last) _ ∙ ap (λ bs. bs ++ (view.bytes ++ [])) (run-bytes a.last)
+    ∙ ap (λ bs. items_bytes a.front ++ bs) (items_bytes-append (inline_run a.last) _
+    ∙ ap (λ bs. bs ++ (view.bytes ++ [])) (run-bytes a.last)
     ∙ ap (λ bs. a.last ++ bs) (append-nil view.bytes))
     ∙ sym (append_assoc (items_bytes a.front) a.last view.bytes))
 
@@ -129,13 +131,15 @@ pushes-one a (push_item view) =
 pub bytes-built : (a : Building) (items : List PutOrPush) → building_bytes (building_after a items) ≡ building_bytes a ++ items_bytes items
 bytes-built a [] = sym (append-nil (building_bytes a))
 bytes-built a (i ∷ is) =
-    bytes-built (building_with a i) is ∙ ap (λ bs. bs ++ items_bytes is) (bytes-one a i) ∙ append_assoc (building_bytes a) (item_bytes i) (items_bytes is)
+    bytes-built (building_with a i) is ∙ ap (λ bs. bs ++ items_bytes is) (bytes-one a i)
+    ∙ append_assoc (building_bytes a) (item_bytes i) (items_bytes is)
 
 pub room-built : (a : Building) (items : List PutOrPush) → building_room (building_after a items) ≡ building_room a - items_inline items
 room-built a [] = omega arith
 room-built a (i ∷ is) = let ih = room-built (building_with a i) is in let one = room-one a i in omega arith
 
-pub pushes-built : (a : Building) (items : List PutOrPush) → room_for_pushes (building_after a items) ≡ room_for_pushes a - items_pushed items
+pub pushes-built : (a : Building) (items : List PutOrPush)
+    → room_for_pushes (building_after a items) ≡ room_for_pushes a - items_pushed items
 pushes-built a [] = omega arith
 pushes-built a (i ∷ is) = let ih = pushes-built (building_with a i) is in let one = pushes-one a i in omega arith
 
@@ -155,7 +159,8 @@ built_adds a b items (inline, pushed, is) = ap building_bytes is ∙ bytes-built
 pub built_uses : (a b : Building) (items : List PutOrPush) → IsBuiltBy a items b → building_room a ≡ building_room b + items_inline items
 built_uses a b items (inline, pushed, is) = omega (arith, inline, ap building_room is, room-built a items)
 
-pub built_spends : (a b : Building) (items : List PutOrPush) → IsBuiltBy a items b → room_for_pushes a ≡ room_for_pushes b + items_pushed items
+pub built_spends : (a b : Building) (items : List PutOrPush) → IsBuiltBy a items b
+    → room_for_pushes a ≡ room_for_pushes b + items_pushed items
 built_spends a b items (inline, pushed, is) = omega (arith, pushed, ap room_for_pushes is, pushes-built a items)
 
 pub built_follows : (a b c : Building) (us vs : List PutOrPush) → IsBuiltBy a us b → IsBuiltBy b vs c → IsBuiltBy a (us ++ vs) c

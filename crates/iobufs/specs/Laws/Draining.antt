@@ -21,7 +21,8 @@ pub filled-with_capacity : (parts : List Part) → parts_filled (with_capacity p
 filled-with_capacity [] = refl
 filled-with_capacity (p ∷ parts) =
     let ih = filled-with_capacity parts in
-    cond_both (nat_lt 0 (part_capacity p)) (p ∷ with_capacity parts) (with_capacity parts) (λ ps. parts_filled ps ≡ p.filled ++ parts_filled parts)
+    cond_both (nat_lt 0 (part_capacity p)) (p ∷ with_capacity parts) (with_capacity parts)
+    (λ ps. parts_filled ps ≡ p.filled ++ parts_filled parts)
     (λ _. ap (λ w. p.filled ++ w) ih)
     (λ e. let none : p.filled ≡ [] = nil_from_length p.filled (omega (arith, ltb-false 0 (part_capacity p) e)) in rw none ih)
 
@@ -41,7 +42,8 @@ pub filled-drained : (parts : List Part) (n : ℕ) → parts_filled (parts_drain
 filled-drained [] n = sym (drop-nil n)
 filled-drained (p ∷ []) n = append-nil (drop n p.filled) ∙ ap (drop n) (sym (append-nil p.filled))
 filled-drained (p ∷ q ∷ parts) n =
-    cond_both (n == 0) (p ∷ q ∷ parts) (kept_parts (parts_shared_out (p ∷ q ∷ parts) n)) (λ ps. parts_filled ps ≡ drop n (parts_filled (p ∷ q ∷ parts)))
+    cond_both (n == 0) (p ∷ q ∷ parts) (kept_parts (parts_shared_out (p ∷ q ∷ parts) n))
+    (λ ps. parts_filled ps ≡ drop n (parts_filled (p ∷ q ∷ parts)))
     (λ e. rw (eqb-true n 0 e))
     (λ _. filled-kept_parts (parts_shared_out (p ∷ q ∷ parts) n) ∙ filled-shared_out (p ∷ q ∷ parts) n)
 

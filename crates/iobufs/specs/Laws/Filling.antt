@@ -83,7 +83,8 @@ fill-append (p ∷ parts) u v =
     λ i. a i ∷ b i
 
 -- the room lessens by the length
-pub spare-fill : (parts : List Part) (w : List ℕ) → length w ≤ parts_spare parts → parts_spare (parts_fill parts w) ≡ parts_spare parts - length w
+pub spare-fill : (parts : List Part) (w : List ℕ) → length w ≤ parts_spare parts
+    → parts_spare (parts_fill parts w) ≡ parts_spare parts - length w
 spare-fill [] w l = omega arith
 spare-fill (p ∷ parts) w l =
     let d : length (drop p.spare w) ≡ length w - p.spare = length-drop p.spare w in

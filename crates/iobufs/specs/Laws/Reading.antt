@@ -12,7 +12,8 @@ use Rattle.iobufs_core.specs.MarkedText.{MarkedText, cut_up, text_chunks}
 joined-cut_up : (bytes : List ℕ) (key : ℕ) (cuts : List (ℕ × Mark)) → flat_map (λ piece. piece) (cut_up bytes key cuts) ≡ bytes
 joined-cut_up bytes key [] = append-nil bytes
 joined-cut_up bytes key (cut ∷ cuts) =
-    ap (λ rest. take (cut.0 - key) bytes ++ rest) (joined-cut_up (drop (cut.0 - key) bytes) cut.0 cuts) ∙ take-append-drop (cut.0 - key) bytes
+    ap (λ rest. take (cut.0 - key) bytes ++ rest) (joined-cut_up (drop (cut.0 - key) bytes) cut.0 cuts)
+    ∙ take-append-drop (cut.0 - key) bytes
 
 -- the chunks join to the `IoBufs`, and none is empty
 pub joined-chunks : (t : MarkedText) → flat_map (λ piece. piece) (text_chunks t) ≡ t.bytes

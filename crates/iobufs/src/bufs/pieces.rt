@@ -14,7 +14,8 @@ use std::alloc::{AllocError, AllocFailed, Global};
 use std::marker::Model;
 use std::mem;
 
-/// The chunks of an `IoBufs`, in order: at least one, and of several none is empty.
+/// The chunks of an `IoBufs`, in order: at least one, and of several none is empty. Slow paths stand in functions of
+/// their own, marked `inline(never)`: a call fills the locals of all its arms with zeros.
 pub(super) struct Pieces {
     pub(super) form: Form,
 }
@@ -26,7 +27,6 @@ pub(super) enum Form {
     Many(Row),
 }
 
-// Written out, so that what a caller proves about chunks that it drops names no field.
 impl Drop for Pieces {
     fn drop(self) {
         let Pieces { form: _ } = self;
@@ -61,7 +61,7 @@ impl Form {
         *self = form;
     }
 
-    // All chunks go. In `drop_pieces`, its locals cost each call five instructions.
+    // All chunks go.
     #[inline(never)]
     fn clear(&mut self)
         ensures none { views self.new ≡ default_view ∷ [] }
@@ -312,7 +312,6 @@ impl Pieces {
         }
     }
 
-    // In `try_advance`, its locals would cost each call.
     #[inline(never)]
     fn advance_if_inside(&mut self, n: usize) -> bool
         ensures answer { result ≡ nat_le n (length (pieces_bytes self.old)) }
@@ -327,8 +326,7 @@ impl Pieces {
         true
     }
 
-    // Drops bytes of a single chunk, or the first of several and what else goes. In `advance`, its locals would cost each
-    // call. A single chunk leaves its row: so the next call takes half of the instructions.
+    // Drops bytes of a single chunk, which leaves its row, or the first of several and others after it.
     #[inline(never)]
     fn advance_pieces(&mut self, n: usize)
         requires inside { n ≤ length (pieces_bytes self.old) }
@@ -349,7 +347,7 @@ impl Pieces {
         }
     }
 
-    // Drops bytes of several chunks. In `drop_front`, its locals cost `text64_bytewise` 16 % more instructions.
+    // Drops bytes of several chunks.
     #[inline(never)]
     fn drop_pieces(&mut self, n: usize)
         requires some { 0 < n }
@@ -398,7 +396,8 @@ impl Pieces {
         ensures unchanged { OnErr result (self.new ≡ self.old) }
         ensures memory { IsOkUnless result BufError.Memory }
         ensures first { at ≡ view_len (piece_at self.old 0) → IsOk result }
-        ensures static_text { at ≤ view_len (piece_at self.old 0) → (piece_at self.old 0).mark ≡ static_mark → IsOk result }
+        ensures static_text { at ≤ view_len (piece_at self.old 0) → (piece_at self.old 0).mark ≡ static_mark
+            → IsOk result }
         ensures last { (front : List View) (last : View) → self.old ≡ front ++ last ∷ []
             → at + view_len last ≡ length (pieces_bytes self.old) → IsOk result }
         ensures pieces { IsPieces self.old }
@@ -468,9 +467,11 @@ impl Pieces {
     pub(super) fn matched(&self, from: Located, bytes: &[u8]) -> Option<Located>
         requires offset { from.offset ≤ view_len (piece_at self.now from.index) }
         requires inside { length bytes.now ≤ length (bytes_behind self.now from.index from.offset) }
-        ensures { MatchOption result ((more : List ℕ) → bytes_behind self.now from.index from.offset ≡ bytes.now ++ more → ⊥)
+        ensures { MatchOption result ((more : List ℕ) → bytes_behind self.now from.index from.offset ≡ bytes.now ++ more
+            → ⊥)
             (λ end. (end.offset ≤ view_len (piece_at self.now end.index))
-            × (bytes_behind self.now from.index from.offset ≡ bytes.now ++ bytes_behind self.now end.index end.offset)) }
+            × (bytes_behind self.now from.index from.offset ≡ bytes.now
+            ++ bytes_behind self.now end.index end.offset)) }
     {
         let count = self.count();
         let Located {
@@ -574,21 +575,10 @@ impl Pieces {
         copy.freeze()
     }
 
-    /// Puts all bytes into a buffer that has space for them.
-    pub(super) fn copy_to(&self, copy: &mut IoBufMut)
-        requires { length (pieces_bytes self.now) ≤ copy.old.spare }
-        ensures put { copy.new ≡ part_put copy.old (pieces_bytes self.now) }
-        ensures pieces { IsPieces self.now }
-    {
-        match &self.form {
-            Form::One(piece) => copy.put_slice(piece.as_ref()),
-            Form::Many(row) => row.copy_to(copy),
-        }
-    }
-
     /// The bytes of the first chunks, at most `max` of these.
     pub(super) fn chunks(&self, alloc: Global, max: usize) -> Result<Vec<&[u8]>, AllocError>
-        ensures ok { IfOk result (λ chunks. map (λ chunk. chunk.now) chunks.items ≡ take max (map (λ piece. piece.bytes) self.now)) }
+        ensures ok { IfOk result (λ chunks. map (λ chunk. chunk.now) chunks.items ≡ take max
+            (map (λ piece. piece.bytes) self.now)) }
         ensures nothing { max ≡ 0 → IsOk result }
         ensures pieces { IsPieces self.now }
     {

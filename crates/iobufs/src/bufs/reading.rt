@@ -67,8 +67,10 @@ impl Buf for IoBufs {
         ensures unchanged { OnErr result (self.new ≡ self.old) }
         ensures memory { IsOkUnless result BufError.Memory }
         ensures nothing { n ≡ 0 → IsOk result }
-        ensures static_text { n ≤ length (first_chunk (text_chunks self.old)) → (taken_view self.old 0 n).mark ≡ static_mark → IsOk result }
-        ensures whole { n ≡ length (first_chunk (text_chunks self.old)) → (taken_view self.old 0 n).mark ≡ bytes_mark → IsOk result }
+        ensures static_text { n ≤ length (first_chunk (text_chunks self.old))
+            → (taken_view self.old 0 n).mark ≡ static_mark → IsOk result }
+        ensures whole { n ≡ length (first_chunk (text_chunks self.old)) → (taken_view self.old 0 n).mark ≡ bytes_mark
+            → IsOk result }
     {
         if n <= self.chunk().len() {
             return self.take_owned_after(alloc, 0, n);
@@ -204,7 +206,8 @@ impl IoBufs {
         ensures rest { OnOk result (self.new ≡ text_rest self.old (skip + n)) }
         ensures unchanged { OnErr result (self.new ≡ self.old) }
         ensures memory { IsOkUnless result BufError.Memory }
-        ensures static_text { (taken_view self.old skip n).mark ≡ static_mark → T.is_free (taken_view self.old skip n) → IsOk result }
+        ensures static_text { (taken_view self.old skip n).mark ≡ static_mark → T.is_free (taken_view self.old skip n)
+            → IsOk result }
     {
         let (first, end) = (self.pieces.first(), skip + n);
         let view = first.slice(Bound::Included(skip), Bound::Excluded(end))?;
@@ -226,7 +229,8 @@ impl IoBufs {
         ensures rest { OnOk result (self.new ≡ text_rest self.old (skip + n)) }
         ensures unchanged { OnErr result (self.new ≡ self.old) }
         ensures memory { IsOkUnless result BufError.Memory }
-        ensures static_text { (taken_view self.old skip n).mark ≡ static_mark → T.is_free (taken_view self.old skip n) → IsOk result }
+        ensures static_text { (taken_view self.old skip n).mark ≡ static_mark → T.is_free (taken_view self.old skip n)
+            → IsOk result }
         ensures nothing { n ≡ 0 → IsOk result }
     {
         let view = self.taken(alloc, skip, n)?;

@@ -23,16 +23,16 @@ use std::ops::Bound;
 
 // A chunk, and its end: the base of its row more than the number of bytes up to where it ends, modulo 2^64.
 #[derive(Drop)]
-struct Piece {
+struct Entry {
     view: IoBuf,
     end: u64,
 }
 
-impl Clone for Piece {
+impl Clone for Entry {
     ghost is_clone = { λ a b. b ≡ a };
 
-    fn clone(&self) -> Result<Piece, AllocError> {
-        Ok(Piece {
+    fn clone(&self) -> Result<Entry, AllocError> {
+        Ok(Entry {
             view: self.view.clone()?,
             end: self.end,
         })
@@ -41,38 +41,38 @@ impl Clone for Piece {
 
 /// Chunks of an `IoBufs` that are next to each other in memory. Its value is the list of their bytes.
 #[derive(Drop)]
-pub struct Run<'a> {
-    pieces: &'a [Piece],
+pub struct ChunkSlice<'a> {
+    entries: &'a [Entry],
 }
 
-impl<'a> Model for Run<'a> {
+impl<'a> Model for ChunkSlice<'a> {
     ghost use Rattle.std.specs.Prelude.{ℕ, List, map};
 
     ghost Value = { List (List ℕ) };
 
-    ghost view = { λ r. map (λ piece. piece.view.bytes) r.pieces.now };
+    ghost view = { λ r. map (λ piece. piece.view.bytes) r.entries.now };
 }
 
-impl<'a> Run<'a> {
+impl<'a> ChunkSlice<'a> {
     // No chunks.
-    pub(super) fn none() -> Run<'a>
+    pub(super) fn none() -> ChunkSlice<'a>
         ensures { result ≡ [] }
     {
-        Run { pieces: &[] }
+        ChunkSlice { entries: &[] }
     }
 
     /// Returns the number of chunks (own).
     pub fn len(&self) -> usize
         ensures { result ≡ length self.now }
     {
-        self.pieces.len()
+        self.entries.len()
     }
 
     /// Borrows a chunk by its index (own).
     pub fn get(&self, i: usize) -> Option<&'a [u8]>
         ensures { option_copied result ≡ slice_get self.now i }
     {
-        match self.pieces.get(i) {
+        match self.entries.get(i) {
             Some(piece) => Some(piece.view.as_ref()),
             None => None,
         }
@@ -88,13 +88,15 @@ impl<'a> Run<'a> {
 /// ```
 pub(crate) struct Row {
     base: u64,
-    pieces: VecDeque<Piece>,
+    entries: VecDeque<Entry>,
 }
 
-// Written out, so that what a caller proves about a row that it drops names no field.
 impl Drop for Row {
     fn drop(self) {
-        let Row { base: _, pieces: _ } = self;
+        let Row {
+            base: _,
+            entries: _,
+        } = self;
     }
 }
 
@@ -106,9 +108,9 @@ impl Model for Row {
     ghost use Rattle.std.specs.VecDeque.{deque_capacity};
     ghost use Rattle.iobufs.specs.Inside.Ends.{IsRow, views_in};
 
-    ghost view = { λ r. record { views = views_in r.pieces.items; room = deque_capacity r.pieces } };
+    ghost view = { λ r. record { views = views_in r.entries.items; room = deque_capacity r.entries } };
 
-    ghost invariant = { λ r. IsRow r.base r.pieces.items };
+    ghost invariant = { λ r. IsRow r.base r.entries.items };
 }
 
 impl Row {
@@ -119,7 +121,7 @@ impl Row {
     {
         Ok(Row {
             base: 0,
-            pieces: VecDeque::with_capacity(alloc, room)?,
+            entries: VecDeque::with_capacity(alloc, room)?,
         })
     }
 
@@ -128,7 +130,7 @@ impl Row {
         ensures value { result ≡ length (pieces_bytes self.now.views) }
         ensures full { AreFull self.now.views }
     {
-        match self.pieces.back() {
+        match self.entries.back() {
             Some(piece) => piece.end.wrapping_sub(self.base) as usize,
             None => 0,
         }
@@ -138,13 +140,13 @@ impl Row {
         ensures value { result ≡ length self.now.views }
         ensures full { AreFull self.now.views }
     {
-        self.pieces.len()
+        self.entries.len()
     }
 
     pub(super) fn get(&self, i: usize) -> Option<&IoBuf>
         ensures { option_copied result ≡ slice_get self.now.views i }
     {
-        match self.pieces.get(i) {
+        match self.entries.get(i) {
             Some(piece) => Some(&piece.view),
             None => None,
         }
@@ -165,7 +167,7 @@ impl Row {
         ensures unchanged { OnErr result (self.new.views ≡ self.old.views) }
         ensures handed_back { IfErr result (λ e. e.value ≡ piece) }
     {
-        if self.pieces.try_reserve(1).is_err() {
+        if self.entries.try_reserve(1).is_err() {
             return Err(AllocFailed { value: piece });
         }
         self.push_back_reserved(piece, len);
@@ -177,44 +179,45 @@ impl Row {
     pub(super) fn has_room(&self) -> bool
         ensures { result ≡ nat_lt (length self.now.views) self.now.room }
     {
-        self.pieces.len() < self.pieces.capacity()
+        self.entries.len() < self.entries.capacity()
     }
 
     /// Whether the deque is so small that it may stay for one chunk.
     pub(super) fn is_small(&self) -> bool {
-        self.pieces.capacity() <= SMALL
+        self.entries.capacity() <= SMALL
     }
 
     /// Shows the bytes of each chunk, in order.
     pub(super) fn for_each<F: FnMut(&[u8])>(&self, visit: F)
         requires { F.IsAlwaysCallable visit }
         ensures { (last : F)
-            × FoldsTo (λ before chunk after. CalledAt F.FnMut before chunk tt after) visit (map (λ view. view.bytes) self.now.views) last }
+            × FoldsTo (λ before chunk after. CalledAt F.FnMut before chunk tt after) visit
+            (map (λ view. view.bytes) self.now.views) last }
     {
-        let (front, behind) = self.pieces.as_slices();
+        let (front, behind) = self.entries.as_slices();
         let visit = show(front, visit);
         show(behind, visit);
     }
 
     /// The chunks from an index on.
-    pub(super) fn runs_from(&self, first: usize) -> (Run<'_>, Run<'_>)
+    pub(super) fn chunk_slices_from(&self, first: usize) -> (ChunkSlice<'_>, ChunkSlice<'_>)
         ensures { result.0 ++ result.1 ≡ drop first (map (λ view. view.bytes) self.now.views) }
     {
-        let (front, behind) = self.pieces.as_slices();
+        let (front, behind) = self.entries.as_slices();
         if first < front.len() {
             return (
-                Run {
-                    pieces: &front[first..],
+                ChunkSlice {
+                    entries: &front[first..],
                 },
-                Run { pieces: behind },
+                ChunkSlice { entries: behind },
             );
         }
         let skip = (first - front.len()).min(behind.len());
         (
-            Run {
-                pieces: &behind[skip..],
+            ChunkSlice {
+                entries: &behind[skip..],
             },
-            Run::none(),
+            ChunkSlice::none(),
         )
     }
 
@@ -223,7 +226,7 @@ impl Row {
         requires { length (pieces_bytes self.now.views) ≤ copy.old.spare }
         ensures { copy.new ≡ part_put copy.old (pieces_bytes self.now.views) }
     {
-        let (front, behind) = self.pieces.as_slices();
+        let (front, behind) = self.entries.as_slices();
         put_all(front, copy);
         put_all(behind, copy);
     }
@@ -233,7 +236,8 @@ impl Row {
     pub(crate) fn add(&mut self, piece: IoBuf)
         requires fits { length (pieces_bytes self.old.views) + length piece.bytes < 2 ^ 64 }
         requires room { length self.old.views < self.old.room }
-        ensures added { self.new.views ≡ (if length piece.bytes == 0 then self.old.views else self.old.views ++ piece ∷ []) }
+        ensures added { self.new.views ≡ (if length piece.bytes == 0 then self.old.views else self.old.views
+            ++ piece ∷ []) }
         ensures same_room { self.new.room ≡ self.old.room }
         ensures view { IsView piece }
     {
@@ -252,7 +256,7 @@ impl Row {
         ensures same_room { self.new.room ≡ self.old.room }
     {
         let end = self.base.wrapping_add(len as u64);
-        self.pieces.push_back_reserved(Piece { view: piece, end });
+        self.entries.push_back_reserved(Entry { view: piece, end });
     }
 
     /// Adds a chunk at the start.
@@ -263,7 +267,7 @@ impl Row {
         ensures unchanged { OnErr result (self.new.views ≡ self.old.views) }
         ensures handed_back { IfErr result (λ e. e.value ≡ piece) }
     {
-        if self.pieces.try_reserve(1).is_err() {
+        if self.entries.try_reserve(1).is_err() {
             return Err(AllocFailed { value: piece });
         }
         let ahead = piece.len();
@@ -282,7 +286,7 @@ impl Row {
         ensures same_room { self.new.room ≡ self.old.room }
     {
         let end = self.base;
-        self.pieces.push_front_reserved(Piece { view: piece, end });
+        self.entries.push_front_reserved(Entry { view: piece, end });
         self.base = end.wrapping_sub(ahead as u64);
     }
 
@@ -290,7 +294,7 @@ impl Row {
         requires { 0 < length self.old.views }
         ensures { self.old.views ≡ result ∷ self.new.views }
     {
-        let piece = self.pieces.pop_front().unwrap();
+        let piece = self.entries.pop_front().unwrap();
         self.base = piece.end;
         piece.view
     }
@@ -304,14 +308,14 @@ impl Row {
         ensures memory { IsOkUnless result BufError.Memory }
         ensures free { T.is_free (piece_at self.old.views 0) → IsOk result }
     {
-        let mut piece = self.pieces.pop_front().unwrap();
+        let mut piece = self.entries.pop_front().unwrap();
         match T::take_view(alloc, &mut piece.view) {
             Ok(made) => {
                 self.base = piece.end;
                 Ok(made)
             }
             Err(error) => {
-                self.pieces.push_front_reserved(piece);
+                self.entries.push_front_reserved(piece);
                 Err(error)
             }
         }
@@ -324,7 +328,7 @@ impl Row {
         ensures left { IsTrue result → self.new.views ≡ right_pieces self.old.views n }
         ensures same { IsFalse result → self.new.views ≡ self.old.views }
     {
-        if !drop_inside(&mut self.pieces, n) {
+        if !drop_inside(&mut self.entries, n) {
             return false;
         }
         self.base = self.base.wrapping_add(n as u64);
@@ -334,7 +338,8 @@ impl Row {
     /// As `shorten`, where there are several chunks. Else nothing changes.
     #[inline(always)]
     pub(super) fn shorten_several(&mut self, n: usize) -> bool
-        ensures left { IsTrue result → (n < view_len (piece_at self.old.views 0)) × (self.new.views ≡ right_pieces self.old.views n) }
+        ensures left { IsTrue result → (n < view_len (piece_at self.old.views 0))
+            × (self.new.views ≡ right_pieces self.old.views n) }
         ensures same { IsFalse result → self.new.views ≡ self.old.views }
         ensures whole { IsFalse result → 1 < length self.old.views → view_len (piece_at self.old.views 0) ≤ n }
     {
@@ -362,7 +367,7 @@ impl Row {
         ensures halves { length self.now.views < 2 ^ (result.probes + 1) }
     {
         let mut ends = Looking {
-            pieces: &self.pieces,
+            entries: &self.entries,
             base: self.base,
             place: at as u64,
             probes: 0,
@@ -382,9 +387,9 @@ impl Row {
     {
         let base = self.base.wrapping_add(self.start(first) as u64);
         let count = behind + 1;
-        let mut pieces = VecDeque::with_capacity(alloc, count)?;
-        clone_run(&self.pieces, &mut pieces, first, count)?;
-        Ok(Row { base, pieces })
+        let mut entries = VecDeque::with_capacity(alloc, count)?;
+        clone_run(&self.entries, &mut entries, first, count)?;
+        Ok(Row { base, entries })
     }
 
     // The number of bytes before a chunk.
@@ -395,7 +400,7 @@ impl Row {
         if index == 0 {
             return 0;
         }
-        let before = self.pieces.get(index - 1).unwrap();
+        let before = self.entries.get(index - 1).unwrap();
         before.end.wrapping_sub(self.base) as usize
     }
 
@@ -413,7 +418,7 @@ impl Row {
         if at == self.piece(0).len() {
             return Ok(self.pop_front());
         }
-        let front = split_first_inside(&mut self.pieces, at)?;
+        let front = split_first_inside(&mut self.entries, at)?;
         self.base = self.base.wrapping_add(at as u64);
         Ok(front)
     }
@@ -429,14 +434,14 @@ impl Row {
         ensures edge { place.offset ≡ 0 → IsOk result }
     {
         if place.offset == 0 {
-            let last = self.pieces.pop_back().unwrap();
+            let last = self.entries.pop_back().unwrap();
             return Ok(last.view);
         }
-        let view = front_of(&self.pieces, place.index, place.offset)?;
+        let view = front_of(&self.entries, place.index, place.offset)?;
         let end = self.base.wrapping_add(at as u64);
-        let mut piece = self.pieces.pop_back().unwrap();
+        let mut piece = self.entries.pop_back().unwrap();
         piece.view.advance(place.offset);
-        self.pieces.push_back_reserved(Piece { view, end });
+        self.entries.push_back_reserved(Entry { view, end });
         Ok(piece.view)
     }
 
@@ -469,20 +474,20 @@ impl Row {
         ensures memory { IsOkUnless result BufError.Memory }
     {
         let mut front = VecDeque::with_capacity(alloc, place.index + 1)?;
-        let inside = front_of(&self.pieces, place.index, place.offset)?;
+        let inside = front_of(&self.entries, place.index, place.offset)?;
         let base = self.base;
         self.base = base.wrapping_add(at as u64);
-        move_front(&mut self.pieces, &mut front, place.index);
+        move_front(&mut self.entries, &mut front, place.index);
         cut(
             &mut front,
-            &mut self.pieces,
+            &mut self.entries,
             inside,
             place.offset,
             self.base,
         );
         Ok(Row {
             base,
-            pieces: front,
+            entries: front,
         })
     }
 
@@ -494,24 +499,24 @@ impl Row {
         ensures unchanged { OnErr result (self.new.views ≡ self.old.views) }
         ensures memory { IsOkUnless result BufError.Memory }
     {
-        let inside = front_of(&self.pieces, place.index, place.offset)?;
-        let mut pieces = split_off(&mut self.pieces, place.index)?;
+        let inside = front_of(&self.entries, place.index, place.offset)?;
+        let mut entries = split_off(&mut self.entries, place.index)?;
         let base = self.base.wrapping_add(at as u64);
-        cut(&mut self.pieces, &mut pieces, inside, place.offset, base);
-        Ok(mem::replace(self, Row { base, pieces }))
+        cut(&mut self.entries, &mut entries, inside, place.offset, base);
+        Ok(mem::replace(self, Row { base, entries }))
     }
 }
 
 /// A row in the making. A push takes half of the instructions of one into a deque, which may have wrapped.
 pub(crate) struct NewRow {
-    pieces: Vec<Piece>,
+    entries: Vec<Entry>,
     len: usize,
 }
 
 // Written out, as that of `Row`.
 impl Drop for NewRow {
     fn drop(self) {
-        let NewRow { pieces: _, len: _ } = self;
+        let NewRow { entries: _, len: _ } = self;
     }
 }
 
@@ -524,9 +529,9 @@ impl Model for NewRow {
     ghost use Rattle.iobufs.specs.Inside.Ends.{IsRow, views_in};
     ghost use Rattle.iobufs.specs.Inside.Pieces.{pieces_bytes};
 
-    ghost view = { λ r. record { views = views_in r.pieces.items; room = vec_capacity r.pieces } };
+    ghost view = { λ r. record { views = views_in r.entries.items; room = vec_capacity r.entries } };
 
-    ghost invariant = { λ r. IsRow 0 r.pieces.items × (r.len ≡ length (pieces_bytes (views_in r.pieces.items))) };
+    ghost invariant = { λ r. IsRow 0 r.entries.items × (r.len ≡ length (pieces_bytes (views_in r.entries.items))) };
 }
 
 impl NewRow {
@@ -536,7 +541,7 @@ impl NewRow {
         ensures room { IfOk result (λ row. room ≤ row.room) }
     {
         Ok(NewRow {
-            pieces: Vec::with_capacity(alloc, room)?,
+            entries: Vec::with_capacity(alloc, room)?,
             len: 0,
         })
     }
@@ -546,7 +551,8 @@ impl NewRow {
     pub(crate) fn add(&mut self, piece: IoBuf)
         requires fits { length (pieces_bytes self.old.views) + length piece.bytes < 2 ^ 64 }
         requires room { length self.old.views < self.old.room }
-        ensures added { self.new.views ≡ (if length piece.bytes == 0 then self.old.views else self.old.views ++ piece ∷ []) }
+        ensures added { self.new.views ≡ (if length piece.bytes == 0 then self.old.views else self.old.views
+            ++ piece ∷ []) }
         ensures same_room { self.new.room ≡ self.old.room }
         ensures view { IsView piece }
     {
@@ -554,7 +560,7 @@ impl NewRow {
         if more != 0 {
             self.len += more;
             let end = self.len as u64;
-            self.pieces.push_reserved(Piece { view: piece, end });
+            self.entries.push_reserved(Entry { view: piece, end });
         }
     }
 
@@ -562,10 +568,10 @@ impl NewRow {
     pub(crate) fn finish(self) -> Row
         ensures { result.views ≡ self.views }
     {
-        let NewRow { pieces, len: _ } = self;
+        let NewRow { entries, len: _ } = self;
         Row {
             base: 0,
-            pieces: VecDeque::from_vec(pieces),
+            entries: VecDeque::from_vec(entries),
         }
     }
 }
@@ -584,9 +590,10 @@ pub(super) fn split_inside(piece: &mut IoBuf, at: usize) -> Result<IoBuf, BufErr
 }
 
 // The bytes before a place in its chunk.
-fn front_of(row: &VecDeque<Piece>, index: usize, offset: usize) -> Result<IoBuf, BufError>
+fn front_of(row: &VecDeque<Entry>, index: usize, offset: usize) -> Result<IoBuf, BufError>
     requires { offset < view_len (piece_at (views_in row.now.items) index) }
-    ensures inside { 0 < offset → IfOk result (λ front. front ≡ view_front (piece_at (views_in row.now.items) index) offset) }
+    ensures inside { 0 < offset → IfOk result
+        (λ front. front ≡ view_front (piece_at (views_in row.now.items) index) offset) }
     ensures index { index < deque_len row.now }
     ensures memory { IsOkUnless result BufError.Memory }
 {
@@ -595,12 +602,13 @@ fn front_of(row: &VecDeque<Piece>, index: usize, offset: usize) -> Result<IoBuf,
 }
 
 // Shows the bytes of each chunk, in order, and hands the closure back.
-fn show<F: FnMut(&[u8])>(pieces: &[Piece], mut visit: F) -> F
+fn show<F: FnMut(&[u8])>(entries: &[Entry], mut visit: F) -> F
     requires { F.IsAlwaysCallable visit }
     ensures callable { F.IsAlwaysCallable result }
-    ensures shown { FoldsTo (λ before chunk after. CalledAt F.FnMut before chunk tt after) visit (map (λ piece. piece.view.bytes) pieces.now) result }
+    ensures shown { FoldsTo (λ before chunk after. CalledAt F.FnMut before chunk tt after) visit
+        (map (λ piece. piece.view.bytes) entries.now) result }
 {
-    for piece in pieces {
+    for piece in entries {
         visit(piece.view.as_ref());
     }
     visit
@@ -620,11 +628,11 @@ pub(crate) fn put_reserved(copy: &mut Vec<u8>, bytes: &[u8])
 }
 
 // Puts the bytes of each chunk after those of a buffer that has space for them.
-fn put_all(pieces: &[Piece], copy: &mut IoBufMut)
-    requires { length (pieces_bytes (views_in pieces.now)) ≤ copy.old.spare }
-    ensures { copy.new ≡ part_put copy.old (pieces_bytes (views_in pieces.now)) }
+fn put_all(entries: &[Entry], copy: &mut IoBufMut)
+    requires { length (pieces_bytes (views_in entries.now)) ≤ copy.old.spare }
+    ensures { copy.new ≡ part_put copy.old (pieces_bytes (views_in entries.now)) }
 {
-    let mut left = pieces;
+    let mut left = entries;
     while let Some((piece, rest)) = left.split_first() {
         copy.put_slice(piece.view.as_ref());
         left = rest;
@@ -633,7 +641,7 @@ fn put_all(pieces: &[Piece], copy: &mut IoBufMut)
 
 // Drops bytes of the first chunk if it has more. Else nothing changes.
 #[inline(always)]
-fn drop_inside(row: &mut VecDeque<Piece>, n: usize) -> bool
+fn drop_inside(row: &mut VecDeque<Entry>, n: usize) -> bool
     requires { 0 < deque_len row.old }
     ensures answer { result ≡ nat_lt n (view_len (piece_at (views_in row.old.items) 0)) }
     ensures left { IsTrue result → row.new.items ≡ shortened row.old.items n }
@@ -652,7 +660,7 @@ fn drop_inside(row: &mut VecDeque<Piece>, n: usize) -> bool
 }
 
 // Takes the first bytes off the first chunk, which has more.
-fn split_first_inside(row: &mut VecDeque<Piece>, at: usize) -> Result<IoBuf, BufError>
+fn split_first_inside(row: &mut VecDeque<Entry>, at: usize) -> Result<IoBuf, BufError>
     requires some { 0 < at }
     requires inside { at < view_len (piece_at (views_in row.old.items) 0) }
     ensures front { IfOk result (λ front. front ≡ view_front (piece_at (views_in row.old.items) 0) at) }
@@ -673,31 +681,32 @@ const SMALL: usize = 8;
 // How few chunks are moved one by one.
 const FEW: usize = 8;
 
-// Takes the chunks from an index on. Many are moved at once, as a `Vec` moves them; that may move those before the index too.
-fn split_off(pieces: &mut VecDeque<Piece>, at: usize) -> Result<VecDeque<Piece>, AllocError>
-    requires { at ≤ deque_len pieces.old }
-    ensures items { OnOk result (pieces.new.items ≡ take at pieces.old.items) }
-    ensures len { OnOk result (deque_len pieces.new ≡ at) }
-    ensures tail { IfOk result (λ rest. rest.items ≡ drop at pieces.old.items) }
-    ensures tail_len { IfOk result (λ rest. deque_len rest + at ≡ deque_len pieces.old) }
-    ensures err { OnErr result (pieces.new.items ≡ pieces.old.items) }
-    ensures capacity { deque_capacity pieces.new ≡ deque_capacity pieces.old }
+// Takes the chunks from an index on. Many are moved at once, as a `Vec` moves them; that may move those before the
+// index too.
+fn split_off(entries: &mut VecDeque<Entry>, at: usize) -> Result<VecDeque<Entry>, AllocError>
+    requires { at ≤ deque_len entries.old }
+    ensures items { OnOk result (entries.new.items ≡ take at entries.old.items) }
+    ensures len { OnOk result (deque_len entries.new ≡ at) }
+    ensures tail { IfOk result (λ rest. rest.items ≡ drop at entries.old.items) }
+    ensures tail_len { IfOk result (λ rest. deque_len rest + at ≡ deque_len entries.old) }
+    ensures err { OnErr result (entries.new.items ≡ entries.old.items) }
+    ensures capacity { deque_capacity entries.new ≡ deque_capacity entries.old }
 {
-    let count = pieces.len() - at;
+    let count = entries.len() - at;
     if count < FEW || count < at / 4 {
-        return pieces.split_off(at);
+        return entries.split_off(at);
     }
-    let alloc = *pieces.allocator();
-    let mut front = mem::replace(pieces, VecDeque::new(alloc)).into_vec();
+    let alloc = *entries.allocator();
+    let mut front = mem::replace(entries, VecDeque::new(alloc)).into_vec();
     let rest = front.split_off(at);
-    *pieces = VecDeque::from_vec(front);
+    *entries = VecDeque::from_vec(front);
     Ok(VecDeque::from_vec(rest?))
 }
 
 // Cuts a chunk in two: its first bytes go after the front chunks, and the first of those after keeps the others.
 fn cut(
-    front: &mut VecDeque<Piece>,
-    behind: &mut VecDeque<Piece>,
+    front: &mut VecDeque<Entry>,
+    behind: &mut VecDeque<Entry>,
     inside: IoBuf,
     offset: usize,
     end: u64,
@@ -710,12 +719,12 @@ fn cut(
     if offset == 0 {
         return;
     }
-    front.push_back_reserved(Piece { view: inside, end });
+    front.push_back_reserved(Entry { view: inside, end });
     drop_inside(behind, offset);
 }
 
 // Moves the first chunks from one row to the end of the other.
-fn move_front(row: &mut VecDeque<Piece>, front: &mut VecDeque<Piece>, count: usize)
+fn move_front(row: &mut VecDeque<Entry>, front: &mut VecDeque<Entry>, count: usize)
     requires some { count ≤ deque_len row.old }
     requires room { deque_len front.old + count ≤ deque_capacity front.old }
     ensures moved { front.new.items ≡ front.old.items ++ take count row.old.items }
@@ -732,8 +741,8 @@ fn move_front(row: &mut VecDeque<Piece>, front: &mut VecDeque<Piece>, count: usi
 
 // Puts clones of the chunks from one on, so many, after those of another row, which has space for them.
 fn clone_run(
-    row: &VecDeque<Piece>,
-    run: &mut VecDeque<Piece>,
+    row: &VecDeque<Entry>,
+    run: &mut VecDeque<Entry>,
     first: usize,
     count: usize,
 ) -> Result<(), AllocError>
@@ -754,7 +763,7 @@ impl Clone for Row {
     fn clone(&self) -> Result<Row, AllocError> {
         Ok(Row {
             base: self.base,
-            pieces: self.pieces.clone()?,
+            entries: self.entries.clone()?,
         })
     }
 }
@@ -762,7 +771,7 @@ impl Clone for Row {
 // A place sought among the ends of a row.
 #[derive(Drop)]
 struct Looking<'a> {
-    pieces: &'a VecDeque<Piece>,
+    entries: &'a VecDeque<Entry>,
     base: u64,
     place: u64,
     probes: u32,
@@ -775,9 +784,9 @@ impl<'a> Model for Looking<'a> {
 
     ghost use Rattle.iobufs.specs.Inside.Ends.{IsSearch, ends_from};
 
-    ghost view = { λ s. record { ends = ends_from s.base s.pieces.now.items; place = s.place; probed = s.probes } };
+    ghost view = { λ s. record { ends = ends_from s.base s.entries.now.items; place = s.place; probed = s.probes } };
 
-    ghost invariant = { λ s. IsSearch (ends_from s.base s.pieces.now.items) s.place };
+    ghost invariant = { λ s. IsSearch (ends_from s.base s.entries.now.items) s.place };
 }
 
 impl<'a> Ends for Looking<'a> {
@@ -788,12 +797,12 @@ impl<'a> Ends for Looking<'a> {
     ghost probed = { λ s. s.probed };
 
     fn count(&self) -> usize {
-        self.pieces.len()
+        self.entries.len()
     }
 
     fn past(&mut self, i: usize) -> bool {
         self.probes += 1;
-        let piece = self.pieces.get(i).unwrap();
+        let piece = self.entries.get(i).unwrap();
         self.place < piece.end.wrapping_sub(self.base)
     }
 

@@ -218,7 +218,8 @@ impl Few {
     pub(super) fn push(&mut self, part: IoBufMut) -> Option<IoBufMut>
         requires { parts_capacity self.old + part_capacity part < 2 ^ 64 }
         ensures pushed { IfNone result (kept_parts self.new ≡ kept_parts (self.old ++ part ∷ [])) }
-        ensures full { IfSome result (λ back. (back ≡ part) × (self.new ≡ self.old) × HaveCapacity self.old × (length self.old ≡ 3)) }
+        ensures full { IfSome result (λ back. (back ≡ part) × (self.new ≡ self.old) × HaveCapacity self.old
+            × (length self.old ≡ 3)) }
     {
         if self.third.capacity() == 0 {
             self.third = part;
@@ -370,7 +371,8 @@ impl Few {
         copy_share(&mut self.third, rest);
     }
 
-    /// Drops the first `n` bytes. The storage of a drained buffer without capacity is freed once another can hold a byte.
+    /// Drops the first `n` bytes. The storage of a drained buffer without capacity is freed once another can hold a
+    /// byte.
     #[tactic(auto, using(crate::proofs::Parts::FewLaws::capacities))]
     pub(super) fn advance(&mut self, n: usize)
         ensures { self.new ≡ parts_shared_out self.old n }

@@ -28,7 +28,8 @@ use std::mem;
 pub(super) struct Several {
     row: VecDeque<IoBufMut>,
     used: usize,
-    // The first `full` buffers in order are known to have no spare capacity. A put begins after them, so many small puts
+    // The first `full` buffers in order are known to have no spare capacity. A put begins after them, so many small
+    // puts
     // walk over the buffers once.
     full: usize,
     len: usize,

@@ -53,7 +53,11 @@ impl Model for Native {
 
     ghost Value = { NativeText };
 
-    ghost view = { λ n. record { bytes = take n.len (drop n.start (arc_value n.block).items); room = n.limit - n.start } };
+    ghost view = { λ n. record {
+      bytes = take n.len
+          (drop n.start (arc_value n.block).items);
+      room = n.limit - n.start;
+    } };
 
     ghost invariant = { λ n. (n.start + n.len ≤ vec_len (arc_value n.block)) × (vec_len (arc_value n.block) ≤ n.limit)
         × (n.limit ≤ vec_capacity (arc_value n.block)) };
@@ -137,7 +141,8 @@ impl Native {
         Ok(front)
     }
 
-    /// The bytes as a `Bytes`: in their storage, if no other handle has the block and its capacity ends with them, else a copy.
+    /// The bytes as a `Bytes`: in their storage, if no other handle has the block and its capacity ends with them, else
+    /// a copy.
     pub(super) fn into_bytes(mut self, alloc: Global) -> Result<Bytes, Native>
         ensures { MatchResult result (λ bytes. bytes ≡ self.bytes) (λ n. n ≡ self) }
     {
@@ -161,7 +166,8 @@ impl Native {
 
     /// The bytes as a writable buffer, if no other handle has their block.
     pub(super) fn try_into_mut(self) -> Result<IoBufMut, Native>
-        ensures { MatchResult result (λ b. b ≡ record { filled = self.bytes; spare = self.room - length self.bytes }) (λ n. n ≡ self) }
+        ensures { MatchResult result (λ b. b ≡ record { filled = self.bytes; spare = self.room - length self.bytes })
+            (λ n. n ≡ self) }
     {
         let Native {
             mut block,

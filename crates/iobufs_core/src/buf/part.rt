@@ -13,10 +13,9 @@ ghost use Rattle.std.specs.Fmt.{decimal};
 use crate::codec::{Buf, BufError, BufMut};
 use bytes::{Bytes, BytesMut};
 use std::alloc::{Global, Layout};
-use std::fmt;
 use std::marker::Model;
-use std::mem;
 use std::sync::Arc;
+use std::{fmt, mem};
 
 /// A writable buffer of one block (`IoBufMut`): filled bytes, then spare capacity. The capacity is fixed when the
 /// buffer is made, and counts from the first readable byte:
@@ -57,7 +56,8 @@ impl Model for IoBufMut {
 
     ghost view = { λ b. record { filled = drop b.start b.storage.items; spare = b.limit - vec_len b.storage } };
 
-    ghost invariant = { λ b. (b.start ≤ vec_len b.storage) × (vec_len b.storage ≤ b.limit) × (b.limit ≤ vec_capacity b.storage) };
+    ghost invariant = { λ b. (b.start ≤ vec_len b.storage) × (vec_len b.storage ≤ b.limit)
+        × (b.limit ≤ vec_capacity b.storage) };
 }
 
 // Whether no storage has this capacity and alignment.
@@ -196,7 +196,8 @@ impl IoBufMut {
     pub(super) fn into_storage(self) -> (Vec<u8>, usize, usize, Option<Arc<Vec<u8>>>)
         ensures filled { drop result.1 result.0.items ≡ self.filled }
         ensures spare { result.2 - vec_len result.0 ≡ self.spare }
-        ensures inside { (result.1 ≤ vec_len result.0) × (vec_len result.0 ≤ result.2) × (result.2 ≤ vec_capacity result.0) }
+        ensures inside { (result.1 ≤ vec_len result.0) × (vec_len result.0 ≤ result.2)
+            × (result.2 ≤ vec_capacity result.0) }
     {
         let IoBufMut {
             storage,
@@ -263,7 +264,8 @@ impl IoBufMut {
         }
     }
 
-    /// Returns the bytes of three buffers in one, without spare capacity (own, for layers). They go to the storage of the
+    /// Returns the bytes of three buffers in one, without spare capacity (own, for layers). They go to the storage of
+    /// the
     /// first if they fill half of it or it has at most 4 KiB. Otherwise they are copied. Fails as `with_capacity`.
     #[tactic(auto, using(crate::proofs::LayoutLaws::bad_layout_one))]
     pub fn coalesced(
@@ -273,12 +275,14 @@ impl IoBufMut {
         third: &IoBufMut,
     ) -> Result<IoBufMut, BufError>
         requires { length first.old.filled + length second.old.filled + length third.now.filled < 2 ^ 64 }
-        ensures ok { IfOk result (λ b. b ≡ record { filled = first.old.filled ++ second.old.filled ++ third.now.filled; spare = 0 }) }
+        ensures ok { IfOk result (λ b. b ≡ record
+            { filled = first.old.filled ++ second.old.filled ++ third.now.filled; spare = 0 }) }
         ensures bad_layout { 2 ^ 63 ≤ length first.old.filled + length second.old.filled + length third.now.filled
             → result ≡ Err BufError.BadLayout }
         ensures good_layout { length first.old.filled + length second.old.filled + length third.now.filled < 2 ^ 63
             → IsOkUnless result BufError.Memory }
-        ensures nothing { length first.old.filled + length second.old.filled + length third.now.filled ≡ 0 → IsOk result }
+        ensures nothing { length first.old.filled + length second.old.filled + length third.now.filled ≡ 0
+            → IsOk result }
         ensures unchanged { OnErr result (first.new ≡ first.old) }
         ensures capacity { part_capacity first.new ≤ part_capacity first.old }
         ensures same { second.new ≡ second.old }
@@ -382,7 +386,8 @@ impl IoBufMut {
         true
     }
 
-    /// Acts as `put_slice`. Takes fewer instructions after a test of the remaining capacity, more without (own).
+    /// Acts as `put_slice` (own, for layers). Takes fewer instructions after a test of the remaining capacity, more
+    /// without.
     #[inline(always)]
     pub fn put_share(&mut self, src: &[u8])
         requires { length src.now ≤ self.old.spare }
@@ -418,7 +423,8 @@ impl From<Vec<u8>> for IoBufMut {
 }
 
 impl fmt::Debug for IoBufMut {
-    ghost debug_output = { λ p. Some (codes "IoBufMut { len: " ++ decimal (length p.filled) ++ codes ", cap: " ++ decimal (part_capacity p) ++ codes " }") };
+    ghost debug_output = { λ p. Some (codes "IoBufMut { len: " ++ decimal (length p.filled) ++ codes ", cap: "
+        ++ decimal (part_capacity p) ++ codes " }") };
 
     fn fmt<W: fmt::Write>(&self, f: &mut fmt::Formatter<W>) -> fmt::Result {
         let len = self.len();

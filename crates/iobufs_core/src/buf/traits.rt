@@ -1,4 +1,5 @@
-// One buffer as a reader and a writer of the crate `bytes` and of std. A put that doesn't fit fails, and changes nothing.
+// One buffer as a reader and a writer of the crate `bytes` and of std. A put that doesn't fit fails, and changes
+// nothing.
 ghost use Rattle.std.specs.Prelude.{◌≡◌, ◌≤◌, ◌++◌, [], ◌∷◌, length, take, drop, min, Some, None, Ok, IfOk, IsOk, IsOkAnd};
 ghost use Rattle.std.specs.Borrow.{sem};
 ghost use Rattle.std.specs.Io.{ReadsAtMost, StartsWith, WritesAtMost};

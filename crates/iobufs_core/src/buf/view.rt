@@ -80,7 +80,8 @@ impl IoBuf {
     /// Copies the bytes into native storage (`IoBuf::copy_from_slice`).
     /// Returns `BufError::Memory` if allocation fails.
     pub fn copy_from_slice(alloc: Global, src: &[u8]) -> Result<IoBuf, BufError>
-        ensures ok { IfOk result (λ b. b ≡ (if length src.now == 0 then default_view else record { bytes = src.now; mark = native_mark (length src.now) })) }
+        ensures ok { IfOk result (λ b. b ≡ (if length src.now == 0 then default_view else record
+            { bytes = src.now; mark = native_mark (length src.now) })) }
         ensures memory { IsOkUnless result BufError.Memory }
         ensures nothing { length src.now ≡ 0 → IsOk result }
     {
@@ -206,7 +207,8 @@ impl IoBuf {
         ensures ok { IfSome result (λ answer. IfOk answer (λ slice. slice ≡ view_slice self.now lo hi)) }
         ensures memory { IfSome result (λ answer. IsOkUnless answer BufError.Memory) }
         ensures static_text { self.now.mark ≡ static_mark → IfSome result (λ answer. IsOk answer) }
-        ensures nothing { start_place lo ≡ end_place hi (length self.now.bytes) → IfSome result (λ answer. IsOk answer) }
+        ensures nothing { start_place lo ≡ end_place hi (length self.now.bytes)
+            → IfSome result (λ answer. IsOk answer) }
     {
         if !self.fits_range(lo, hi) {
             return None;

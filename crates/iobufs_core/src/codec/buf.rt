@@ -105,7 +105,8 @@ pub trait Buf {
         ensures short { IsErr result ↔ (length (text self.old) < length dst.old) }
         ensures bytes { OnOk result (dst.new ≡ take (length dst.old) (text self.old)) }
         ensures rest { OnOk result (self.new ≡ advanced self.old (length dst.old)) }
-        ensures lengths { IfErr result (λ error. error ≡ record { requested = length dst.old; available = length (text self.old) }) }
+        ensures lengths { IfErr result (λ error. error ≡ record
+            { requested = length dst.old; available = length (text self.old) }) }
         ensures unchanged { OnErr result (self.new ≡ self.old) }
         ensures untouched { OnErr result (dst.new ≡ dst.old) }
     {

@@ -15,7 +15,8 @@ pub trait Encode: Write {
         Self: Sized,
         ensures ok { IfOk result (λ part. part ≡ record { filled = Self.written self.now; spare = 0 }) }
         ensures too_long { 2 ^ 64 ≤ length (Self.written self.now) → result ≡ Err Error.TooLong }
-        ensures bad_layout { length (Self.written self.now) < 2 ^ 64 → 2 ^ 63 ≤ length (Self.written self.now) → result ≡ Err Error.BadLayout }
+        ensures bad_layout { length (Self.written self.now) < 2 ^ 64 → 2 ^ 63 ≤ length (Self.written self.now)
+            → result ≡ Err Error.BadLayout }
         ensures memory { length (Self.written self.now) < 2 ^ 63 → IsOkUnless result Error.Memory }
         ensures nothing { length (Self.written self.now) ≡ 0 → IsOk result }
     {

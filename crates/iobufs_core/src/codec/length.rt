@@ -73,7 +73,8 @@ fn byte_behind<B: Buf>(buf: &B, skip: usize, i: usize) -> Option<u8>
 #[inline(always)]
 fn length_at<B: Buf>(buf: &B, skip: usize) -> Result<Spelled, Error>
     requires { skip ≤ length (B.text buf.now) }
-    ensures ok { IfOk result (λ s. IsSpelledAt (drop skip (B.text buf.now)) s.value × (s.len ≡ length (spell s.value))) }
+    ensures ok { IfOk result (λ s. IsSpelledAt (drop skip (B.text buf.now)) s.value
+        × (s.len ≡ length (spell s.value))) }
     ensures err { IfErr result (IsNoLength (drop skip (B.text buf.now))) }
 {
     let Some(byte) = buf.byte_at(skip) else {
@@ -88,14 +89,16 @@ fn length_at<B: Buf>(buf: &B, skip: usize) -> Result<Spelled, Error>
     long_length_at(buf, skip, byte)
 }
 
-// Reads on after a first byte that says that others follow. In one function with `length_at`, `decode64_one_chunk` takes
+// Reads on after a first byte that says that others follow. In one function with `length_at`, `decode64_one_chunk`
+// takes
 // 1.3 times the instructions.
 #[inline(never)]
 fn long_length_at<B: Buf>(buf: &B, skip: usize, first: u8) -> Result<Spelled, Error>
     requires within { skip ≤ length (B.text buf.now) }
     requires first { slice_get (drop skip (B.text buf.now)) 0 ≡ Some first }
     requires goes_on { 128 ≤ first }
-    ensures ok { IfOk result (λ s. IsSpelledAt (drop skip (B.text buf.now)) s.value × (s.len ≡ length (spell s.value))) }
+    ensures ok { IfOk result (λ s. IsSpelledAt (drop skip (B.text buf.now)) s.value
+        × (s.len ≡ length (spell s.value))) }
     ensures err { IfErr result (IsNoLength (drop skip (B.text buf.now))) }
 {
     let mut value = usize::from(first) - 128;
@@ -134,7 +137,8 @@ pub(super) fn length_behind<B: Buf>(
     range: &RangeCfg,
 ) -> Result<Spelled, Error>
     requires { skip ≤ length (B.text buf.now) }
-    ensures ok { IfOk result (λ s. IsLengthRead (drop skip (B.text buf.now)) range.now (Ok s.value) × (s.len ≡ length (spell s.value))) }
+    ensures ok { IfOk result (λ s. IsLengthRead (drop skip (B.text buf.now)) range.now (Ok s.value)
+        × (s.len ≡ length (spell s.value))) }
     ensures err { IfErr result (λ error. IsLengthRead (drop skip (B.text buf.now)) range.now (Err error)) }
 {
     let found = length_at(buf, skip)?;
@@ -148,7 +152,8 @@ pub(super) fn length_behind<B: Buf>(
 /// The length that a reader's bytes begin with, if it is in a range.
 #[inline(always)]
 pub(super) fn length_in<B: Buf>(buf: &B, range: &RangeCfg) -> Result<Spelled, Error>
-    ensures ok { IfOk result (λ s. IsLengthRead (B.text buf.now) range.now (Ok s.value) × (s.len ≡ length (spell s.value))) }
+    ensures ok { IfOk result (λ s. IsLengthRead (B.text buf.now) range.now (Ok s.value)
+        × (s.len ≡ length (spell s.value))) }
     ensures err { IfErr result (λ error. IsLengthRead (B.text buf.now) range.now (Err error)) }
 {
     length_behind(buf, 0, range)

@@ -53,7 +53,8 @@ pub trait OwnedBytes: Sized {
 pub trait OwnedBuf: Buf {
     ghost marked: { Self → MarkedText };
 
-    /// Takes the `n` bytes after the first `skip`, and drops all of them (own). A whole first chunk is moved, not cloned.
+    /// Takes the `n` bytes after the first `skip`, and drops all of them (own). A whole first chunk is moved, not
+    /// cloned.
     /// If allocation fails, returns `BufError::Memory` and changes nothing.
     fn take_owned_after<T: OwnedBytes>(
         &mut self,
@@ -67,16 +68,20 @@ pub trait OwnedBuf: Buf {
         ensures unchanged { OnErr result (self.new ≡ self.old) }
         ensures memory { IsOkUnless result BufError.Memory }
         ensures nothing { n ≡ 0 → IsOk result }
-        ensures static_text { (taken_view (marked self.old) skip n).mark ≡ static_mark → T.is_free (taken_view (marked self.old) skip n) → IsOk result }
-        ensures whole { skip ≡ 0 → n ≡ length (first_chunk (Self.pieces self.old)) → T.is_free (taken_view (marked self.old) skip n) → IsOk result };
+        ensures static_text { (taken_view (marked self.old) skip n).mark ≡ static_mark
+            → T.is_free (taken_view (marked self.old) skip n) → IsOk result }
+        ensures whole { skip ≡ 0 → n ≡ length (first_chunk (Self.pieces self.old))
+            → T.is_free (taken_view (marked self.old) skip n) → IsOk result };
 
     ghost same_text: { (s : Self) → (marked s).bytes ≡ Self.text s };
 
     ghost same_pieces: { (s : Self) → text_chunks (marked s) ≡ Self.pieces s };
 
-    ghost advances_marked: { (s : Self) (n : ℕ) → n ≤ length (Self.text s) → marked (Self.advanced s n) ≡ text_advanced (marked s) n };
+    ghost advances_marked: { (s : Self) (n : ℕ) → n ≤ length (Self.text s)
+        → marked (Self.advanced s n) ≡ text_advanced (marked s) n };
 
-    ghost copies_marked: { (s : Self) (n : ℕ) → n ≤ length (Self.text s) → marked (Self.copied s n) ≡ text_rest (marked s) n };
+    ghost copies_marked: { (s : Self) (n : ℕ) → n ≤ length (Self.text s)
+        → marked (Self.copied s n) ≡ text_rest (marked s) n };
 
     /// Takes the first `n` bytes (`take_owned`).
     /// If allocation fails, returns `BufError::Memory` and changes nothing.
@@ -90,8 +95,10 @@ pub trait OwnedBuf: Buf {
         ensures unchanged { OnErr result (self.new ≡ self.old) }
         ensures memory { IsOkUnless result BufError.Memory }
         ensures nothing { n ≡ 0 → IsOk result }
-        ensures static_text { (taken_view (marked self.old) 0 n).mark ≡ static_mark → T.is_free (taken_view (marked self.old) 0 n) → IsOk result }
-        ensures whole { n ≡ length (first_chunk (Self.pieces self.old)) → T.is_free (taken_view (marked self.old) 0 n) → IsOk result }
+        ensures static_text { (taken_view (marked self.old) 0 n).mark ≡ static_mark
+            → T.is_free (taken_view (marked self.old) 0 n) → IsOk result }
+        ensures whole { n ≡ length (first_chunk (Self.pieces self.old)) → T.is_free (taken_view (marked self.old) 0 n)
+            → IsOk result }
     {
         self.take_owned_after(alloc, 0, n)
     }
@@ -108,7 +115,8 @@ pub trait OwnedBuf: Buf {
         ensures nothing { n ≡ 0 → IsOk result }
         ensures static_text { n ≤ length (Self.text self.old) → (taken_view (marked self.old) 0 n).mark ≡ static_mark
             → T.is_free (taken_view (marked self.old) 0 n) → IsOk result }
-        ensures whole { n ≡ length (first_chunk (Self.pieces self.old)) → T.is_free (taken_view (marked self.old) 0 n) → IsOk result }
+        ensures whole { n ≡ length (first_chunk (Self.pieces self.old)) → T.is_free (taken_view (marked self.old) 0 n)
+            → IsOk result }
     {
         if n > self.remaining() {
             return Err(Error::EndOfBuffer);

@@ -22,7 +22,8 @@ pub trait Peek: OwnedBuf {
         ensures ok { IfOk result (T.makes (taken_view (Self.marked self.now) skip n)) }
         ensures memory { IsOkUnless result BufError.Memory }
         ensures nothing { n ≡ 0 → IsOk result }
-        ensures static_text { (taken_view (Self.marked self.now) skip n).mark ≡ static_mark → T.is_free (taken_view (Self.marked self.now) skip n) → IsOk result };
+        ensures static_text { (taken_view (Self.marked self.now) skip n).mark ≡ static_mark
+            → T.is_free (taken_view (Self.marked self.now) skip n) → IsOk result };
 
     /// Fills `dst` with the bytes after the first `skip`, which stay (own).
     fn peek_slice(&self, skip: usize, dst: &mut [u8])
@@ -30,14 +31,20 @@ pub trait Peek: OwnedBuf {
         ensures { dst.new ≡ take (length dst.old) (drop skip (Self.text self.now)) };
 
     /// Acts as `peek_owned` if there are so many bytes (own).
-    fn try_peek_owned<T: OwnedBytes>(&self, alloc: Global, skip: usize, n: usize) -> Option<Result<T, BufError>>
+    fn try_peek_owned<T: OwnedBytes>(
+        &self,
+        alloc: Global,
+        skip: usize,
+        n: usize,
+    ) -> Option<Result<T, BufError>>
     where
         Self: Sized,
         ensures fits { IsSome result ↔ (skip + n ≤ length (Self.text self.now)) }
         ensures ok { IfSome result (λ answer. IfOk answer (T.makes (taken_view (Self.marked self.now) skip n))) }
         ensures memory { IfSome result (λ answer. IsOkUnless answer BufError.Memory) }
         ensures nothing { n ≡ 0 → IfSome result (λ answer. IsOk answer) }
-        ensures static_text { (taken_view (Self.marked self.now) skip n).mark ≡ static_mark → T.is_free (taken_view (Self.marked self.now) skip n)
+        ensures static_text { (taken_view (Self.marked self.now) skip n).mark ≡ static_mark
+            → T.is_free (taken_view (Self.marked self.now) skip n)
             → IfSome result (λ answer. IsOk answer) }
     {
         let len = self.remaining();

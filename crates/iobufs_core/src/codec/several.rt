@@ -102,7 +102,8 @@ impl<A: EncodeSize, B: EncodeSize, C: EncodeSize, D: EncodeSize> EncodeSize for 
         (&self.0, (&self.1, (&self.2, &self.3))).encode_inline_size()
     }
 
-    ghost joins_items = { λ p. joins_two (A.items p.0) (B.items p.1 ++ (C.items p.2 ++ D.items p.3)) _ _ (A.joins_items p.0)
+    ghost joins_items = { λ p. joins_two (A.items p.0) (B.items p.1 ++ (C.items p.2 ++ D.items p.3)) _ _
+        (A.joins_items p.0)
         (joins_two (B.items p.1) (C.items p.2 ++ D.items p.3) _ _ (B.joins_items p.1)
         (joins_two (C.items p.2) (D.items p.3) _ _ (C.joins_items p.2) (D.joins_items p.3))) };
 }
@@ -131,7 +132,8 @@ impl<A: EncodeSize, B: EncodeSize, C: EncodeSize, D: EncodeSize, E: EncodeSize> 
         (&self.0, (&self.1, (&self.2, (&self.3, &self.4)))).encode_inline_size()
     }
 
-    ghost joins_items = { λ p. joins_two (A.items p.0) (B.items p.1 ++ (C.items p.2 ++ (D.items p.3 ++ E.items p.4))) _ _ (A.joins_items p.0)
+    ghost joins_items = { λ p. joins_two (A.items p.0)
+        (B.items p.1 ++ (C.items p.2 ++ (D.items p.3 ++ E.items p.4))) _ _ (A.joins_items p.0)
         (joins_two (B.items p.1) (C.items p.2 ++ (D.items p.3 ++ E.items p.4)) _ _ (B.joins_items p.1)
         (joins_two (C.items p.2) (D.items p.3 ++ E.items p.4) _ _ (C.joins_items p.2)
         (joins_two (D.items p.3) (E.items p.4) _ _ (D.joins_items p.3) (E.joins_items p.4)))) };
@@ -155,9 +157,11 @@ impl<
     E: EncodeSize,
     F: EncodeSize,
 > EncodeSize for (A, B, C, D, E, F) {
-    ghost written = { λ p. A.written p.0 ++ (B.written p.1 ++ (C.written p.2 ++ (D.written p.3 ++ (E.written p.4 ++ F.written p.5)))) };
+    ghost written = { λ p. A.written p.0 ++
+        (B.written p.1 ++ (C.written p.2 ++ (D.written p.3 ++ (E.written p.4 ++ F.written p.5)))) };
 
-    ghost items = { λ p. A.items p.0 ++ (B.items p.1 ++ (C.items p.2 ++ (D.items p.3 ++ (E.items p.4 ++ F.items p.5)))) };
+    ghost items = { λ p. A.items p.0 ++ (B.items p.1
+        ++ (C.items p.2 ++ (D.items p.3 ++ (E.items p.4 ++ F.items p.5)))) };
 
     fn encode_size(&self) -> Option<usize> {
         (&self.0, (&self.1, (&self.2, (&self.3, (&self.4, &self.5))))).encode_size()
@@ -167,7 +171,8 @@ impl<
         (&self.0, (&self.1, (&self.2, (&self.3, (&self.4, &self.5))))).encode_inline_size()
     }
 
-    ghost joins_items = { λ p. joins_two (A.items p.0) (B.items p.1 ++ (C.items p.2 ++ (D.items p.3 ++ (E.items p.4 ++ F.items p.5)))) _ _ (A.joins_items p.0)
+    ghost joins_items = { λ p. joins_two (A.items p.0)
+        (B.items p.1 ++ (C.items p.2 ++ (D.items p.3 ++ (E.items p.4 ++ F.items p.5)))) _ _ (A.joins_items p.0)
         (joins_two (B.items p.1) (C.items p.2 ++ (D.items p.3 ++ (E.items p.4 ++ F.items p.5))) _ _ (B.joins_items p.1)
         (joins_two (C.items p.2) (D.items p.3 ++ (E.items p.4 ++ F.items p.5)) _ _ (C.joins_items p.2)
         (joins_two (D.items p.3) (E.items p.4 ++ F.items p.5) _ _ (D.joins_items p.3)

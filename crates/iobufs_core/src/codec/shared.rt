@@ -44,7 +44,8 @@ impl Write for Bytes {
         requires { items_inline (bytes_items self.now) ≤ B.room buf.old }
         ensures ok { OnOk result (B.done buf.old (bytes_items self.now) buf.new) }
         ensures begun { OnErr result (IsBegun (B.joined buf.old) (bytes_written self.now) (B.joined buf.new)) }
-        ensures left { OnErr result ((buf.new ≡ buf.old) ⊎ B.done buf.old (put_item (spell (length self.now)) ∷ []) buf.new) }
+        ensures left { OnErr result ((buf.new ≡ buf.old)
+            ⊎ B.done buf.old (put_item (spell (length self.now)) ∷ []) buf.new) }
         ensures cause { IfErr result
             (λ error. (error ≡ Error.Memory) ⊎ ((error ≡ Error.TooLong) × (B.pushable buf.old < items_pushed (bytes_items self.now)))) }
         ensures no_push { items_pushed (bytes_items self.now) ≡ 0 → IsOk result }
@@ -70,7 +71,8 @@ impl Read for Bytes {
     /// Cannot fail with `Error::Memory` if the bytes are static.
     fn read_cfg<B: OwnedBuf>(alloc: Global, buf: &mut B, range: &RangeCfg) -> Result<Bytes, Error>
         ensures answer { IsBytesRead (B.marked buf.old) range.now result }
-        ensures left { IfOk result (λ bytes. buf.new ≡ dropped B.advanced B.copied buf.old (by_copy (length (bytes_written bytes)) ∷ [])) }
+        ensures left { IfOk result (λ bytes. buf.new ≡ dropped B.advanced B.copied buf.old
+            (by_copy (length (bytes_written bytes)) ∷ [])) }
         ensures rest { IfOk result (λ bytes. B.marked buf.new
             ≡ dropped text_advanced text_rest (B.marked buf.old) (by_copy (length (bytes_written bytes)) ∷ [])) }
         ensures unchanged { OnErr result (buf.new ≡ buf.old) }

@@ -37,8 +37,10 @@ pub trait BufsMut: BufMut {
         ensures ok { OnOk result (done self.old (push_item view ∷ []) self.new) }
         ensures unchanged { OnErr result (self.new ≡ self.old) }
         ensures back { IfErr result (λ refused. refused.value ≡ view) }
-        ensures too_long { pushable self.old < length view.bytes → IsErrAnd result (λ refused. refused.cause ≡ BufError.TooLong) }
-        ensures memory { length view.bytes ≤ pushable self.old → IfErr result (λ refused. refused.cause ≡ BufError.Memory) }
+        ensures too_long { pushable self.old < length view.bytes
+            → IsErrAnd result (λ refused. refused.cause ≡ BufError.TooLong) }
+        ensures memory { length view.bytes ≤ pushable self.old
+            → IfErr result (λ refused. refused.cause ≡ BufError.Memory) }
         ensures nothing { length view.bytes ≡ 0 → IsOk result };
 
     /// Appends a `Bytes` (`BufsMut::push`). Fails with `BufError::TooLong` exactly if it is longer than pushes may
@@ -47,7 +49,8 @@ pub trait BufsMut: BufMut {
         ensures ok { OnOk result (done self.old (push_item (view_of_bytes bytes) ∷ []) self.new) }
         ensures unchanged { OnErr result (self.new ≡ self.old) }
         ensures back { IfErr result (λ refused. refused.value ≡ bytes) }
-        ensures too_long { pushable self.old < length bytes → IsErrAnd result (λ refused. refused.cause ≡ BufError.TooLong) }
+        ensures too_long { pushable self.old < length bytes
+            → IsErrAnd result (λ refused. refused.cause ≡ BufError.TooLong) }
         ensures memory { length bytes ≤ pushable self.old → IfErr result (λ refused. refused.cause ≡ BufError.Memory) }
         ensures nothing { length bytes ≡ 0 → IsOk result };
 
@@ -61,9 +64,11 @@ pub trait BufsMut: BufMut {
 
     ghost adds: { (a b : Self) (items : List PutOrPush) → done a items b → joined b ≡ joined a ++ items_bytes items };
 
-    ghost uses: { (a b : Self) (items : List PutOrPush) → done a items b → Self.room a ≡ Self.room b + items_inline items };
+    ghost uses: { (a b : Self) (items : List PutOrPush) → done a items b
+        → Self.room a ≡ Self.room b + items_inline items };
 
-    ghost spends: { (a b : Self) (items : List PutOrPush) → done a items b → pushable a ≡ pushable b + items_pushed items };
+    ghost spends: { (a b : Self) (items : List PutOrPush) → done a items b
+        → pushable a ≡ pushable b + items_pushed items };
 }
 
 /// A value whose encoded size is known (the codec's `EncodeSize`).
@@ -98,7 +103,8 @@ pub trait Write: EncodeSize {
         requires { items_inline (Self.items self.now) ≤ B.room buf.old }
         ensures ok { OnOk result (B.done buf.old (Self.items self.now) buf.new) }
         ensures begun { OnErr result (IsBegun (B.joined buf.old) (Self.written self.now) (B.joined buf.new)) }
-        ensures cause { IfErr result (λ error. (error ≡ Error.Memory) ⊎ ((error ≡ Error.TooLong) × (B.pushable buf.old < items_pushed (Self.items self.now)))) }
+        ensures cause { IfErr result (λ error. (error ≡ Error.Memory)
+            ⊎ ((error ≡ Error.TooLong) × (B.pushable buf.old < items_pushed (Self.items self.now)))) }
         ensures no_push { items_pushed (Self.items self.now) ≡ 0 → IsOk result };
 }
 
@@ -119,11 +125,13 @@ pub trait Read: Sized {
     fn read_cfg<B: OwnedBuf>(alloc: Global, buf: &mut B, cfg: &Self::Cfg) -> Result<Self, Error>
         ensures answer { is_read (B.marked buf.old) cfg.now result }
         ensures left { IfOk result (λ value. buf.new ≡ dropped B.advanced B.copied buf.old (dropping value)) }
-        ensures rest { IfOk result (λ value. B.marked buf.new ≡ dropped text_advanced text_rest (B.marked buf.old) (dropping value)) }
+        ensures rest { IfOk result (λ value. B.marked buf.new ≡ dropped text_advanced text_rest (B.marked buf.old)
+            (dropping value)) }
         ensures unchanged { OnErr result (buf.new ≡ buf.old) };
 
     // Reading doesn't depend on the chunking.
-    ghost alike: { (s t : MarkedText) (cfg : Self.Cfg) (a b : Result Self AnyError) → s.bytes ≡ t.bytes → is_read s cfg a → is_read t cfg b
+    ghost alike: { (s t : MarkedText) (cfg : Self.Cfg) (a b : Result Self AnyError) → s.bytes ≡ t.bytes
+        → is_read s cfg a → is_read t cfg b
         → IsReadAlike same a b };
 }
 
@@ -216,8 +224,10 @@ impl Write for IoBuf {
         requires { items_inline (view_items self.now) ≤ B.room buf.old }
         ensures ok { OnOk result (B.done buf.old (view_items self.now) buf.new) }
         ensures begun { OnErr result (IsBegun (B.joined buf.old) (view_written self.now) (B.joined buf.new)) }
-        ensures left { OnErr result ((buf.new ≡ buf.old) ⊎ B.done buf.old (put_item (spell (length self.now.bytes)) ∷ []) buf.new) }
-        ensures cause { IfErr result (λ error. (error ≡ Error.Memory) ⊎ ((error ≡ Error.TooLong) × (B.pushable buf.old < items_pushed (view_items self.now)))) }
+        ensures left { OnErr result ((buf.new ≡ buf.old)
+            ⊎ B.done buf.old (put_item (spell (length self.now.bytes)) ∷ []) buf.new) }
+        ensures cause { IfErr result (λ error. (error ≡ Error.Memory)
+            ⊎ ((error ≡ Error.TooLong) × (B.pushable buf.old < items_pushed (view_items self.now)))) }
         ensures no_push { items_pushed (view_items self.now) ≡ 0 → IsOk result }
     {
         if self.is_empty() {
@@ -244,8 +254,10 @@ impl Read for IoBuf {
     #[inline(always)]
     fn read_cfg<B: OwnedBuf>(alloc: Global, buf: &mut B, range: &RangeCfg) -> Result<IoBuf, Error>
         ensures answer { IsViewRead (B.marked buf.old) range.now result }
-        ensures left { IfOk result (λ view. buf.new ≡ dropped B.advanced B.copied buf.old (by_copy (length (view_written view)) ∷ [])) }
-        ensures rest { IfOk result (λ view. B.marked buf.new ≡ dropped text_advanced text_rest (B.marked buf.old) (by_copy (length (view_written view)) ∷ [])) }
+        ensures left { IfOk result (λ view. buf.new ≡ dropped B.advanced B.copied buf.old
+            (by_copy (length (view_written view)) ∷ [])) }
+        ensures rest { IfOk result (λ view. B.marked buf.new ≡ dropped text_advanced text_rest (B.marked buf.old)
+            (by_copy (length (view_written view)) ∷ [])) }
         ensures unchanged { OnErr result (buf.new ≡ buf.old) }
         ensures static_text { HasStaticView (B.marked buf.old) range.now → IsOk result }
     {
@@ -271,7 +283,8 @@ pub(super) fn read_bytes<T: OwnedBytes, B: OwnedBuf>(
     ensures ok { IfOk result (IsTaken T.makes B.copied (B.marked buf.old) range.now buf.old buf.new) }
     ensures fault { IfErr result (IsViewFault (B.marked buf.old) range.now) }
     ensures unchanged { OnErr result (buf.new ≡ buf.old) }
-    ensures static_text { (n : ℕ) → HasView (B.marked buf.old) range.now n → (taken_view (B.marked buf.old) (length (spell n)) n).mark ≡ static_mark
+    ensures static_text { (n : ℕ) → HasView (B.marked buf.old) range.now n
+        → (taken_view (B.marked buf.old) (length (spell n)) n).mark ≡ static_mark
         → T.is_free (taken_view (B.marked buf.old) (length (spell n)) n) → IsOk result }
 {
     let found = length_in(buf, range)?;

@@ -22,7 +22,7 @@ loaded-as {s} p k w x false i y = let a = reply-taken refl (called-in s p None r
 
 -- the compare-exchange of a clone or slice in a sound machine is a step of a call with two steps left
 pub race-as : {s t : State} {reply : Reply} (p : ℕ) (k : Share) (w r : ℕ) (memory : Bool) → IsSound s → (a : IsRacing s k w r)
-    → IsAnswered s (long.race_of s p k r) reply t → GoesAs s p k 2 memory (Some a.view) reply (reading t)
+    → IsAnswered s (long.race_of s p k w r) reply t → GoesAs s p k 2 memory (Some a.view) reply (reading t)
 race-as {s} {t} {reply} p k w r memory i a y = elim a.promised.now' [
   | inl e ↦ (
       let ow = a.promised.owner in
@@ -39,7 +39,7 @@ race-as {s} {t} {reply} p k w r memory i a y = elim a.promised.now' [
         omega arith,
         made-taken (called u p None) (part a.view k.lo k.hi (Counted r))
             (called-in u p None (unchanged-in s s k.handle a.view (by_record a.view r) refl a.shares.at (rw (o (by_record a.view r) refl) refl)))
-            (reads-part s.tables s.tables a.view k.lo k.hi (Counted r) (o (part a.view k.lo k.hi (Counted r)) refl)) (rw (a.shares.at, e) at y),
+            (reads-part s.tables s.tables a.view k.lo k.hi (Counted r) (o (part a.view k.lo k.hi (Counted r)) refl)) (rw (a.shares.at, e, eq-eqb w w refl) at y),
       ))))
   | inr (winner, e) ↦
       inr (inl (

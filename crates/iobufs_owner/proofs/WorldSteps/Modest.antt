@@ -144,15 +144,16 @@ drop-by {s} p h x (Counted r) = elim x.kind as (λ kind. IsModest s false (long.
 drop-by h p x Empty = freed p x None Empty
 drop-by h p x (Descriptor w) = freed p x None (Descriptor w)
 
-race-modest : {s : State} (p : ℕ) (k : Share) (r : ℕ) (x : Handle) (w : Word) → IsModest s false (long.race_by s p k r x w)
-race-modest {s} p k r x (Counted winner) = small refl refl (rw length-set (omega arith)) refl (logs-record s r)
-race-modest p k r x w = made _ _ refl refl (length-set _ _ _) (omega arith) (omega arith)
+race-modest : {s : State} (p : ℕ) (k : Share) (w r : ℕ) (x : Handle) (word : Word) → IsModest s false (long.race_by s p k w r x word)
+race-modest {s} p k w r x (Counted winner) = small refl refl (rw length-set (omega arith)) refl (logs-record s r)
+race-modest p k w r x (Descriptor now) = either (nat_eq now w) (made _ _ refl refl (length-set _ _ _) (omega arith) (omega arith)) (calls _ refl)
+race-modest p k w r x Empty = calls _ refl
 
 -- ---- a step
 
 goes-modest : {s : State} (p : ℕ) (c : Pending) (memory : Bool) → IsModest s false (gone_on s p c memory)
 goes-modest {s} p (Loaded k w) memory = either memory (small refl refl (rw length-append (omega arith)) refl (logs-same s)) (calls _ refl)
-goes-modest {s} p (Ready k w r) memory = race-modest p k r (long.borrowed s k) (long.borrowed s k).word
+goes-modest {s} p (Ready k w r) memory = race-modest p k w r (long.borrowed s k) (long.borrowed s k).word
 goes-modest {s} p (Add k r) memory = either (nat_lt s.ceiling (record_at s.tables r).count) (calls _ refl)
     (made _ _ refl refl refl (rw length-set (omega arith)) (omega arith))
 goes-modest {s} p (Subtract r) memory = either (nat_eq (record_at s.tables r).count 1) (small refl refl (rw length-set (omega arith)) refl (logs-same s))

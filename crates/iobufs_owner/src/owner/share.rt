@@ -185,7 +185,7 @@ impl Machine {
         r: usize,
     ) -> Result<Reply, Full>
         requires { call_at self.old.state thread ≡ Some (Ready range word r) }
-        ensures { Took self.old (race_of self.old.state thread range r) result self.new }
+        ensures { Took self.old (race_of self.old.state thread range word r) result self.new }
     {
         let Some(x) = self.find(range.handle) else {
             unreachable!()

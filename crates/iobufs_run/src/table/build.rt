@@ -176,9 +176,11 @@ fn built_text(
     requires inline { inline_len items.now ≤ capacity }
     requires layout { capacity < 2 ^ 63 }
     requires fits { capacity + total_extent slots.old (pushed_names items.now) < 2 ^ 64 }
-    ensures ok { IfOk result (λ text. text ≡ finished (building_after (empty_building capacity) (map (item_held slots.old) items.now))) }
+    ensures ok { IfOk result (λ text. text ≡ finished
+        (building_after (empty_building capacity) (map (item_held slots.old) items.now))) }
     ensures freed { OnOk result (slots.new ≡ all_freed slots.old (pushed_names items.now)) }
-    ensures err { IfErr result (λ refusal. (refusal ≡ Refusal.Memory) × MayFree (pushed_names items.now) slots.old slots.new) }
+    ensures err { IfErr result (λ refusal. (refusal ≡ Refusal.Memory)
+        × MayFree (pushed_names items.now) slots.old slots.new) }
 {
     let mut builder = Builder::new(alloc, capacity)?;
     for item in items {

@@ -9,7 +9,8 @@ use iobufs_core::buf::IoBuf;
 
 /// A name that there is.
 pub(super) fn known(slots: &[Slot], name: usize) -> Result<(), Refusal>
-    ensures { MatchResult result (λ _. name < length slots.now) (λ refusal. (refusal ≡ Refusal.NoName) × (length slots.now ≤ name)) }
+    ensures { MatchResult result (λ _. name < length slots.now)
+        (λ refusal. (refusal ≡ Refusal.NoName) × (length slots.now ≤ name)) }
 {
     if name >= slots.len() {
         return Err(Refusal::NoName);
@@ -26,7 +27,8 @@ fn is_one_of(kinds: &[Kind], slot: &Slot) -> bool
 
 // A buffer of one of these kinds.
 fn of_kind(kinds: &[Kind], slot: &Slot) -> Result<(), Refusal>
-    ensures { MatchResult result (λ _. of_one kinds.now slot.now ≡ true) (λ refusal. (refusal ≡ Refusal.WrongKind) × (of_one kinds.now slot.now ≡ false)) }
+    ensures { MatchResult result (λ _. of_one kinds.now slot.now ≡ true)
+        (λ refusal. (refusal ≡ Refusal.WrongKind) × (of_one kinds.now slot.now ≡ false)) }
 {
     if !is_one_of(kinds, slot) {
         return Err(Refusal::WrongKind);
@@ -36,7 +38,8 @@ fn of_kind(kinds: &[Kind], slot: &Slot) -> Result<(), Refusal>
 
 // No buffer.
 fn unused(slot: &Slot) -> Result<(), Refusal>
-    ensures { MatchResult result (λ _. free slot.now ≡ true) (λ refusal. (refusal ≡ Refusal.InUse) × (free slot.now ≡ false)) }
+    ensures { MatchResult result (λ _. free slot.now ≡ true)
+        (λ refusal. (refusal ≡ Refusal.InUse) × (free slot.now ≡ false)) }
 {
     match slot.kind() {
         Some(_) => Err(Refusal::InUse),

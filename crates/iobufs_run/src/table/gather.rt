@@ -146,7 +146,8 @@ fn take_parts(alloc: Global, slots: &mut [Slot], sources: &[usize]) -> Result<Io
     requires parts { list_all (λ src. of Kind.Part (slot_named slots.old src)) sources.now ≡ true }
     requires once { twice sources.now ≡ false }
     requires fits { sum_by (λ src. extent (slot_named slots.old src)) sources.now < 2 ^ 64 }
-    ensures ok { IfOk result (λ parts. parts ≡ kept_parts (map (λ src. part_held (slot_named slots.old src)) sources.now)) }
+    ensures ok { IfOk result (λ parts. parts ≡ kept_parts
+        (map (λ src. part_held (slot_named slots.old src)) sources.now)) }
     ensures freed { OnOk result (slots.new ≡ all_freed slots.old sources.now) }
     ensures err { IfErr result (λ refusal. (refusal ≡ Refusal.Memory) × MayFree sources.now slots.old slots.new) }
     ensures nothing { length sources.now ≡ 0 → IsOk result }

@@ -45,7 +45,8 @@ pub(super) fn of_bytes(alloc: Global, slots: &mut [Slot], dst: usize, bytes: &Ve
 // A view or an `IoBufs` again.
 fn cloned(slot: &Slot) -> Result<Slot, Refusal>
     ensures ok { IfOk result (λ clone. clone ≡ slot.now) }
-    ensures err { IfErr result (λ refusal. (refusal ≡ Refusal.Memory) ⊎ (is_one_of (Kind.View ∷ Kind.Text ∷ []) slot.now ≡ false)) }
+    ensures err { IfErr result (λ refusal. (refusal ≡ Refusal.Memory)
+        ⊎ (is_one_of (Kind.View ∷ Kind.Text ∷ []) slot.now ≡ false)) }
 {
     match slot {
         Slot::View(view) => Ok(Slot::View(view.clone()?)),

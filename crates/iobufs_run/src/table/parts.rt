@@ -157,7 +157,8 @@ pub(super) fn overwrite(slots: &mut [Slot], target: usize, bytes: &Vec<u8>) -> O
 // A part or parts, frozen.
 fn frozen(alloc: Global, slot: Slot) -> Result<Slot, Refusal>
     ensures ok { IfOk result (λ frozen. frozen ≡ slot_frozen slot) }
-    ensures err { IfErr result (λ refusal. ((refusal ≡ Refusal.Memory) × (0 < readable_bytes slot)) ⊎ (is_one_of (Kind.Part ∷ Kind.Parts ∷ []) slot ≡ false)) }
+    ensures err { IfErr result (λ refusal. ((refusal ≡ Refusal.Memory) × (0 < readable_bytes slot))
+        ⊎ (is_one_of (Kind.Part ∷ Kind.Parts ∷ []) slot ≡ false)) }
 {
     match slot {
         Slot::Part(part) => Ok(Slot::View(part.freeze()?)),
@@ -177,7 +178,8 @@ pub(super) fn freeze(alloc: Global, slots: &mut [Slot], src: usize, dst: usize) 
 
 // Takes the view that a slot holds as a part, which leaves the slot. It stays where it can't be written.
 fn recover_slot(alloc: Global, slot: &mut Slot) -> Result<IoBufMut, Refusal>
-    ensures ok { IfOk result (λ part. (Slot.Part part ≡ slot_recovered slot.old) × (slot.new ≡ Slot.Free) × (is_fixed_view slot.old ≡ false)) }
+    ensures ok { IfOk result (λ part. (Slot.Part part ≡ slot_recovered slot.old) × (slot.new ≡ Slot.Free)
+        × (is_fixed_view slot.old ≡ false)) }
     ensures unchanged { OnErr result (slot.new ≡ slot.old) }
     ensures err { IfErr result (λ refusal.
         ((refusal ≡ Refusal.Declined) × (IsTrue (is_fixed_view slot.old) ⊎ IsTrue (is_native_view slot.old)))

@@ -37,7 +37,8 @@ pub(super) fn hold(slots: &mut [Slot], name: usize, slot: Slot)
 #[inline(always)]
 pub(super) fn take_part(slot: &mut Slot) -> Result<IoBufMut, Refusal>
     ensures ok { IfOk result (λ part. (slot.old ≡ Slot.Part part) × (slot.new ≡ Slot.Free)) }
-    ensures err { IfErr result (λ refusal. (refusal ≡ Refusal.WrongKind) × (is_part slot.old ≡ false) × (slot.new ≡ slot.old)) }
+    ensures err { IfErr result (λ refusal. (refusal ≡ Refusal.WrongKind) × (is_part slot.old ≡ false)
+        × (slot.new ≡ slot.old)) }
 {
     match mem::replace(slot, Slot::Free) {
         Slot::Part(part) => Ok(part),
@@ -52,7 +53,8 @@ pub(super) fn take_part(slot: &mut Slot) -> Result<IoBufMut, Refusal>
 #[inline(always)]
 pub(super) fn take_view(slot: &mut Slot) -> Result<IoBuf, Refusal>
     ensures ok { IfOk result (λ view. (slot.old ≡ Slot.View view) × (slot.new ≡ Slot.Free)) }
-    ensures err { IfErr result (λ refusal. (refusal ≡ Refusal.WrongKind) × (is_view slot.old ≡ false) × (slot.new ≡ slot.old)) }
+    ensures err { IfErr result (λ refusal. (refusal ≡ Refusal.WrongKind) × (is_view slot.old ≡ false)
+        × (slot.new ≡ slot.old)) }
 {
     match mem::replace(slot, Slot::Free) {
         Slot::View(view) => Ok(view),

@@ -18,7 +18,8 @@ fn join_to(alloc: Global, slot: &mut Slot, piece: IoBuf, end: End) -> Result<(),
     requires fits { readable_bytes slot.old + length piece.bytes < 2 ^ 64 }
     ensures ok { OnOk result (slot.new ≡ slot_joined end slot.old (Slot.View piece)) }
     ensures kept { IfErr result (λ back. (back ≡ piece) × (slot.new ≡ slot.old)) }
-    ensures err { OnErr result (((0 < length piece.bytes) × (0 < readable_bytes slot.old)) ⊎ (is_text slot.old ≡ false)) }
+    ensures err { OnErr result (((0 < length piece.bytes) × (0 < readable_bytes slot.old))
+        ⊎ (is_text slot.old ≡ false)) }
 {
     let Slot::Text(text) = slot else {
         return Err(piece);
@@ -72,7 +73,8 @@ pub(super) fn join(
 fn whole(alloc: Global, slot: Slot) -> Result<Slot, Refusal>
     requires fits { too_large slot ≡ false }
     ensures ok { IfOk result (λ whole. whole ≡ slot_coalesced slot) }
-    ensures err { IfErr result (λ refusal. ((refusal ≡ Refusal.Memory) × IsTrue (is_in_pieces slot)) ⊎ (is_one_of (Kind.Text ∷ Kind.Parts ∷ []) slot ≡ false)) }
+    ensures err { IfErr result (λ refusal. ((refusal ≡ Refusal.Memory) × IsTrue (is_in_pieces slot))
+        ⊎ (is_one_of (Kind.Text ∷ Kind.Parts ∷ []) slot ≡ false)) }
 {
     match slot {
         Slot::Text(text) => Ok(Slot::View(text.coalesce(alloc)?)),

@@ -85,7 +85,8 @@ pub(super) fn take(alloc: Global, slots: &mut [Slot], target: usize, n: usize) -
 
 // Reads a view from a view or an `IoBufs` that a slot holds.
 fn read_slot(alloc: Global, slot: &mut Slot, range: &RangeCfg) -> Result<IoBuf, Refusal>
-    ensures ok { IfOk result (λ taken. IsViewRead (marked_held slot.old) range.now (Ok taken) × (slot.new ≡ slot_read slot.old taken)) }
+    ensures ok { IfOk result (λ taken. IsViewRead (marked_held slot.old) range.now (Ok taken)
+        × (slot.new ≡ slot_read slot.old taken)) }
     ensures unchanged { OnErr result (slot.new ≡ slot.old) }
     ensures err { IfErr result (λ refusal.
         ((error : Error) × IsViewRead (marked_held slot.old) range.now (Err error) × (refusal ≡ codec_refusal error))

@@ -5,7 +5,7 @@ ghost use Rattle.iobufs.specs.Inside.Gaps.{AreSegments, filled, gap_len, gaps_le
 ghost use Rattle.iobufs.specs.Inside.RowValues.{Segment};
 ghost use Rattle.iobufs.specs.Inside.Pieces.{AreFull, AreViews, view_len};
 
-use super::{Piece, Row};
+use super::{Entry, Row};
 use iobufs_core::buf::IoBuf;
 use iobufs_core::codec::BufError;
 use std::alloc::{AllocError, Global};
@@ -20,13 +20,12 @@ use std::marker::Model;
 /// filled |  a b  | X |   c   | Y | d e |      by the bytes a b c d e
 /// ```
 pub(crate) struct Gapped {
-    pieces: VecDeque<Piece>,
+    entries: VecDeque<Entry>,
 }
 
-// Written out, so that what a caller proves about one that it drops names no field.
 impl Drop for Gapped {
     fn drop(self) {
-        let Gapped { pieces: _ } = self;
+        let Gapped { entries: _ } = self;
     }
 }
 
@@ -38,7 +37,7 @@ impl Model for Gapped {
     ghost use Rattle.std.specs.VecDeque.{deque_capacity};
     ghost use Rattle.iobufs.specs.Inside.Gaps.{segments_in};
 
-    ghost view = { λ g. record { segments = segments_in g.pieces.items; room = deque_capacity g.pieces } };
+    ghost view = { λ g. record { segments = segments_in g.entries.items; room = deque_capacity g.entries } };
 }
 
 impl Gapped {
@@ -47,14 +46,14 @@ impl Gapped {
         ensures { result.segments ≡ [] }
     {
         Gapped {
-            pieces: VecDeque::new(alloc),
+            entries: VecDeque::new(alloc),
         }
     }
 
     pub(crate) fn is_empty(&self) -> bool
         ensures { result ≡ (length self.now.segments == 0) }
     {
-        self.pieces.is_empty()
+        self.entries.is_empty()
     }
 
     /// Reserves a gap, a chunk and the bytes after them; the first time, two of each.
@@ -63,10 +62,10 @@ impl Gapped {
         ensures more { self.old.room ≤ self.new.room }
         ensures room { OnOk result (length self.new.segments + 3 ≤ self.new.room) }
     {
-        if self.pieces.is_empty() {
-            return self.pieces.try_reserve(5);
+        if self.entries.is_empty() {
+            return self.entries.try_reserve(5);
         }
-        self.pieces.try_reserve(3)
+        self.entries.try_reserve(3)
     }
 
     /// Adds a gap and a chunk; no gap if it is for no bytes.
@@ -77,12 +76,12 @@ impl Gapped {
         ensures room { length self.new.segments < self.new.room }
     {
         if run != 0 {
-            self.pieces.push_back_reserved(Piece {
+            self.entries.push_back_reserved(Entry {
                 view: IoBuf::default(),
                 end: run as u64,
             });
         }
-        self.pieces.push_back_reserved(Piece { view, end: 0 });
+        self.entries.push_back_reserved(Entry { view, end: 0 });
     }
 
     /// Fills each gap by the next bytes of a buffer. The remaining bytes come last.
@@ -97,25 +96,26 @@ impl Gapped {
         ensures memory { IsOkUnless result BufError.Memory }
         ensures no_bytes { length rest.bytes ≡ 0 → IsOk result }
     {
-        let Gapped { mut pieces } = self;
+        let Gapped { mut entries } = self;
         let mut rest = rest;
         let mut end = 0;
-        for i in 0..pieces.len() {
-            let Some(piece) = pieces.get_mut(i) else {
+        for i in 0..entries.len() {
+            let Some(piece) = entries.get_mut(i) else {
                 unreachable!()
             };
             end = fill_piece(piece, &mut rest, end)?;
         }
-        let mut row = Row { base: 0, pieces };
+        let mut row = Row { base: 0, entries };
         row.add(rest);
         Ok(row)
     }
 }
 
 // Fills a gap by the next bytes of a buffer. A chunk that stands stays.
-fn fill_gap(piece: &mut Piece, rest: &mut IoBuf) -> Result<(), BufError>
+fn fill_gap(piece: &mut Entry, rest: &mut IoBuf) -> Result<(), BufError>
     requires { gap_len (segment_of piece.old) ≤ length rest.old.bytes }
-    ensures filled { OnOk result ((segments : List Segment) → filled rest.old (segment_of piece.old ∷ segments) ≡ piece.new.view ∷ filled rest.new segments) }
+    ensures filled { OnOk result ((segments : List Segment)
+        → filled rest.old (segment_of piece.old ∷ segments) ≡ piece.new.view ∷ filled rest.new segments) }
     ensures len { OnOk result (view_len piece.new.view ≡ segment_len (segment_of piece.old)) }
     ensures left { OnOk result (length rest.new.bytes + gap_len (segment_of piece.old) ≡ length rest.old.bytes) }
     ensures memory { IsOkUnless result BufError.Memory }
@@ -129,10 +129,11 @@ fn fill_gap(piece: &mut Piece, rest: &mut IoBuf) -> Result<(), BufError>
 }
 
 // Fills a gap, and returns the end of the chunk after `start` bytes.
-fn fill_piece(piece: &mut Piece, rest: &mut IoBuf, start: u64) -> Result<u64, BufError>
+fn fill_piece(piece: &mut Entry, rest: &mut IoBuf, start: u64) -> Result<u64, BufError>
     requires within { gap_len (segment_of piece.old) ≤ length rest.old.bytes }
     requires fits { start + segment_len (segment_of piece.old) < 2 ^ 64 }
-    ensures filled { OnOk result ((segments : List Segment) → filled rest.old (segment_of piece.old ∷ segments) ≡ piece.new.view ∷ filled rest.new segments) }
+    ensures filled { OnOk result ((segments : List Segment)
+        → filled rest.old (segment_of piece.old ∷ segments) ≡ piece.new.view ∷ filled rest.new segments) }
     ensures len { OnOk result (view_len piece.new.view ≡ segment_len (segment_of piece.old)) }
     ensures left { OnOk result (length rest.new.bytes + gap_len (segment_of piece.old) ≡ length rest.old.bytes) }
     ensures end { IfOk result (λ end. (end ≡ start + view_len piece.new.view) × (piece.new.end ≡ end)) }

@@ -37,4 +37,10 @@ loop-value-preserved g c =
     let i = c.loop-value.value-index in
     let x = c.value-item.result in
     let step = turn items xs i x (omega (arith, c.loop-value-test.true, c.loop-value.auto.value-index-end)) (sym c.value-item.is) in
-    omega (arith, ap items_inline step.more, inline_append (flat_map items (take i xs)) (items x), c.loop-value.invariant, c.encode_inline_size-size.ensures)
+    omega (
+      arith,
+      ap items_inline step.more,
+      inline_append (flat_map items (take i xs)) (items x),
+      c.loop-value.invariant,
+      c.encode_inline_size-size.ensures,
+    )

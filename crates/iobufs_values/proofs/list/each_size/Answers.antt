@@ -15,7 +15,8 @@ returns-in_err-encode_size g c =
     let whole = ap length step.whole in
     let parts = length-append (flat_map w (take i xs)) (w x ++ flat_map w (drop (suc i) xs)) in
     let more = length-append (w x) (flat_map w (drop (suc i) xs)) in
-    subst (λ r. SomeIff r (all < 2 ^ 64) all) (sym c.from_residual.ensures) (λ fits. c.in_err-encode_size.ensures (omega (arith, whole, parts, more, fits)))
+    subst (λ r. SomeIff r (all < 2 ^ 64) all) (sym c.from_residual.ensures)
+    (λ fits. c.in_err-encode_size.ensures (omega (arith, whole, parts, more, fits)))
 
 pub returns-in_err-size : goal.returns-in_err-size
 returns-in_err-size g c =
@@ -38,5 +39,6 @@ returns g c =
     let xs = c.args.values.now in
     let i = c.loop-value.value-index in
     let end : length xs ≤ i = omega (arith, c.loop-value-test.false, c.loop-value.auto.value-index-end) in
-    let whole : c.loop-value.size ≡ length (flat_map w xs) = c.loop-value.invariant.size ∙ ap (λ ys. length (flat_map w ys)) (take_all i xs end) in
+    let whole : c.loop-value.size ≡ length (flat_map w xs) = c.loop-value.invariant.size
+    ∙ ap (λ ys. length (flat_map w ys)) (take_all i xs end) in
     (omega (arith, whole, c.loop-value.invariant.fits), whole)

@@ -17,7 +17,8 @@ returns-in_err-value-clause-fault g c =
     let f = c.in_err-value.field-0.0 in
     refused_so (λ f. IsOneFault w found fault c.args.count text c.args.skip c.args.cfg.now f ⊎ ((f ≡ no_memory) × (0 < c.args.count))) _ _
     c.from_residual.ensures.1
-    (inl (fault_behind w found fault text c.args.cfg.now f xs c.args.count c.args.skip (omega (arith, l.invariant.count, c.loop-test.true, l.auto.counter-end))
+    (inl (fault_behind w found fault text c.args.cfg.now f xs c.args.count c.args.skip
+    (omega (arith, l.invariant.count, c.loop-test.true, l.auto.counter-end))
     l.invariant.found (subst (λ n. fault text (c.args.skip + n) c.args.cfg.now f) l.invariant.len c.in_err-value.ensures.fault)))
 
 pub loop-preserved : goal.loop-preserved

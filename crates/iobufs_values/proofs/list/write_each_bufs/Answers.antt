@@ -32,8 +32,10 @@ returns-in_err-write_bufs-clause-begun g c =
     let step = turn w xs i x (omega (arith, c.loop-value-test.true, c.loop-value.auto.value-index-end)) (sym c.value-item.is) in
     let after = g.met.B.BufsMut.adds _ _ _ c.loop-value.invariant
     ∙ ap (λ bytes. old ++ bytes) (joins_each w items g.met.T.EncodeSize.joins_items (take i xs)) in
-    let begun = begun_behind old (flat_map w (take i xs)) (w x) (flat_map w (drop (suc i) xs)) _ _ after c.in_err-write_bufs.ensures.begun in
-    on_err_always c.from_residual.result (subst (λ bytes. IsBegun old bytes (g.B.BufsMut.joined c.write_bufs.new.buf)) (sym step.whole) begun)
+    let begun = begun_behind old (flat_map w (take i xs)) (w x)
+    (flat_map w (drop (suc i) xs)) _ _ after c.in_err-write_bufs.ensures.begun in
+    on_err_always c.from_residual.result (subst (λ bytes. IsBegun old bytes (g.B.BufsMut.joined c.write_bufs.new.buf))
+    (sym step.whole) begun)
 
 pub returns-in_err-write_bufs-clause-cause : goal.returns-in_err-write_bufs-clause-cause
 returns-in_err-write_bufs-clause-cause g c =

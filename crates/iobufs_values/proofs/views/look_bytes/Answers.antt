@@ -28,7 +28,8 @@ pub returns-then-left-n-clause-static_text : goal.returns-then-left-n-clause-sta
 returns-then-left-n-clause-static_text g c n there static free =
     let bytes = ap (drop c.args.skip) (g.met.B.OwnedBuf.same_text c.args.buf.now) in
     let same : n ≡ c.in_ok-n.n =
-    spelled_as_one (drop c.args.skip (g.B.Buf.text c.args.buf.now)) n c.in_ok-n.n (subst (λ (xs : List ℕ). IsSpelledAt xs n) bytes there.0.0)
+    spelled_as_one (drop c.args.skip (g.B.Buf.text c.args.buf.now)) n c.in_ok-n.n
+    (subst (λ (xs : List ℕ). IsSpelledAt xs n) bytes there.0.0)
     c.in_ok-n.ensures.ok.0 in
     let long : length (spell n) ≡ c.in_ok-n.len = ap (λ k. length (spell k)) same ∙ sym c.in_ok-n.ensures.len in
     absurd (omega (
@@ -48,7 +49,8 @@ returns-in_err-made-clause-static_text g c n there static free =
     let bytes = ap (drop c.args.skip) (g.met.B.OwnedBuf.same_text c.args.buf.now) in
     let text = g.B.OwnedBuf.marked c.args.buf.now in
     let same : n ≡ c.in_ok-n.n =
-    spelled_as_one (drop c.args.skip (g.B.Buf.text c.args.buf.now)) n c.in_ok-n.n (subst (λ (xs : List ℕ). IsSpelledAt xs n) bytes there.0.0)
+    spelled_as_one (drop c.args.skip (g.B.Buf.text c.args.buf.now)) n c.in_ok-n.n
+    (subst (λ (xs : List ℕ). IsSpelledAt xs n) bytes there.0.0)
     c.in_ok-n.ensures.ok.0 in
     let long : length (spell n) ≡ c.in_ok-n.len = ap (λ k. length (spell k)) same ∙ sym c.in_ok-n.ensures.len in
     let view : taken_view text (c.args.skip + length (spell n)) n ≡ taken_view text (c.args.skip + c.in_ok-n.len) c.in_ok-n.n =

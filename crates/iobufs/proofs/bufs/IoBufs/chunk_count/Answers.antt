@@ -15,4 +15,5 @@ returns-clause-chunks c =
     let n = length-kept c.self.inside _ c.self.view_is in
     let value = c.len.ensures.value in
     let counted : chunk_count text ≡ length text.cuts + 1 = grind (arith, nat_tests) in
-    (c.count.ensures.value ∙ count-pieces _ _ c.self.view_is (omega (arith))) ∙ counted ∙ sym (length-text_chunks text c.len.ensures.marked (omega arith))
+    (c.count.ensures.value ∙ count-pieces _ _ c.self.view_is (omega (arith))) ∙ counted
+    ∙ sym (length-text_chunks text c.len.ensures.marked (omega arith))

@@ -6,7 +6,8 @@ loop-chunk-preserved g c =
     let l = c.loop-chunk in
     let added = c.in_ok-append.ensures.done in
     record {
-      so_far = added ∙ ap (λ (x : MarkedText). text_append x c.in-Some.chunk) l.invariant.so_far ∙ sym (joined-push l.yielded c.in-Some.chunk);
+      so_far = added ∙ ap (λ (x : MarkedText). text_append x c.in-Some.chunk) l.invariant.so_far
+          ∙ sym (joined-push l.yielded c.in-Some.chunk);
       fits = fits-more l.text _ c.in-Some.chunk added c.in_ok-append.ensures.too_long;
     }
 
@@ -28,5 +29,8 @@ returns-clause-ok g c = (
   run_to_end g.I.Iterator.next_gives _ c.loop-chunk.yielded c.loop-chunk.yielded_by c.in_default.ensures.steps,
   refl,
   refl,
-  (subst (λ (text : MarkedText). text_len text < 2 ^ 64) c.loop-chunk.invariant.so_far c.loop-chunk.invariant.fits, c.loop-chunk.invariant.so_far),
+  (
+    subst (λ (text : MarkedText). text_len text < 2 ^ 64) c.loop-chunk.invariant.so_far c.loop-chunk.invariant.fits,
+    c.loop-chunk.invariant.so_far,
+  ),
 )

@@ -31,7 +31,8 @@ returns-in_err-pieces-clause-last c = λ front chunk is edge.
     let s = c.self.inside in
     let n = length-kept s _ c.self.view_is in
     let full = full-kept s _ c.self.view_is c.in_err-pieces.ensures.pieces (omega (arith, c.if-at-eq0.false, edge)) in
-    let last = last-view s.pieces front chunk (sym (chunks-kept s.pieces _ c.self.view_is (some_views s.pieces c.in_err-pieces.ensures.pieces) full) ∙ is) in
+    let last = last-view s.pieces front chunk (sym
+    (chunks-kept s.pieces _ c.self.view_is (some_views s.pieces c.in_err-pieces.ensures.pieces) full) ∙ is) in
     absurd (false≢true (c.in_err-pieces.ensures.last last.before last.last last.is (omega (arith, edge, ap length last.bytes))))
 
 pub returns-in_err-pieces-clause-static_text : goal.returns-in_err-pieces-clause-static_text

@@ -3,7 +3,8 @@ use Rattle.iobufs.proofs.bufs.IoBufs.taken.Goals as goal
 
 pub returns-then-n-eq0-clause-ok : goal.returns-then-n-eq0-clause-ok
 returns-then-n-eq0-clause-ok c =
-    c.default.ensures ∙ sym (ap (λ n. taken_view c.args.self.now c.args.skip n) c.if-n-eq0.true ∙ taken_view-none c.args.skip c.args.self.now)
+    c.default.ensures ∙ sym (ap (λ n. taken_view c.args.self.now c.args.skip n) c.if-n-eq0.true
+    ∙ taken_view-none c.args.skip c.args.self.now)
 
 pub locate-place-requires : goal.locate-place-requires
 locate-place-requires c = omega (arith, c.requires, c.if-n-eq0.false, length-kept c.self.inside _ c.self.view_is)
@@ -14,7 +15,8 @@ returns-then-n-len-clause-ok c =
     let o = c.locate-place.result.offset in
     let within = taken-within _ c.args.self.now c.args.skip c.args.n _ o c.self.view_is c.locate-place.ensures.place
     (omega (arith, c.requires, c.if-n-eq0.false)) (omega arith) (omega (arith, ap (λ (v : View). length v.bytes) c.piece-piece.ensures)) in
-    as_view c.slice.result _ _ (ap (λ v. view_slice v (Included o) (Excluded (o + c.args.n))) c.piece-piece.ensures ∙ within) c.slice.ensures.ok
+    as_view c.slice.result _ _ (ap (λ v. view_slice v (Included o) (Excluded (o + c.args.n))) c.piece-piece.ensures
+    ∙ within) c.slice.ensures.ok
 
 pub copied-requires-clause-inside : goal.copied-requires-clause-inside
 copied-requires-clause-inside c =
@@ -33,7 +35,8 @@ returns-then-n-len-clause-static_text c = λ static.
     let n = length-kept c.self.inside _ c.self.view_is in
     c.slice.ensures.static_text (ap (λ (v : View). v.mark) c.piece-piece.ensures
     ∙ static-within _ c.args.self.now c.args.skip c.args.n _ c.locate-place.result.offset c.self.view_is c.locate-place.ensures.place
-    (omega (arith, c.requires, c.if-n-eq0.false)) (omega arith) (omega (arith, ap (λ (v : View). length v.bytes) c.piece-piece.ensures)) static)
+    (omega (arith, c.requires, c.if-n-eq0.false)) (omega arith)
+    (omega (arith, ap (λ (v : View). length v.bytes) c.piece-piece.ensures)) static)
 
 pub returns-in-Err-clause-static_text : goal.returns-in-Err-clause-static_text
 returns-in-Err-clause-static_text c = λ static.

@@ -45,4 +45,5 @@ returns c =
     omega (arith, length-kept c.self.inside _ c.self.view_is, others, c.if-len.false, c.len.ensures.value, c.len-2.ensures.value) in
     let last : length ours ≤ c.loop-index.index = omega (arith, c.loop-index-test.false, c.count-index-end.ensures) in
     of_texts _ _ _ _ _ (bytes-kept c.self.inside _ c.self.view_is) (bytes-kept c.other.inside _ c.other.view_is)
-    (same-to_end _ _ _ _ c.loop-index.invariant.matched len (ap (λ (ws : List View). pieces_bytes ws) (drop_all c.loop-index.index ours last)))
+    (same-to_end _ _ _ _ c.loop-index.invariant.matched len
+    (ap (λ (ws : List View). pieces_bytes ws) (drop_all c.loop-index.index ours last)))

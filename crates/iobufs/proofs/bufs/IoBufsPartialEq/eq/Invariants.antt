@@ -7,5 +7,6 @@ invariant-loop-index l =
     let theirs = l.other-inside.pieces in
     record {
       offset : l.reached.offset ≤ view_len (piece_at theirs l.reached.index);
-      matched : IsMatched (pieces_bytes theirs) (pieces_bytes ours) (pieces_bytes (drop l.index ours)) (bytes_behind theirs l.reached.index l.reached.offset);
+      matched : IsMatched (pieces_bytes theirs) (pieces_bytes ours) (pieces_bytes (drop l.index ours))
+          (bytes_behind theirs l.reached.index l.reached.offset);
     }

@@ -5,7 +5,8 @@ pub loop-i-preserved : goal.loop-i-preserved
 loop-i-preserved c =
     let inv = c.loop-i.invariant in
     let row = c.args.row.now in
-    let found = subst (λ piece. IfSome piece (λ x. x.now ≡ slice_index_or row.items (c.args.first + c.loop-i.i) x.now)) c.unwrap-piece.ensures
+    let found = subst (λ piece. IfSome piece (λ x. x.now ≡ slice_index_or row.items
+    (c.args.first + c.loop-i.i) x.now)) c.unwrap-piece.ensures
     c.get.ensures.lookup in
     record {
       cloned = run-more row.items c.args.run.now.items _ _ c.args.first c.loop-i.i _ _

@@ -5,7 +5,7 @@ use Rattle.iobufs.proofs.bufs.row.put_all.Given as goal
 abbrev pub invariant-loop-piece : goal.invariant-loop-piece
 invariant-loop-piece l =
     record {
-      so_far : l.copy.filled ++ pieces_bytes (views_in l.left) ≡ l.initial.copy.filled ++ pieces_bytes (views_in l.pieces);
+      so_far : l.copy.filled ++ pieces_bytes (views_in l.left) ≡ l.initial.copy.filled ++ pieces_bytes (views_in l.entries);
       room : length l.copy.filled + l.copy.spare ≡ length l.initial.copy.filled + l.initial.copy.spare;
     }
 

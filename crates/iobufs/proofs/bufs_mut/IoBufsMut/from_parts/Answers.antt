@@ -14,7 +14,14 @@ returns-then-capacity-left-clause-err g c =
 pub with_part-requires-clause-fits : goal.with_part-requires-clause-fits
 with_part-requires-clause-fits g c =
     let l = c.loop-part in
-    omega (arith, ap parts_capacity l.invariant.kept ∙ capacity-kept l.yielded, l.invariant.sum, c.capacity-capacity.ensures, c.if-capacity-left.false)
+    omega (
+      arith,
+      ap parts_capacity l.invariant.kept
+          ∙ capacity-kept l.yielded,
+      l.invariant.sum,
+      c.capacity-capacity.ensures,
+      c.if-capacity-left.false,
+    )
 
 pub returns-in_err-shape-clause-err : goal.returns-in_err-shape-clause-err
 returns-in_err-shape-clause-err g c =
@@ -22,7 +29,8 @@ returns-in_err-shape-clause-err g c =
     let part = c.in-Some.part in
     let count = ap (λ (ps : List Part). length ps) l.invariant.kept in
     let three : 3 ≤ length (kept_parts l.yielded) =
-    by_lt (length (kept_parts l.yielded)) 3 (λ less. absurd (false≢true (c.in_err-shape.ensures.few (omega (arith, count, less))))) (λ more. more) in
+    by_lt (length (kept_parts l.yielded)) 3 (λ less. absurd (false≢true (c.in_err-shape.ensures.few (omega (arith, count, less)))))
+    (λ more. more) in
     let some = able-some l.yielded (omega (arith, three)) in
     let (error, told, cause) = err_from_is_err_and c.from_residual.result c.from_residual.ensures.1 in
     rw (told, cause) (
@@ -39,7 +47,8 @@ loop-part-preserved-then-capacity-gt0 g c =
     record {
       sum = omega (arith, sum_by_push part_capacity l.yielded part);
       built = c.in_ok-shape.ensures.built;
-      kept = c.in_ok-shape.ensures.parts ∙ ap (λ ps. kept_parts (ps ++ part ∷ [])) l.invariant.kept ∙ kept-more l.yielded part (omega arith);
+      kept = c.in_ok-shape.ensures.parts ∙ ap (λ ps. kept_parts (ps ++ part ∷ [])) l.invariant.kept
+          ∙ kept-more l.yielded part (omega arith);
     }
 
 pub returns-clause-ok : goal.returns-clause-ok

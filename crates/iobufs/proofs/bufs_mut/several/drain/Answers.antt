@@ -16,7 +16,8 @@ loop-rest-preserved c =
     let first = ap (λ ps. length (get_or ps 0 (empty_part 0)).filled) front in
     let most : c.len-len.result ≤ l.rest = omega (arith, ltb-false l.rest _ (sym c.if-shorten.ensures.tells), first, c.len-len.ensures) in
     draining-spent l.row.items rest part c.advance.new.self l.behind l.rest c.len-len.result _ l.invariant c.loop-rest-test.true front
-    c.len-len.ensures most c.advance.ensures (omega (arith, c.capacity.ensures, c.if-capacity-gt0.false)) (grind (arith, nat_tests, c.if-is_empty.ensures))
+    c.len-len.ensures most c.advance.ensures (omega (arith, c.capacity.ensures, c.if-capacity-gt0.false))
+    (grind (arith, nat_tests, c.if-is_empty.ensures))
 
 pub loop-rest-preserved-in-loop-rest : goal.loop-rest-preserved-in-loop-rest
 loop-rest-preserved-in-loop-rest c =
@@ -35,7 +36,12 @@ loop-rest-preserved-in-loop-rest c =
           absurd (grind (arith, nat_tests, more, ap length last, length-append rest (c.advance.new.self ∷ []), w.if-is_empty.ensures))
     ] in
     draining-kept l.row.items rest part c.advance.new.self l.behind l.rest c.len-len.result _ l.invariant c.loop-rest-test.true front
-    c.len-len.ensures (omega (arith, ltb-false l.rest _ (sym c.if-shorten.ensures.tells), first, c.len-len.ensures)) c.advance.ensures _ able last
+    c.len-len.ensures (omega (
+      arith,
+      ltb-false l.rest _ (sym c.if-shorten.ensures.tells),
+      first,
+      c.len-len.ensures,
+    )) c.advance.ensures _ able last
 
 pub returns-after-loop-rest-clause-drained : goal.returns-after-loop-rest-clause-drained
 returns-after-loop-rest-clause-drained c =
@@ -47,10 +53,12 @@ pub returns-then-shorten-clause-drained : goal.returns-then-shorten-clause-drain
 returns-then-shorten-clause-drained c =
     let l = c.loop-rest in
     let less = ltb-true l.rest _ (sym c.if-shorten.ensures.tells) in
-    (draining-ends _ l.behind 0 _ refl (draining-stops l.row.items _ l.behind l.rest _ l.invariant less (c.if-shorten.ensures.drained refl))).0
+    (draining-ends _ l.behind 0 _ refl (draining-stops l.row.items _ l.behind l.rest _ l.invariant less
+    (c.if-shorten.ensures.drained refl))).0
 
 pub returns-then-shorten-clause-behind : goal.returns-then-shorten-clause-behind
 returns-then-shorten-clause-behind c =
     let l = c.loop-rest in
     let less = ltb-true l.rest _ (sym c.if-shorten.ensures.tells) in
-    (draining-ends _ l.behind 0 _ refl (draining-stops l.row.items _ l.behind l.rest _ l.invariant less (c.if-shorten.ensures.drained refl))).1
+    (draining-ends _ l.behind 0 _ refl (draining-stops l.row.items _ l.behind l.rest _ l.invariant less
+    (c.if-shorten.ensures.drained refl))).1

@@ -11,7 +11,8 @@ loop-part-init c =
     let bytes = ap (λ (vs : List View). length (pieces_bytes vs)) views in
     let count = ap (λ (vs : List View). length vs) views in
     record {
-      so_far = ap (λ (text : MarkedText). fold text_append text (map part_frozen c.args.parts.items)) (ap of_pieces views ∙ of_pieces-one first);
+      so_far = ap (λ (text : MarkedText). fold text_append text (map part_frozen c.args.parts.items))
+          (ap of_pieces views ∙ of_pieces-one first);
       fits = omega (arith, bytes, length-append first.bytes [], c.requires.fits);
       room = omega (arith, count, c.add.ensures.same_room, c.in_ok-row.ensures.room, c.len.ensures);
       full = subst AreFull (sym views) (c.requires.some, tt);

@@ -16,7 +16,9 @@ loop-i-preserved c =
     let value = c.args.value in
     record {
       same_len = l.invariant.same_len;
-      so_far = fill-turn _ l.parts.items l.i part.result.now c.put_bytes.new.self (replicate l.rest value) _ (replicate n value) n (omega arith)
-          part.ensures.value c.put_bytes.ensures.1 (sym (take-replicate n l.rest value (omega (arith, c.min-n.ensures)))) (sym (drop-replicate n l.rest value))
+      so_far = fill-turn _ l.parts.items l.i part.result.now c.put_bytes.new.self (replicate l.rest value) _ (replicate n value) n
+          (omega arith)
+          part.ensures.value c.put_bytes.ensures.1 (sym (take-replicate n l.rest value (omega (arith, c.min-n.ensures))))
+          (sym (drop-replicate n l.rest value))
           (c.min-n.ensures ∙ (λ i. min (sym (length-replicate l.rest value) i) (c.remaining_mut.ensures i))) l.invariant.so_far;
     }

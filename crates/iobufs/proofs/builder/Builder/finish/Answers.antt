@@ -18,7 +18,8 @@ returns-in_err-rest-clause-no_inline c = λ none.
     let b = c.self.inside in
     let inv = c.self.invariant in
     let same = ap (λ (w : Building). items_inline (building_items w)) c.self.view_is in
-    absurd (false≢true (c.in_err-rest.ensures.nothing (omega (arith, none, inline-building b.inline b.pushes.segments b.placed inv.counted inv.within, same))))
+    absurd (false≢true (c.in_err-rest.ensures.nothing
+    (omega (arith, none, inline-building b.inline b.pushes.segments b.placed inv.counted inv.within, same))))
 
 pub returns-in_err-fill-clause-no_inline : goal.returns-in_err-fill-clause-no_inline
 returns-in_err-fill-clause-no_inline c = λ none.

@@ -20,9 +20,11 @@ returns-clause-ok c =
     let limit = pushes-kept b.inline b.pushes.segments b.placed b.pushable _ inv.limited c.self.view_is in (
       omega arith,
       omega (arith, limit, c.in_default.ensures.ok.0),
-      push-kept b.inline b.pushes.segments _ b.placed _ _ (c.len.result - b.placed) c.args.view inv.counted inv.within c.self.view_is run (omega arith)
+      push-kept b.inline b.pushes.segments _ b.placed _ _ (c.len.result - b.placed) c.args.view inv.counted inv.within c.self.view_is run
+          (omega arith)
           (c.push.ensures.pushed
-          ∙ ap (λ (segments : List Segment). segments ++ segments_pushed (c.len.result - b.placed) c.args.view) c.make_room.ensures.same) refl,
+          ∙ ap (λ (segments : List Segment). segments
+          ++ segments_pushed (c.len.result - b.placed) c.args.view) c.make_room.ensures.same) refl,
     )
 
 pub returns-clause-too_long : goal.returns-clause-too_long

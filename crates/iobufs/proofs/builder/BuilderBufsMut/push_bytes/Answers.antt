@@ -21,8 +21,10 @@ returns-clause-ok c =
     let limit = pushes-kept b.inline b.pushes.segments b.placed b.pushable _ inv.limited c.self.view_is in (
       omega arith,
       omega (arith, limit, c.in_default.ensures.ok.0, bytes-len c.args.bytes),
-      push-kept b.inline b.pushes.segments _ b.placed _ _ (c.len.result - b.placed) c.from-view.result inv.counted inv.within c.self.view_is run
-          (omega arith) (c.push.ensures.pushed ∙ ap (λ (segments : List Segment). segments ++ segments_pushed (c.len.result - b.placed) c.from-view.result)
+      push-kept b.inline b.pushes.segments _ b.placed _ _
+          (c.len.result - b.placed) c.from-view.result inv.counted inv.within c.self.view_is run
+          (omega arith) (c.push.ensures.pushed ∙ ap
+          (λ (segments : List Segment). segments ++ segments_pushed (c.len.result - b.placed) c.from-view.result)
           c.make_room.ensures.same) refl
           ∙ ap (building_push c.args.self.now) c.from-view.ensures,
     )

@@ -5,11 +5,13 @@ use Rattle.iobufs.proofs.builder.EncodeExt.encode_iobufs.Goals as goal
 pub returns-in_err-write_bufs-clause-memory : goal.returns-in_err-write_bufs-clause-memory
 returns-in_err-write_bufs-clause-memory g c =
     let items = g.Self.EncodeSize.items c.args.self.now in
-    λ (fits : length (g.Self.EncodeSize.written c.args.self.now) < 2 ^ 64) (inline : items_inline (g.Self.EncodeSize.items c.args.self.now) < 2 ^ 63).
+    λ (fits : length (g.Self.EncodeSize.written c.args.self.now) < 2 ^ 64)
+    (inline : items_inline (g.Self.EncodeSize.items c.args.self.now) < 2 ^ 63).
     let bytes = subst (λ bytes. length bytes < 2 ^ 64) (sym (g.met.Self.EncodeSize.joins_items c.args.self.now)) fits in
     ⊎_elim
     (only-cause _ _ _ c.from_residual-in_err-write_bufs.ensures.1)
-    (λ long. absurd (pushes-fit c.in_ok-builder.builder items (c.in_ok-builder.ensures.ok ∙ ap empty_building c.encode_inline_size.ensures) bytes long.1))
+    (λ long. absurd (pushes-fit c.in_ok-builder.builder items
+    (c.in_ok-builder.ensures.ok ∙ ap empty_building c.encode_inline_size.ensures) bytes long.1))
     c.in_err-write_bufs.ensures.cause
 
 pub returns-clause-bytes : goal.returns-clause-bytes
@@ -17,7 +19,8 @@ returns-clause-bytes g c =
     let items = g.Self.EncodeSize.items c.args.self.now in
     let (inline, pushed, built) = c.in_ok-write_bufs.ensures.ok in
     ap (λ (text : MarkedText). text.bytes) (c.in_ok-finish.ensures.ok
-    ∙ ap finished (built ∙ ap (λ (b : Building). building_after b items) (c.in_ok-builder.ensures.ok ∙ ap empty_building c.encode_inline_size.ensures)))
+    ∙ ap finished (built ∙ ap (λ (b : Building). building_after b items)
+    (c.in_ok-builder.ensures.ok ∙ ap empty_building c.encode_inline_size.ensures)))
     ∙ finished-bytes (building_after (empty_building (items_inline items)) items) ∙ bytes-built (empty_building (items_inline items)) items
     ∙ g.met.Self.EncodeSize.joins_items c.args.self.now
 
@@ -32,7 +35,8 @@ pub returns-in_err-write_bufs-clause-nothing : goal.returns-in_err-write_bufs-cl
 returns-in_err-write_bufs-clause-nothing g c =
     λ (none : length (g.Self.EncodeSize.written c.args.self.now) ≡ 0).
     let bytes = ap length (g.met.Self.EncodeSize.joins_items c.args.self.now) in
-    absurd (false≢true (c.in_err-write_bufs.ensures.no_push (omega (arith, none, bytes, items-len (g.Self.EncodeSize.items c.args.self.now)))))
+    absurd (false≢true (c.in_err-write_bufs.ensures.no_push
+    (omega (arith, none, bytes, items-len (g.Self.EncodeSize.items c.args.self.now)))))
 
 pub returns-in_err-finish-clause-nothing : goal.returns-in_err-finish-clause-nothing
 returns-in_err-finish-clause-nothing g c =
@@ -40,5 +44,6 @@ returns-in_err-finish-clause-nothing g c =
     λ (none : length (g.Self.EncodeSize.written c.args.self.now) ≡ 0).
     let bytes : length (items_bytes items) ≡ 0 = ap length (g.met.Self.EncodeSize.joins_items c.args.self.now) ∙ none in
     let (inline, pushed, built) = c.in_ok-write_bufs.ensures.ok in
-    let is = built ∙ ap (λ (b : Building). building_after b items) (c.in_ok-builder.ensures.ok ∙ ap empty_building c.encode_inline_size.ensures) in
+    let is = built ∙ ap (λ (b : Building). building_after b items)
+    (c.in_ok-builder.ensures.ok ∙ ap empty_building c.encode_inline_size.ensures) in
     absurd (false≢true (c.in_err-finish.ensures.nothing (ap building_items is ∙ nothing-built (items_inline items) items bytes)))

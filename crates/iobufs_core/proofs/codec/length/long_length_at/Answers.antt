@@ -57,8 +57,10 @@ pub loop-i-preserved : goal.loop-i-preserved
 loop-i-preserved g c =
     let text = drop c.args.skip (g.B.Buf.text c.args.buf.now) in
     let at : slice_get text c.loop-i.i ≡ Some c.in-Some.byte = sym c.byte_behind.ensures ∙ c.in-Some.is in
-    let next = more_so_far text c.loop-i.i c.loop-i.value c.loop-i.place c.in-Some.byte c.loop-i.invariant at c.if-byte-lt128.false (omega arith) in
-    subst (λ low. IsSoFar text (c.loop-i.i + 1) (c.loop-i.value + c.loop-i.place * low) (c.loop-i.place * 128)) (sym c.from-in-loop-i.ensures) next
+    let next = more_so_far text c.loop-i.i c.loop-i.value c.loop-i.place c.in-Some.byte c.loop-i.invariant at c.if-byte-lt128.false
+    (omega arith) in
+    subst (λ low. IsSoFar text (c.loop-i.i + 1) (c.loop-i.value + c.loop-i.place * low) (c.loop-i.place * 128))
+    (sym c.from-in-loop-i.ensures) next
 
 pub returns-in-None-clause-err : goal.returns-in-None-clause-err
 returns-in-None-clause-err g c =

@@ -31,4 +31,5 @@ returns-in_err-take_owned_after-clause-static_text g c n there static free =
     let long : length (spell n) ≡ c.in_ok-found.found.len = ap (λ k. length (spell k)) same ∙ sym c.in_ok-found.ensures.ok.1 in
     let view : taken_view text (length (spell n)) n ≡ taken_view text c.in_ok-found.found.len c.in_ok-found.found.value =
     ap (λ k. taken_view text k n) long ∙ ap (taken_view text c.in_ok-found.found.len) same in
-    let refused = c.in_err-take_owned_after.ensures.static_text (ap (λ v. v.mark) (sym view) ∙ static) (subst g.T.OwnedBytes.is_free view free) in cc
+    let refused = c.in_err-take_owned_after.ensures.static_text (ap (λ v. v.mark) (sym view) ∙ static)
+    (subst g.T.OwnedBytes.is_free view free) in cc

@@ -15,7 +15,8 @@ returns-in_err-builder-clause-err c =
 pub loop-item-init : goal.loop-item-init
 loop-item-init c =
     let items = c.args.items.now in
-    rw c.in_ok-builder.ensures.ok (left_first c.args.slots.now c.args.capacity items c.requires.views c.requires.once c.requires.inline c.requires.fits)
+    rw c.in_ok-builder.ensures.ok
+    (left_first c.args.slots.now c.args.capacity items c.requires.views c.requires.once c.requires.inline c.requires.fits)
 
 pub returns-in_err-add-clause-err : goal.returns-in_err-add-clause-err
 returns-in_err-add-clause-err c =
@@ -34,4 +35,5 @@ loop-item-preserved c =
     let rest = drop (l.item-index + 1) c.args.items.now in
     let more = drop_more c.args.items.now l.item-index item c.loop-item-test.true in
     let left = rw (more, ← c.item-item.is) at l.invariant in
-    rw (c.add.ensures.freed, c.in_ok-add.ensures.ok) (left_next c.args.slots.now c.args.capacity c.args.items.now l.slots l.builder item rest left)
+    rw (c.add.ensures.freed, c.in_ok-add.ensures.ok)
+    (left_next c.args.slots.now c.args.capacity c.args.items.now l.slots l.builder item rest left)

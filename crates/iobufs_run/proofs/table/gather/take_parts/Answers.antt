@@ -11,7 +11,8 @@ pub strung-requires : goal.strung-requires
 strung-requires c = row_fits c.args.slots.now c.args.sources.now c.in_ok-row.row.items c.requires.fits c.in_ok-row.ensures.ok
 
 -- the parts are gone when they can't be strung together
-refused_costs : {X : Type 0} (result : Result X Refusal) (xs : List ℕ) (old new : List Slot) → IsOkUnless result Memory → new ≡ all_freed old xs
+refused_costs : {X : Type 0} (result : Result X Refusal) (xs : List ℕ) (old new : List Slot) → IsOkUnless result Memory
+    → new ≡ all_freed old xs
     → IfErr result (λ refusal. (refusal ≡ Memory) × MayFree xs old new)
 refused_costs (Ok x) xs old new memory is = tt
 refused_costs (Err refusal) xs old new memory is = (memory, subst (MayFree xs old) (sym is) (MayFree-all xs old))

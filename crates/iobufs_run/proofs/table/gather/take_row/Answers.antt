@@ -25,7 +25,8 @@ loop-src-preserved c =
     let part = ap part_held (sym took.0 ∙ read.0) in
     let pushed = rw c.unwrap.ensures at c.push.ensures.items in record {
       freed = freed_more old c.loop-src.slots sources i c.take_part.new.slot inv.freed c.loop-src-test.true took.1;
-      row = row_more (λ src. part_held (slot_named old src)) sources i c.loop-src.row.items c.push.new.self.items c.in_ok-part.part inv.row pushed part
+      row = row_more (λ src. part_held
+          (slot_named old src)) sources i c.loop-src.row.items c.push.new.self.items c.in_ok-part.part inv.row pushed part
           c.loop-src-test.true;
       count = grind (arith, common_steps);
       room = grind (arith, common_steps);

@@ -25,7 +25,8 @@ returns-in_err-append-clause-err c =
     let took = c.in_ok-piece.ensures.ok in
     let read = source_read is_view old c.loop-src.slots sources i c.index-slots-src.result refl c.requires.once c.requires.views inv.freed
     c.loop-src-test.true in
-    let fits = source_fits old sources i c.loop-src.text c.in_ok-piece.piece c.requires.fits inv.text (sym read.0 ∙ took.0) c.loop-src-test.true in
+    let fits = source_fits old sources i c.loop-src.text c.in_ok-piece.piece c.requires.fits inv.text
+    (sym read.0 ∙ took.0) c.loop-src-test.true in
     let memory = c.in_err-append.ensures.memory fits in
     let freed = freed_more old c.loop-src.slots sources i c.take_view.new.slot inv.freed c.loop-src-test.true took.1 in
     let (refusal, told, cause) = err_from_is_err_and c.from_residual-in_err-append.result c.from_residual-in_err-append.ensures.1 in

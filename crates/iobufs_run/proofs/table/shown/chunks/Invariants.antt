@@ -5,7 +5,8 @@ use Rattle.iobufs_run.proofs.table.shown.chunks.Given as goal
 
 -- a piece for each chunk so far
 abbrev pub invariant-loop-chunk : goal.invariant-loop-chunk
-invariant-loop-chunk l = map shown_piece l.pieces.items ≡ map (λ (chunk : List ℕ). (chunk, 0)) (take (length l.pieces.items) (text_chunks l.text))
+invariant-loop-chunk l = map shown_piece l.pieces.items ≡ map (λ (chunk : List ℕ). (chunk, 0))
+    (take (length l.pieces.items) (text_chunks l.text))
 
 abbrev pub decreases-loop-chunk : goal.decreases-loop-chunk
 decreases-loop-chunk l = length (text_chunks l.text) - length l.pieces.items

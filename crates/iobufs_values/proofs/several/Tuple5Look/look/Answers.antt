@@ -3,12 +3,17 @@ use Rattle.iobufs_values.proofs.Behind.{length_five, refused_so}
 use Rattle.iobufs_values.proofs.several.Tuple5Look.look.Goals as goal
 
 pub returns-in_err-four-clause-fault : goal.returns-in_err-four-clause-fault
-returns-in_err-four-clause-fault g c = refused_so _ _ _ c.from_residual-in_err-four.ensures.1 (inr (c.in_ok-one.one, c.in_ok-one.ensures.found, search rules))
+returns-in_err-four-clause-fault g c = refused_so _ _ _ c.from_residual-in_err-four.ensures.1
+    (inr (c.in_ok-one.one, c.in_ok-one.ensures.found, search rules))
 
 pub returns-in_err-five-clause-fault : goal.returns-in_err-five-clause-fault
 returns-in_err-five-clause-fault g c =
     refused_so _ _ _ c.from_residual-in_err-five.ensures.1
-    (inr (c.in_ok-one.one, c.in_ok-one.ensures.found, rw (← c.in_ok-one.ensures.len) (inr (c.in_ok-two.two, c.in_ok-two.ensures.found, search rules))))
+    (inr (
+      c.in_ok-one.one,
+      c.in_ok-one.ensures.found,
+      rw (← c.in_ok-one.ensures.len) (inr (c.in_ok-two.two, c.in_ok-two.ensures.found, search rules)),
+    ))
 
 pub returns-clause-len : goal.returns-clause-len
 returns-clause-len g c =

@@ -12,7 +12,8 @@ loop-offset-preserved c =
     let room = c.loop-offset.invariant.room in
     let count = c.min-some.ensures ∙ ap (λ n. min (length some) (c.args.n - n)) c.len-in-loop-offset.ensures in
     let step =
-    copied-step c.args.self.now c.loop-offset.index o c.args.n (length copy.filled) c.min-some.result copy.filled c.put_slice.new.self.filled some _
+    copied-step c.args.self.now c.loop-offset.index o c.args.n
+    (length copy.filled) c.min-some.result copy.filled c.put_slice.new.self.filled some _
     (omega arith) c.loop-offset.invariant.offset (slice_from o all ∙ ap (drop o) bytes) (omega arith) refl c.loop-offset.invariant.left
     c.loop-offset.invariant.so_far count put in
     let longer = ap length put ∙ length-append copy.filled (take c.min-some.result some) in

@@ -22,4 +22,12 @@ loop-bytes-preserved c =
 pub put_reserved-requires : goal.put_reserved-requires
 put_reserved-requires c =
     let l = c.loop-bytes in
-    omega (arith, l.invariant.room, l.invariant.some, length-take c.min-some.result c.as_ref-bytes.result.now, c.min-some.ensures, c.len-in-loop-bytes.ensures, l.copy.ok.0)
+    omega (
+      arith,
+      l.invariant.room,
+      l.invariant.some,
+      length-take c.min-some.result c.as_ref-bytes.result.now,
+      c.min-some.ensures,
+      c.len-in-loop-bytes.ensures,
+      l.copy.ok.0,
+    )

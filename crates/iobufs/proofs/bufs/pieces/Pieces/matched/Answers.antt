@@ -17,7 +17,8 @@ returns-then-left-chunk c =
     let inside : l.offset + length l.left.now ≤ view_len (piece_at vs l.index) =
     omega (arith, c.if-left-chunk.true, ap length (slice_from l.offset all), length-drop l.offset all, ap length is) in (
       inside,
-      matched-within _ _ _ _ _ _ l.invariant.matched (chunk-stands vs l.index l.offset all (omega arith) l.invariant.offset is) c.if-ne.ensures
+      matched-within _ _ _ _ _ _ l.invariant.matched
+          (chunk-stands vs l.index l.offset all (omega arith) l.invariant.offset is) c.if-ne.ensures
           ∙ ap (λ xs. c.args.bytes.now ++ xs) (sym (further-behind vs l.index l.offset (length l.left.now) all (omega arith) inside is)),
     )
 

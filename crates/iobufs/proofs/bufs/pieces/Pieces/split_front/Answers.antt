@@ -21,7 +21,8 @@ invariant_of-self-in-Many c =
     let place = c.locate-place.ensures.place in
     let more : c.locate-place.result.index + 1 < length c.in-Many.row.views =
     omega (arith, index-of_place _ _ _ _ place, c.count.ensures.value, c.if-behind-eq1.false) in
-    several-either c.split_front.result _ _ _ pieced (right-two c.in-Many.row.views _ c.args.at _ _ pieced.1 (below-as is c.requires.inside) place more refl)
+    several-either c.split_front.result _ _ _ pieced
+    (right-two c.in-Many.row.views _ c.args.at _ _ pieced.1 (below-as is c.requires.inside) place more refl)
     c.split_front.ensures.left c.split_front.ensures.unchanged
 
 pub returns-in_err-split_front-in-Many-clause-last : goal.returns-in_err-split_front-in-Many-clause-last
@@ -37,4 +38,5 @@ invariant_of-result-in-Many c =
     let inside = below-as (sym c.self.view_is ∙ ap views c.in-Many.is) c.requires.inside in
     let first = ap (λ (v : View). view_len v) c.piece.ensures in
     let behind : view_len (piece_at c.in-Many.row.views 0) < c.args.at = omega (arith, c.if-at-len.false, c.len.ensures.value, first) in
-    left-two c.in-Many.row.views _ c.args.at (pieced-as c.in-Many.is c.self.invariant).1 behind inside c.in_ok-split_front-in-Many.ensures.answer
+    left-two c.in-Many.row.views _ c.args.at
+    (pieced-as c.in-Many.is c.self.invariant).1 behind inside c.in_ok-split_front-in-Many.ensures.answer

@@ -3,7 +3,8 @@ use Rattle.std.specs.Prelude.{Bool, true, false, IsTrue, IsFalse}
 use Rattle.iobufs.proofs.Text.{AreViews, AreViews-advanced, List, View, advanced-kept, advanced_pieces, ap, length-kept, nat_le, refl, subst, sym, ℕ, ◌∙◌, ◌≡◌}
 use Rattle.iobufs.proofs.bufs.reading.IoBufsBuf.try_advance.Goals as goal
 
-either : (done : Bool) (vs ws : List View) (n : ℕ) → AreViews vs → (IsTrue done → ws ≡ advanced_pieces vs n) → (IsFalse done → ws ≡ vs) → AreViews ws
+either : (done : Bool) (vs ws : List View) (n : ℕ) → AreViews vs → (IsTrue done → ws ≡ advanced_pieces vs n) → (IsFalse done → ws ≡ vs)
+    → AreViews ws
 either true vs ws n h left same = subst AreViews (sym (left refl)) (AreViews-advanced _ _ h)
 either false vs ws n h left same = subst AreViews (sym (same refl)) h
 

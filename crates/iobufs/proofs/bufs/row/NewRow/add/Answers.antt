@@ -10,10 +10,11 @@ invariant_of-self c =
     let fits = c.requires.fits in
     let more = c.len-more.ensures.value in
     let total =
-    ap (λ (vs : List View). length (pieces_bytes vs)) (views-popped _ row.pieces.items _ pushed)
-    ∙ ap length (flat_map-append (λ (v : View). v.bytes) (views_in row.pieces.items) (piece ∷ []))
-    ∙ length-append (pieces_bytes (views_in row.pieces.items)) (piece.bytes ++ []) in
+    ap (λ (vs : List View). length (pieces_bytes vs)) (views-popped _ row.entries.items _ pushed)
+    ∙ ap length (flat_map-append (λ (v : View). v.bytes) (views_in row.entries.items) (piece ∷ []))
+    ∙ length-append (pieces_bytes (views_in row.entries.items)) (piece.bytes ++ []) in
     let none = ap length (append-nil piece.bytes) in (
-      row-push 0 _ row.pieces.items _ piece c.self.invariant.0 (omega (arith, more, c.if-more-ne0.true)) (omega (arith, bytes, fits)) (omega (arith, bytes, fits, more, c.self.invariant.1)) pushed,
+      row-push 0 _ row.entries.items _ piece c.self.invariant.0 (omega (arith, more, c.if-more-ne0.true)) (omega (arith, bytes, fits))
+          (omega (arith, bytes, fits, more, c.self.invariant.1)) pushed,
       omega (arith, total, none, more, c.self.invariant.1),
     )

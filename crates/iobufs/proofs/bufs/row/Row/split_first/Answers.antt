@@ -5,7 +5,8 @@ pub returns-then-at-len-clause-answer : goal.returns-then-at-len-clause-answer
 returns-then-at-len-clause-answer c =
     let first = ap (λ (vs : _). view_len (piece_at vs 0)) c.pop_front.ensures in
     let len = ap (λ (v : View). length v.bytes) c.piece.ensures in
-    sym (ap (λ xs. left_pieces xs c.args.at) c.pop_front.ensures ∙ left_pieces-first c.args.at c.pop_front.result _ c.requires.some (omega arith))
+    sym (ap (λ xs. left_pieces xs c.args.at) c.pop_front.ensures
+    ∙ left_pieces-first c.args.at c.pop_front.result _ c.requires.some (omega arith))
 
 pub returns-then-at-len-clause-left : goal.returns-then-at-len-clause-left
 returns-then-at-len-clause-left c =

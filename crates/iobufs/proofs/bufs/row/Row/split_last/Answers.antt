@@ -21,7 +21,8 @@ returns-then-place-eq0-clause-left c =
 pub invariant_of-self-2 : goal.invariant_of-self-2
 invariant_of-self-2 c =
     let piece = c.unwrap-piece.result.view in
-    let is = views-popped _ _ c.unwrap-piece.result (popped _ _ _ c.unwrap-piece.result c.pop_back-2.ensures.items c.unwrap-piece.ensures) in
+    let is = views-popped _ _ c.unwrap-piece.result
+    (popped _ _ _ c.unwrap-piece.result c.pop_back-2.ensures.items c.unwrap-piece.ensures) in
     let before = subst (IsRow c.self.inside.base) (sym c.pop_back-2.ensures.rest) (row-take c.self.inside.base _ _ c.self.invariant) in
     let vs_is = sym (ap (λ (r : ViewRow). r.views) c.self.view_is) ∙ is in
     let sum = last-sum _ _ piece c.args.at _ _ vs_is c.requires.last c.requires.place in
@@ -30,20 +31,23 @@ invariant_of-self-2 c =
     let cut = c.in_ok-view.ensures.inside (omega (arith, c.if-place-eq0.false))
     ∙ ap (λ (v : View). view_front v c.args.place.offset) (last-here _ _ piece c.args.place.index is last) in
     let len = ap (λ (v : View). length v.bytes) cut ∙ length-take-le c.args.place.offset piece.bytes (omega arith) in
-    let end = ap (λ n. (c.self.inside.base + n) % 2 ^ 64) (sum ∙ ap (λ n. length (pieces_bytes (views_in c.pop_back-2.new.self.items)) + n) (sym len)) in
+    let end = ap (λ n. (c.self.inside.base + n) % 2 ^ 64)
+    (sum ∙ ap (λ n. length (pieces_bytes (views_in c.pop_back-2.new.self.items)) + n) (sym len)) in
     row-push c.self.inside.base _ _ _ c.in_ok-view.view before (omega (arith, c.if-place-eq0.false)) (omega (arith, c.ranges.at.fits)) end
     c.push_back_reserved.ensures.items
 
 pub returns-clause-answer : goal.returns-clause-answer
 returns-clause-answer c =
-    let is = views-popped _ _ c.unwrap-piece.result (popped _ _ _ c.unwrap-piece.result c.pop_back-2.ensures.items c.unwrap-piece.ensures) in
+    let is = views-popped _ _ c.unwrap-piece.result
+    (popped _ _ _ c.unwrap-piece.result c.pop_back-2.ensures.items c.unwrap-piece.ensures) in
     last-behind _ _ c.unwrap-piece.result.view c.advance.new.self c.args.at _ _ (sym (ap (λ (r : ViewRow). r.views) c.self.view_is) ∙ is)
     c.requires.last c.requires.place c.advance.ensures
 
 pub returns-clause-left : goal.returns-clause-left
 returns-clause-left c =
     let piece = c.unwrap-piece.result.view in
-    let is = views-popped _ _ c.unwrap-piece.result (popped _ _ _ c.unwrap-piece.result c.pop_back-2.ensures.items c.unwrap-piece.ensures) in
+    let is = views-popped _ _ c.unwrap-piece.result
+    (popped _ _ _ c.unwrap-piece.result c.pop_back-2.ensures.items c.unwrap-piece.ensures) in
     let last = c.requires.last ∙ ap (λ (r : ViewRow). length r.views) (sym c.self.view_is) in
     let cut = c.in_ok-view.ensures.inside (omega (arith, c.if-place-eq0.false))
     ∙ ap (λ (v : View). view_front v c.args.place.offset) (last-here _ _ piece c.args.place.index is last) in

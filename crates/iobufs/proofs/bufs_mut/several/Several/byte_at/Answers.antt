@@ -18,7 +18,8 @@ loop-part-preserved c =
     let l = c.loop-part in
     let rest = parts_filled (deque_iter_rest c.next.new.self) in
     l.invariant ∙ ap (λ ps. slice_get (parts_filled ps) l.at) c.in-Some.ensures.steps
-    ∙ byte_behind c.in-Some.part.now.filled rest l.at (omega (arith, c.len-len.ensures)) ∙ ap (λ n. slice_get rest (l.at - n)) (sym c.len-len.ensures)
+    ∙ byte_behind c.in-Some.part.now.filled rest l.at (omega (arith, c.len-len.ensures))
+    ∙ ap (λ n. slice_get rest (l.at - n)) (sym c.len-len.ensures)
 
 pub returns : goal.returns
 returns c =

@@ -14,7 +14,8 @@ invariant_of-self c =
     let over = overwritten-order s.row.items _ s.used src c.self.invariant.behind c.copy_from_slice.ensures in
     record {
       behind = over.1;
-      no_spare = subst (λ ps. HaveNoSpare s.full ps) (sym over.0) (full-overwritten s.full (in_order s.row.items s.used) src c.self.invariant.no_spare);
+      no_spare = subst (λ ps. HaveNoSpare s.full ps) (sym over.0)
+          (full-overwritten s.full (in_order s.row.items s.used) src c.self.invariant.no_spare);
       parts = subst IsParts (sym over.0) (parts-overwritten (in_order s.row.items s.used) src c.self.invariant.parts);
       sums = summed-overwritten (in_order s.row.items s.used) _ src s.len s.capacity c.self.invariant.sums over.0;
     }
@@ -23,4 +24,5 @@ pub returns : goal.returns
 returns c =
     let s = c.self.inside in
     let src = c.args.src.now in
-    (overwritten-order s.row.items _ s.used src c.self.invariant.behind c.copy_from_slice.ensures).0 ∙ ap (λ ps. parts_overwritten ps src) c.self.view_is
+    (overwritten-order s.row.items _ s.used src c.self.invariant.behind c.copy_from_slice.ensures).0
+    ∙ ap (λ ps. parts_overwritten ps src) c.self.view_is

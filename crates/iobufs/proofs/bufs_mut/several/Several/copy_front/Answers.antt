@@ -19,13 +19,22 @@ loop-part-preserved c =
     let l = c.loop-part in
     let part = c.in-Some.part.now in
     let rest = parts_filled (deque_iter_rest c.next.new.self) in
-    let bytes : take c.min-share.result c.as_ref.result.now ≡ take c.min-share.result part.filled = ap (take c.min-share.result) c.as_ref.ensures in
+    let bytes : take c.min-share.result c.as_ref.result.now ≡ take c.min-share.result part.filled = ap
+    (take c.min-share.result) c.as_ref.ensures in
     record {
       some = omega (arith, l.invariant.some);
-      room = omega (arith, l.invariant.room, c.put_reserved.ensures.len, c.put_reserved.ensures.capacity, length-take c.min-share.result c.as_ref.result.now, c.min-share.ensures);
+      room = omega (
+        arith,
+        l.invariant.room,
+        c.put_reserved.ensures.len,
+        c.put_reserved.ensures.capacity,
+        length-take c.min-share.result c.as_ref.result.now,
+        c.min-share.ensures,
+      );
       so_far = share-turn _ l.bytes.items part.filled rest l.rest c.min-share.result (c.min-share.ensures ∙ ap (min l.rest) c.len.ensures)
           (l.invariant.so_far ∙ ap (λ ps. l.bytes.items ++ take l.rest (parts_filled ps)) c.in-Some.ensures.steps)
-          ∙ ap (λ w. w ++ take (l.rest - c.min-share.result) rest) (ap (λ w. l.bytes.items ++ w) (sym bytes) ∙ sym c.put_reserved.ensures.items);
+          ∙ ap (λ w. w ++ take (l.rest - c.min-share.result) rest)
+          (ap (λ w. l.bytes.items ++ w) (sym bytes) ∙ sym c.put_reserved.ensures.items);
     }
 
 pub put_reserved-requires : goal.put_reserved-requires
@@ -38,7 +47,8 @@ returns-clause-bytes c =
     elim c.match-next.branch [
       | in-None w ↦
           let none : deque_iter_rest l.part-iterator ≡ [] = nil_from_length _ w.in-None.ensures.steps.0 in
-          sym (l.invariant.so_far ∙ ap (left l.rest) none ∙ ap (λ bytes. l.bytes.items ++ bytes) (take-nil l.rest) ∙ append-nil l.bytes.items)
+          sym (l.invariant.so_far ∙ ap (left l.rest) none ∙ ap (λ bytes. l.bytes.items ++ bytes) (take-nil l.rest)
+          ∙ append-nil l.bytes.items)
       | in-Some+then-rest-eq0 w ↦
           let done : l.rest ≡ 0 = omega (arith, w.if-rest-eq0.true) in
           sym (l.invariant.so_far ∙ ap (λ k. left k (deque_iter_rest l.part-iterator)) done ∙ append-nil l.bytes.items)

@@ -5,7 +5,12 @@ use Rattle.iobufs.proofs.bufs_mut.several.Several.put_bytes.Goals as goal
 pub overflow_add-self : goal.overflow_add-self
 overflow_add-self c =
     let s = c.self.inside in
-    omega (arith, spare-summed (in_order s.row.items s.used) s.len s.capacity c.self.invariant.sums, ap parts_spare c.self.view_is, c.requires)
+    omega (
+      arith,
+      spare-summed (in_order s.row.items s.used) s.len s.capacity c.self.invariant.sums,
+      ap parts_spare c.self.view_is,
+      c.requires,
+    )
 
 pub invariant_of-self : goal.invariant_of-self
 invariant_of-self c =
@@ -15,6 +20,7 @@ invariant_of-self c =
     let filled = c.put_bytes.ensures ∙ ap (λ ps. parts_fill ps w) c.settle.ensures.ordered in
     let sums = summed-fill (in_order s.row.items s.used) _ w s.len s.capacity c.self.invariant.sums
     (omega (arith, ap parts_spare c.self.view_is, c.requires)) filled in
-    let full = subst (λ ps. HaveNoSpare c.count_full-self-inside.result ps) (sym c.put_bytes.ensures) (full-fill _ _ w c.count_full-self-inside.ensures) in
+    let full = subst (λ ps. HaveNoSpare c.count_full-self-inside.result ps) (sym c.put_bytes.ensures)
+    (full-fill _ _ w c.count_full-self-inside.ensures) in
     kept-none _ _ _ _ s.capacity c.settle.ensures.none full (rw (← long) sums)
     (subst IsParts (sym filled) (parts-fill (in_order s.row.items s.used) w c.self.invariant.parts))

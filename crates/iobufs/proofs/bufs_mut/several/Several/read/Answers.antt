@@ -25,7 +25,8 @@ loop-part-preserved c =
     let bytes : here ≡ take n part.filled = c.copy_from_slice.ensures.after ∙ ap (take n) c.as_ref.ensures in
     let long : l.at + n ≡ l.at + length here = omega (arith, ap (λ (w : List ℕ). length w) bytes, length-take n part.filled) in
     let written = take-put_mid l.at k l.dst here (l.at + n) long l.invariant.within ∙ ap (λ w. take l.at l.dst ++ w) bytes in
-    let so_far = read-turn _ l.dst _ part.filled (parts_filled (deque_iter_rest c.next.new.self)) len l.at n l.invariant.within share written
+    let so_far = read-turn _ l.dst _ part.filled (parts_filled
+    (deque_iter_rest c.next.new.self)) len l.at n l.invariant.within share written
     (l.invariant.so_far ∙ ap (λ ps. take l.at l.dst ++ take (len - l.at) (parts_filled ps)) c.in-Some.ensures.steps) in
     rw (same_len_mid l.at k l.dst here c.copy_from_slice.ensures.len) (record { within = omega arith; so_far = so_far })
 
@@ -33,5 +34,6 @@ pub returns : goal.returns
 returns c =
     let l = c.loop-part in
     read-done _ l.dst l.at l.invariant.within (omega (arith, l.auto.dst, c.requires))
-    (l.invariant.so_far ∙ ap (λ ps. take l.at l.dst ++ take (length l.dst - l.at) (parts_filled ps)) (nil_from_length _ c.in-None.ensures.steps.0))
+    (l.invariant.so_far ∙ ap (λ ps. take l.at l.dst ++ take (length l.dst - l.at) (parts_filled ps))
+    (nil_from_length _ c.in-None.ensures.steps.0))
     ∙ ap (λ m. take m (parts_filled c.args.self.now)) l.auto.dst

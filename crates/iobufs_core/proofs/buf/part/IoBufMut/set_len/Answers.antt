@@ -9,8 +9,10 @@ returns c =
     let n = c.args.n in
     let long = c.resize.new.self in
     let len : vec_len long ≡ s.start + n = rw c.unwrap.ensures at c.resize.ensures.len in
-    let items_are : long.items ≡ take (s.start + n) items ++ replicate (s.start + n - vec_len s.storage) 0 = rw c.unwrap.ensures at c.resize.ensures.items in
-    let zeros : s.start + n - vec_len s.storage ≡ n - length (drop s.start items) = omega (arith, length-drop s.start items, s.storage.ok.0) in
+    let items_are : long.items ≡ take (s.start + n) items
+    ++ replicate (s.start + n - vec_len s.storage) 0 = rw c.unwrap.ensures at c.resize.ensures.items in
+    let zeros : s.start + n - vec_len s.storage ≡ n - length (drop s.start items) = omega
+    (arith, length-drop s.start items, s.storage.ok.0) in
     let filled : drop s.start long.items ≡ take n (drop s.start items) ++ replicate (n - length (drop s.start items)) 0 =
     rw (items_are, zeros) (drop_resized s.start n items (replicate (n - length (drop s.start items)) 0) (omega (arith, s.storage.ok.0))) in
     let spare : s.limit - vec_len long ≡ length (drop s.start items) + (s.limit - vec_len s.storage) - n =

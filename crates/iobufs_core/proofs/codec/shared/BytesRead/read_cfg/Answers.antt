@@ -7,11 +7,17 @@ use Rattle.iobufs_core.specs.declared.codec.base.RangeCfg.{RangeCfg}
 use Rattle.iobufs_core.specs.ReadBytes.{bytes-taken_view, left_by_copy, rest_by_copy}
 use Rattle.iobufs_core.proofs.codec.shared.BytesRead.read_cfg.Goals as goal
 
-answered : {Reader : Type 0} (copied : Reader → ℕ → Reader) (text : MarkedText) (range : RangeCfg) (old new : Reader) (result : Result (List ℕ) Error)
+answered : {Reader : Type 0} (copied : Reader → ℕ → Reader) (text : MarkedText) (range : RangeCfg) (old new : Reader)
+    (result : Result (List ℕ) Error)
     → IfOk result (IsTaken (λ view bytes. bytes ≡ view.bytes) copied text range old new)
     → IfErr result (IsViewFault text range)
     → IsBytesRead text range result
-answered copied text range old new (Ok bytes) taken fault = (taken.n, taken.there, taken.made ∙ bytes-taken_view text (length (spell taken.n)) taken.n)
+answered copied text range old new (Ok bytes) taken fault = (
+  taken.n,
+  taken.there,
+  taken.made
+      ∙ bytes-taken_view text (length (spell taken.n)) taken.n,
+)
 answered copied text range old new (Err e) taken fault = fault
 
 pub returns-clause-answer : goal.returns-clause-answer
@@ -31,5 +37,6 @@ returns-clause-rest g c =
     rest_by_copy (λ (bytes : List ℕ). bytes) (λ view bytes. bytes ≡ view.bytes) g.B.Buf.copied g.B.OwnedBuf.marked
     c.args.range.now before c.read_bytes.new.buf c.read_bytes.result
     (λ view bytes e. e)
-    (λ n within. g.met.B.OwnedBuf.copies_marked before n (subst (λ (xs : List ℕ). n ≤ length xs) (g.met.B.OwnedBuf.same_text before) within))
+    (λ n within. g.met.B.OwnedBuf.copies_marked before n
+    (subst (λ (xs : List ℕ). n ≤ length xs) (g.met.B.OwnedBuf.same_text before) within))
     c.read_bytes.ensures.ok

@@ -13,7 +13,8 @@ returns-clause-ok g c =
     let sized =
     subst (λ (k : ℕ). g.B.BufsMut.done c.args.buf.now (put_item (spell k) ∷ push_item (view_of_bytes c.in_ok-bytes.bytes) ∷ [])
     c.push_bytes.new.self) c.len.ensures.value both in
-    subst (λ (bytes : List ℕ). g.B.BufsMut.done c.args.buf.now (put_item (spell (length c.args.self.now)) ∷ push_item (view_of_bytes bytes) ∷ [])
+    subst (λ (bytes : List ℕ). g.B.BufsMut.done c.args.buf.now
+    (put_item (spell (length c.args.self.now)) ∷ push_item (view_of_bytes bytes) ∷ [])
     c.push_bytes.new.self) c.in_ok-bytes.ensures.cases sized
 
 pub returns-then-is_empty-clause-ok : goal.returns-then-is_empty-clause-ok
@@ -22,5 +23,6 @@ returns-then-is_empty-clause-ok g c =
     let put = g.met.B.BufsMut.puts _ _ _ c.put_length.ensures in
     let skipped = g.met.B.BufsMut.skips _ (view_of_bytes c.args.self.now) (ap length (view_of_bytes-bytes c.args.self.now) ∙ none) in
     let both = g.met.B.BufsMut.follows _ _ _ _ _ put skipped in
-    subst (λ (k : ℕ). g.B.BufsMut.done c.args.buf.now (put_item (spell k) ∷ push_item (view_of_bytes c.args.self.now) ∷ []) c.put_length.new.buf)
+    subst (λ (k : ℕ). g.B.BufsMut.done c.args.buf.now
+    (put_item (spell k) ∷ push_item (view_of_bytes c.args.self.now) ∷ []) c.put_length.new.buf)
     (sym none) both

@@ -7,7 +7,8 @@ use Rattle.iobufs_core.specs.declared.codec.base.RangeCfg.{RangeCfg}
 use Rattle.iobufs_core.specs.ReadBytes.{left_by_copy, rest_by_copy}
 use Rattle.iobufs_core.proofs.codec.wire.IoBufRead.read_cfg.Goals as goal
 
-answered : {Reader : Type 0} (copied : Reader → ℕ → Reader) (text : MarkedText) (range : RangeCfg) (old new : Reader) (result : Result View Error)
+answered : {Reader : Type 0} (copied : Reader → ℕ → Reader) (text : MarkedText) (range : RangeCfg) (old new : Reader)
+    (result : Result View Error)
     → IfOk result (IsTaken (λ view made. made ≡ view) copied text range old new)
     → IfErr result (IsViewFault text range)
     → IsViewRead text range result
@@ -31,5 +32,6 @@ returns-clause-rest g c =
     rest_by_copy (λ (view : View). view.bytes) (λ view made. made ≡ view) g.B.Buf.copied g.B.OwnedBuf.marked
     c.args.range.now before c.read_bytes.new.buf c.read_bytes.result
     (λ view made e. ap (λ (v : View). v.bytes) e)
-    (λ n within. g.met.B.OwnedBuf.copies_marked before n (subst (λ (xs : List ℕ). n ≤ length xs) (g.met.B.OwnedBuf.same_text before) within))
+    (λ n within. g.met.B.OwnedBuf.copies_marked before n
+    (subst (λ (xs : List ℕ). n ≤ length xs) (g.met.B.OwnedBuf.same_text before) within))
     c.read_bytes.ensures.ok

@@ -15,4 +15,5 @@ returns-then-is_empty-clause-ok g c =
     let none : length c.args.self.now.bytes ≡ 0 = eqb-true _ _ (sym c.is_empty.ensures ∙ c.if-is_empty.true) in
     let put = g.met.B.BufsMut.puts _ _ _ c.put_length.ensures in
     let both = g.met.B.BufsMut.follows _ _ _ _ _ put (g.met.B.BufsMut.skips _ c.args.self.now none) in
-    subst (λ (k : ℕ). g.B.BufsMut.done c.args.buf.now (put_item (spell k) ∷ push_item c.args.self.now ∷ []) c.put_length.new.buf) (sym none) both
+    subst (λ (k : ℕ). g.B.BufsMut.done c.args.buf.now (put_item (spell k) ∷ push_item c.args.self.now ∷ []) c.put_length.new.buf)
+    (sym none) both
