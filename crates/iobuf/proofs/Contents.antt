@@ -14,5 +14,6 @@ line_more bs line (Some xs) None e a = absurd a
 line_more bs line None new e a = cc e
 
 -- a property of known contents stays true
-pub stays : (P : Option (List ℕ) → Type 0) (bs : List ℕ) (written new : Option (List ℕ)) → written ≡ Some bs → Keeps written new → P written → P new
+pub stays : (P : Option (List ℕ) → Type 0) (bs : List ℕ) (written new : Option (List ℕ)) → written ≡ Some bs → Keeps written new → P written
+    → P new
 stays P bs written new e keeps p = subst P (e ∙ sym (kept bs written new e keeps)) p

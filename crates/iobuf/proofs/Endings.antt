@@ -12,20 +12,23 @@ FirstOf Machine = MachineAnsweredFirst
 -- all of their answers are written
 first_told : (half : Half) (input before : List ℕ) (written : Option (List ℕ)) (count : ℕ) → FirstOf half input before count written
     → Halts (FirstOf half input before) input written Writing
-first_told Buffers input before written count (names, left, a) = halted (AnsweredFirst input before) input count _ written Writing a.prints (names, left, a) tt
+first_told Buffers input before written count (names, left, a) = halted (AnsweredFirst input before) input count _ written Writing a.prints
+    (names, left, a) tt
 first_told Machine input before written count (inl (start, e)) =
     halted (MachineAnsweredFirst input before) input count before written Writing e (inl (start, e)) tt
 first_told Machine input before written count (inr (left, a)) =
     halted (MachineAnsweredFirst input before) input count _ written Writing a.prints (inr (left, a)) tt
 
-halts_told : (half : Half) (input before : List ℕ) (written : Option (List ℕ)) (fault : Obstacle) → Halts (FirstOf half input before) input written fault
+halts_told : (half : Half) (input before : List ℕ) (written : Option (List ℕ)) (fault : Obstacle)
+    → Halts (FirstOf half input before) input written fault
     → Halts (FirstOf half input before) input written Writing
 halts_told half input before written Writing s = s
 halts_told half input before written TooManyLines s = first_told half input before written _ s
 halts_told half input before written fault s = first_told half input before written s.0 s.1
 
 -- however a session ends, what is written is a front of the answers
-so_far : (half : Half) (input before : List ℕ) (written : Option (List ℕ)) (served : Result (Unit {0}) Stop) → ServesHalf half input before written served
+so_far : (half : Half) (input before : List ℕ) (written : Option (List ℕ)) (served : Result (Unit {0}) Stop)
+    → ServesHalf half input before written served
     → Halts (FirstOf half input before) input written Writing
 so_far Buffers input before written (Ok done) (count, names, a) = first_told Buffers input before written count (names, [], a)
 so_far Machine input before written (Ok done) (inl none) = first_told Machine input before written 0 (inl (refl, none.prints))
@@ -47,7 +50,8 @@ not_sent : (half : Half) (input before : List ℕ) (written : Option (List ℕ))
 not_sent Buffers input before written halts = halts
 not_sent half input before written halts = halts
 
--- a half that served its input up to where it stopped, and whose replies couldn't be sent off then, ends with what is written as it was, by a fault of writing
+-- a half that served its input up to where it stopped, and whose replies couldn't be sent off then, ends with what is written as it was, by
+-- a fault of writing
 pub unsent : (half : Half) (read told written new : Option (List ℕ)) (served : Result (Unit {0}) Stop)
     → IfSome read (λ input. IfSome told (λ before. ServesHalf half input before written served)) → Keeps written new
     → IfSome read (λ input. IfSome told (λ before. ServesHalf half input before new (Err (CannotContinue Writing))))
@@ -69,7 +73,8 @@ not_begun half read told = tt
 pub unbegun : (half : Half) (read told new : Option (List ℕ)) → Keeps told new
     → IfSome read (λ input. IfSome told (λ before. ServesHalf half input before new (Err (CannotContinue Memory))))
 unbegun half (Some input) (Some before) new keeps =
-    stays (λ w. ServesHalf half input before w (Err (CannotContinue Memory))) before (Some before) new refl keeps (not_begun half (Some input) (Some before))
+    stays (λ w. ServesHalf half input before w (Err (CannotContinue Memory))) before (Some before) new refl keeps
+    (not_begun half (Some input) (Some before))
 unbegun half read told new keeps = tt
 
 -- a session may end at a line that says nothing

@@ -79,18 +79,21 @@ digit_there (d ∷ front) c behind h = digit_there front c behind h.1
 abbrev pub Bad : (n c : ℕ) → Type 0
 Bad n c = (10 ≤ digit_value c) ⊎ (2 ^ 64 ≤ n * 10 + digit_value c)
 
-bad_number : (front : List ℕ) (c : ℕ) (behind : List ℕ) (n : ℕ) → digits_value 10 front ≡ n → Bad n c → number_of (front ++ c ∷ behind) ≡ None
+bad_number : (front : List ℕ) (c : ℕ) (behind : List ℕ) (n : ℕ) → digits_value 10 front ≡ n → Bad n c
+    → number_of (front ++ c ∷ behind) ≡ None
 bad_number front c behind n value (inl over) =
     no_number (front ++ c ∷ behind) (λ digits low. let there = digit_there front c behind digits in omega (arith, there, over))
 bad_number front c behind n value (inr over) =
     no_number (front ++ c ∷ behind) (λ digits low.
     let most = digits_value-take-le 10 (front ++ c ∷ behind) (length (front ++ c ∷ [])) (omega arith) in
-    let seam = ap (take (length (front ++ c ∷ []))) (sym (append_assoc front (c ∷ []) behind)) ∙ take-append_seam (front ++ c ∷ []) behind in
+    let seam = ap (take (length (front ++ c ∷ []))) (sym (append_assoc front (c ∷ []) behind))
+    ∙ take-append_seam (front ++ c ∷ []) behind in
     let is = ap (digits_value 10) seam ∙ digits_value_push 10 front c in
     omega (arith, most, is, value, over, low))
 
 -- a word with a byte that is no digit, or whose digits say too much, says no number
-pub none_said : (word : List ℕ) (place n : ℕ) → place < length word → Shown word place n → Bad n (get_or word place 0) → number_of word ≡ None
+pub none_said : (word : List ℕ) (place n : ℕ) → place < length word → Shown word place n → Bad n (get_or word place 0)
+    → number_of word ≡ None
 none_said word place n inside s bad =
     ap number_of (cut_at word place inside) ∙ bad_number (take place word) (get_or word place 0) (drop (place + 1) word) n s.value bad
 
@@ -113,7 +116,9 @@ none_there line place n inside s at_start bad = by (eqb (get_or line place 0) 32
         let behind = drop (place + 1) line in
         let word = get_or (words_of behind) 0 [] in
         let more = drop 1 (words_of behind) in
-        let first : words_of behind ≡ word ∷ more = drop-cons (words_of behind) 0 [] (omega (arith, length-slice_split (λ b. eqb b 32) behind)) in
+        let first : words_of behind ≡ word ∷ more = drop-cons (words_of behind) 0 []
+        (omega (arith, length-slice_split (λ b. eqb b 32) behind)) in
         let on : words_of (c ∷ behind) ≡ (c ∷ word) ∷ more = rw e (ap (onto_first c) first) in
-        let is = ap words_of (cut_at line place inside) ∙ onto_word front (c ∷ behind) (c ∷ word) more (spaceless_digits front s.digits) on in
+        let is = ap words_of (cut_at line place inside)
+        ∙ onto_word front (c ∷ behind) (c ∷ word) more (spaceless_digits front s.digits) on in
         ap first_number is ∙ bad_number front c word n s.value bad

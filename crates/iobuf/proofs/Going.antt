@@ -3,7 +3,8 @@ use Rattle.iobuf.proofs.Known.{refl, Err, IfSome, List, None, Ok, Option, Result
 use Rattle.iobuf.proofs.Contents.{kept, line_more, stays}
 
 -- a property of known bytes follows from another
-pub where_known : {P Q : List ℕ → List ℕ → Type 0} (read told : Option (List ℕ)) → IfSome read (λ input. IfSome told (λ before. P input before))
+pub where_known : {P Q : List ℕ → List ℕ → Type 0} (read told : Option (List ℕ))
+    → IfSome read (λ input. IfSome told (λ before. P input before))
     → ((input before : List ℕ) → P input before → Q input before) → IfSome read (λ input. IfSome told (λ before. Q input before))
 where_known (Some input) (Some before) p more = more input before p
 where_known read told p more = tt
@@ -27,12 +28,14 @@ pub record Laws : Type 1 where
   pub all : (input before : List ℕ) (written : Option (List ℕ)) (count : ℕ) (s : State)
       → Answered input before [] written count s → Serves input before written (Ok tt)
   pub stops : (input before : List ℕ) (left : List (Option Said)) (written : Option (List ℕ)) (count number : ℕ) (s : State)
-      → Answered input before (None ∷ left) written count s → number ≡ count + 1 → IsTextAt input count → Serves input before written (Err (BadCommand number))
+      → Answered input before (None ∷ left) written count s → number ≡ count + 1 → IsTextAt input count
+      → Serves input before written (Err (BadCommand number))
   pub halts : (input before : List ℕ) (written : Option (List ℕ)) (fault : Obstacle)
       → Halts (First input before) input written fault → Serves input before written (Err (CannotContinue fault))
 
 -- some lines are answered, the lines `ahead` were read and `left` is to be read, and the next line has this number
-pub record GoesOn (k : Laws) (input before : List ℕ) (ahead : List (List ℕ)) (left written : Option (List ℕ)) (number : ℕ) (s : k.State) : Type 0 where
+pub record GoesOn (k : Laws) (input before : List ℕ) (ahead : List (List ℕ)) (left written : Option (List ℕ)) (number : ℕ)
+    (s : k.State) : Type 0 where
   pub rest : List ℕ
   pub count : ℕ
   pub front : List (List ℕ)
@@ -43,8 +46,10 @@ pub record GoesOn (k : Laws) (input before : List ℕ) (ahead : List (List ℕ))
   pub answered : k.Answered input before (map k.says (ahead ++ lines rest)) written count s
 
 -- a session goes on, if the reader determines its bytes and the writer its contents
-abbrev pub Going : (k : Laws) → (read told : Option (List ℕ)) → (ahead : List (List ℕ)) → (left written : Option (List ℕ)) → ℕ → k.State → Type 0
-Going k read told ahead left written number s = IfSome read (λ input. IfSome told (λ before. GoesOn k input before ahead left written number s))
+abbrev pub Going : (k : Laws) → (read told : Option (List ℕ)) → (ahead : List (List ℕ)) → (left written : Option (List ℕ)) → ℕ → k.State
+    → Type 0
+Going k read told ahead left written number s = IfSome read
+    (λ input. IfSome told (λ before. GoesOn k input before ahead left written number s))
 
 -- a session has ended
 abbrev pub Ended : Laws → (read told written : Option (List ℕ)) → Result (Unit {0}) Stop → Type 0
@@ -73,13 +78,15 @@ line_read k read told left next written mid line text number s g takes keeps sam
       number_is = g.number_is;
       split = g.split ∙ ap (λ l. g.front ++ l) taken.split;
       counts = g.counts;
-      answered = stays (λ w. k.Answered input before (k.says (line_text line) ∷ map k.says (lines taken.rest)) w g.count s) bs written mid is keeps
+      answered = stays (λ w. k.Answered input before
+          (k.says (line_text line) ∷ map k.says (lines taken.rest)) w g.count s) bs written mid is keeps
           (subst (λ (l : List (Option k.Said)). k.Answered input before l written g.count s) (ap (map k.says) taken.split) g.answered);
     }))
 
 -- a line that was read and answered, and whose answer is written, is one more answered line
 pub line_answered : (k : Laws) (read told left mid new : Option (List ℕ)) (line reply : List ℕ) (number : ℕ) (s after : k.State)
-    → Going k read told (line ∷ []) left mid number s → k.Answers line s after reply → Appends mid new reply → Going k read told [] left new (number + 1) after
+    → Going k read told (line ∷ []) left mid number s → k.Answers line s after reply → Appends mid new reply
+    → Going k read told [] left new (number + 1) after
 line_answered k read told left mid new line reply number s after r said e =
     where_known read told r (λ input before r. record {
       rest = r.rest;
@@ -96,7 +103,8 @@ line_answered k read told left mid new line reply number s after r said e =
 
 -- where there is no further line, the session ends with each line answered
 pub all_answered : (k : Laws) (read told left written mid : Option (List ℕ)) (number : ℕ) (s : k.State)
-    → Going k read told [] left written number s → IfSome left (λ bytes. lines bytes ≡ []) → Keeps written mid → Ended k read told mid (Ok tt)
+    → Going k read told [] left written number s → IfSome left (λ bytes. lines bytes ≡ []) → Keeps written mid
+    → Ended k read told mid (Ok tt)
 all_answered k read told left written mid number s g takes keeps =
     where_known read told g (λ input before g.
     let none = rw g.left_is at takes in
@@ -105,7 +113,8 @@ all_answered k read told left written mid number s g takes keeps =
     (subst (λ (l : List (Option k.Said)). k.Answered input before l written g.count s) (ap (map k.says) none) g.answered)))
 
 stopped : (k : Laws) (input before line : List ℕ) (left mid : Option (List ℕ)) (number : ℕ) (s : k.State) (stop : Stop)
-    → GoesOn k input before (line ∷ []) left mid number s → k.says line ≡ None → IsStopAt line number stop → k.Serves input before mid (Err stop)
+    → GoesOn k input before (line ∷ []) left mid number s → k.says line ≡ None → IsStopAt line number stop
+    → k.Serves input before mid (Err stop)
 stopped k input before line left mid number s stop r none (inl (is, e)) =
     rw e (k.stops _ _ _ _ _ _ _
     (subst (λ (o : Option k.Said). k.Answered input before (o ∷ map k.says (lines r.rest)) mid r.count s) none r.answered) r.number_is
@@ -122,7 +131,8 @@ stopped k input before line left mid number s stop r none (inr (bad, e)) =
 -- a line that says nothing ends the session
 pub stops_at : (k : Laws) (read told left mid : Option (List ℕ)) (line : List ℕ) (number : ℕ) (s : k.State) (stop : Stop)
     → Going k read told (line ∷ []) left mid number s → k.says line ≡ None → IsStopAt line number stop → Ended k read told mid (Err stop)
-stops_at k read told left mid line number s stop r none why = where_known read told r (λ input before r. stopped k _ _ _ _ _ _ _ _ r none why)
+stops_at k read told left mid line number s stop r none why = where_known read told r
+    (λ input before r. stopped k _ _ _ _ _ _ _ _ r none why)
 
 -- a failed allocation for a line that was read ends the session
 pub no_memory : (k : Laws) (read told left mid : Option (List ℕ)) (line : List ℕ) (number : ℕ) (s : k.State)
@@ -139,7 +149,8 @@ too_many k read told left written number s g e =
     k.halts _ _ _ TooManyLines (subst (λ (count : ℕ). k.First input before count written) counted (k.first _ _ _ _ _ _ g.answered)))
 
 -- lines are answered and written, and no line can be read after them
-pub halted : (First : ℕ → Option (List ℕ) → Type 0) (input : List ℕ) (count : ℕ) (bs : List ℕ) (written : Option (List ℕ)) (fault : Obstacle)
+pub halted : (First : ℕ → Option (List ℕ) → Type 0) (input : List ℕ) (count : ℕ) (bs : List ℕ) (written : Option (List ℕ))
+    (fault : Obstacle)
     → written ≡ Some bs → First count written → ReadFails fault → Halts First input written fault
 halted First input count bs written Writing e a why =
     (count, bs, subst (First count) e a, record { front = bs; rest = []; split = sym (append-nil bs); written_is = e })
@@ -158,7 +169,8 @@ not_read k read told left written mid number s fault g why keeps =
 
 -- lines are answered and written, and the reply to a further one isn't taken whole
 pub cut : (First : ℕ → Option (List ℕ) → Type 0) (input reply bs : List ℕ) (count : ℕ) (mid new : Option (List ℕ)) (fault : Obstacle)
-    → mid ≡ Some bs → First count mid → (Appends mid (Some (bs ++ reply)) reply → First (count + 1) (Some (bs ++ reply))) → Takes mid new reply (Err fault)
+    → mid ≡ Some bs → First count mid → (Appends mid (Some (bs ++ reply)) reply → First (count + 1) (Some (bs ++ reply)))
+    → Takes mid new reply (Err fault)
     → Halts First input new fault
 cut First input reply bs count mid new Writing is a more (n, e) = (
   count + 1,
@@ -175,7 +187,8 @@ cut First input reply bs count mid new Memory is a more takes = (count, stays (F
 cut First input reply bs count mid new fault is a more takes = absurd takes
 
 -- where the answer to a line isn't taken whole, the session ends by this fault
-pub not_written : (k : Laws) (read told left mid new : Option (List ℕ)) (line reply : List ℕ) (number : ℕ) (s after : k.State) (fault : Obstacle)
+pub not_written : (k : Laws) (read told left mid new : Option (List ℕ)) (line reply : List ℕ) (number : ℕ) (s after : k.State)
+    (fault : Obstacle)
     → Going k read told (line ∷ []) left mid number s → k.Answers line s after reply → Takes mid new reply (Err fault)
     → Ended k read told new (Err (CannotContinue fault))
 not_written k read told left mid new line reply number s after fault r said takes =

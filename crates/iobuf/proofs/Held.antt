@@ -28,7 +28,18 @@ on_ok (Err e) f a = tt
 
 -- a vector of these elements, if there are few enough, at the address of another
 abbrev vec_of : {X : Type 0} → Vec ℕ Global → (xs : List X) → length xs < 2 ^ 63 → Vec X Global
-vec_of v xs few = record { ptr = v.ptr; len = length xs; cap = length xs; alloc = v.alloc; items = xs; ok = (refl, omega arith); small = few }
+vec_of v xs few = record {
+  ptr = v.ptr;
+  len = length xs;
+  cap = length xs;
+  alloc = v.alloc;
+  items = xs;
+  ok = (
+    refl,
+    omega arith,
+  );
+  small = few;
+}
 
 -- each piece is short enough for a vector
 abbrev Short : List (List ℕ × ℕ) → Type 0
@@ -71,11 +82,13 @@ measured k (piece ∷ pieces) low =
     let (short, more) = measured k pieces (omega (arith, both, low)) in
     ((omega (arith, one, both, low), short), omega (arith, more, one, both))
 
--- where no cause holds against `Show`, and after a text stands the kind of what is held, its pieces and an end of a line, the line of a reply
+-- where no cause holds against `Show`, and after a text stands the kind of what is held, its pieces and an end of a line, the line of a
+-- reply
 -- is printed
 pub is_printed : (names : List Slot) (target : ℕ) (k : Kind) (v : Vec ℕ Global) (before named all after : List ℕ)
     → refusal_for names (Show target) ≡ None → kind_of (slot_named names target) ≡ Some k
-    → named ≡ before ++ kind_text k → all ≡ named ++ flat_map (held_text k) (pieces_of (slot_named names target)) → after ≡ all ++ codes "\n"
+    → named ≡ before ++ kind_text k → all ≡ named ++ flat_map (held_text k) (pieces_of (slot_named names target))
+    → after ≡ all ++ codes "\n"
     → length all < 2 ^ 63 → IsReplied names (Show target) names before after
 is_printed names target k v before named all after causes is first pieces last low =
     let held = pieces_of (slot_named names target) in

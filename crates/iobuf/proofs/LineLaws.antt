@@ -12,7 +12,8 @@ ends_is b bs = let less : suc (length bs) - 1 ≡ length bs = omega arith in rw 
 data Parted (bs : List ℕ) : Type 0 where
   Broken : (xs ys : List ℕ) → take_through 10 bs ≡ xs ++ 10 ∷ [] → drop_through 10 bs ≡ ys
       → slice_split (λ b. eqb b 10) bs ≡ xs ∷ slice_split (λ b. eqb b 10) ys → Parted bs
-  Whole : take_through 10 bs ≡ bs → drop_through 10 bs ≡ [] → slice_split (λ b. eqb b 10) bs ≡ bs ∷ [] → ends_with_byte 10 bs ≡ false → Parted bs
+  Whole : take_through 10 bs ≡ bs → drop_through 10 bs ≡ [] → slice_split (λ b. eqb b 10) bs ≡ bs ∷ [] → ends_with_byte 10 bs ≡ false
+      → Parted bs
 
 ends_cons : (b : ℕ) (bs : List ℕ) → eqb b 10 ≡ false → ends_with_byte 10 bs ≡ false → ends_with_byte 10 (b ∷ bs) ≡ false
 ends_cons b [] e w = e

@@ -67,13 +67,21 @@ abbrev pub ReadsFirst : (read told : Option (List ℕ)) → (line : List ℕ) �
 ReadsFirst read told line left written = IfSome read (λ input. IfSome told (λ before. ReadFirst input before line left written))
 
 -- where the first line was taken and nothing is written, the session has read its text
-pub first_read : (read told : Option (List ℕ)) (next written : Option (List ℕ)) (line text : List ℕ) → TakesLine read next line true → Keeps told written
+pub first_read : (read told : Option (List ℕ)) (next written : Option (List ℕ)) (line text : List ℕ) → TakesLine read next line true
+    → Keeps told written
     → text ≡ line_text line → ReadsFirst read told text next written
 first_read (Some input) (Some before) next written line text takes keeps same =
-    rw same (record { rest = takes.rest; left_is = takes.left_is; split = takes.split; written_is = kept before (Some before) written refl keeps })
+    rw same (record {
+      rest = takes.rest;
+      left_is = takes.left_is;
+      split = takes.split;
+      written_is = kept before
+          (Some before) written refl keeps;
+    })
 first_read read told next written line text takes keeps same = tt
 
-first_stopped : (input before line : List ℕ) (left written : Option (List ℕ)) (stop : Stop) → ReadFirst input before line left written → setup_of line ≡ None
+first_stopped : (input before line : List ℕ) (left written : Option (List ℕ)) (stop : Stop) → ReadFirst input before line left written
+    → setup_of line ≡ None
     → IsStopAt line 1 stop → ServesMachine input before written (Err stop)
 first_stopped input before line left written stop r none (inl (is, e)) =
     rw e (
@@ -86,7 +94,8 @@ first_stopped input before line left written stop r none (inr (bad, e)) =
     rw e (0, inl (refl, r.written_is), line, record { front = []; behind = lines r.rest; split = r.split; counts = refl }, bad)
 
 -- a first line that asks for no machine ends the session
-pub first_stops : (read told left written : Option (List ℕ)) (line : List ℕ) (stop : Stop) → ReadsFirst read told line left written → setup_of line ≡ None
+pub first_stops : (read told left written : Option (List ℕ)) (line : List ℕ) (stop : Stop) → ReadsFirst read told line left written
+    → setup_of line ≡ None
     → IsStopAt line 1 stop → Ended machine read told written (Err stop)
 first_stops read told left written line stop r none why = where_known read told r (λ input before r. first_stopped _ _ _ _ _ _ r none why)
 
@@ -136,16 +145,19 @@ begun input before line left mid new m r b e =
     }
 
 -- a first line that asks for a machine, and is answered by `ok`, is answered: line 2 is next, with the new machine
-pub first_begun : (read told left mid new : Option (List ℕ)) (line : List ℕ) (m : Seen) → ReadsFirst read told line left mid → MakesMachine line (Ok m)
+pub first_begun : (read told left mid new : Option (List ℕ)) (line : List ℕ) (m : Seen) → ReadsFirst read told line left mid
+    → MakesMachine line (Ok m)
     → Appends mid new (with_line_end (codes "ok")) → Going machine read told [] left new 2 m
 first_begun read told left mid new line m r b e = where_known read told r (λ input before r. begun _ _ _ _ _ _ _ r b e)
 
 -- where the `ok` for a machine isn't taken whole, the session ends by this fault
-pub first_not_written : (read told left mid new : Option (List ℕ)) (line : List ℕ) (m : Seen) (fault : Obstacle) → ReadsFirst read told line left mid
+pub first_not_written : (read told left mid new : Option (List ℕ)) (line : List ℕ) (m : Seen) (fault : Obstacle)
+    → ReadsFirst read told line left mid
     → MakesMachine line (Ok m)
     → Takes mid new (with_line_end (codes "ok")) (Err fault) → Ended machine read told new (Err (CannotContinue fault))
 unfolding begun
 first_not_written read told left mid new line m fault r b takes =
     where_known read told r (λ input before r.
-    cut (MachineAnsweredFirst input before) input (with_line_end (codes "ok")) before 0 mid new fault r.written_is (inl (refl, r.written_is))
+    cut (MachineAnsweredFirst input before) input (with_line_end (codes "ok")) before 0 mid new fault r.written_is
+    (inl (refl, r.written_is))
     (λ e. inr (map ask_of (lines r.rest), (begun input before line left mid _ m r b e).answered.0)) takes)

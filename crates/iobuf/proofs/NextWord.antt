@@ -11,7 +11,10 @@ NoSpace line end = (k : ℕ) → k < end → slice_index line k ≢ 32
 spaceless_to : (line : List ℕ) (end : ℕ) → NoSpace line end → Lacks 32 (take end line)
 spaceless_to line zero before = tt
 spaceless_to [] (suc end) before = tt
-spaceless_to (b ∷ bs) (suc end) before = (ne_eqb b 32 (before 0 (omega arith)), spaceless_to bs end (λ k low. before (suc k) (omega (arith, low))))
+spaceless_to (b ∷ bs) (suc end) before = (
+  ne_eqb b 32 (before 0 (omega arith)),
+  spaceless_to bs end (λ k low. before (suc k) (omega (arith, low))),
+)
 
 -- the first word ends before the first space
 pub to_space : (line : List ℕ) (end : ℕ) → NoSpace line end → end < length line → slice_index line end ≡ 32
@@ -26,7 +29,8 @@ to_end line end before past = last_part 32 line (subst (Lacks 32) (take_all end 
 pub first_word : (line : List ℕ) (found : Option ℕ) → IsFirstByte (is_byte 32) line found
     → MatchOption found (words_of line ≡ line ∷ []) (λ end. words_of line ≡ take end line ∷ words_of (between (end + 1) (length line) line))
 first_word line (Some end) h =
-    to_space line end (λ k low e. h.0.before k (omega arith) low (eq-eqb (slice_index line k) 32 e)) h.0.high (grind (arith, nat_tests, h.1))
+    to_space line end (λ k low e. h.0.before k (omega arith) low (eq-eqb (slice_index line k) 32 e)) h.0.high
+    (grind (arith, nat_tests, h.1))
 first_word line None h = to_end line (length line) (λ k low e. h k (omega arith) low (eq-eqb (slice_index line k) 32 e)) (omega arith)
 
 -- the rest of a line has at least one word

@@ -22,7 +22,8 @@ behind_by c d ds false e all small more =
 behind_zeros : (ds : List ℕ) → all_ascii_digits ds ≡ true → 0 < length ds → digits_value 10 ds < 2 ^ 64 → IsNumber (digits_value 10 ds) ds
 behind_zeros [] all some small = absurd (omega arith)
 behind_zeros (c ∷ []) all some small = (0, sym (decimal-digits_value own (c ∷ []) all some (λ _. refl) small))
-behind_zeros (c ∷ d ∷ ds) all some small = behind_by c d ds (eqb c 48) refl all small (λ all small. behind_zeros (d ∷ ds) all (omega arith) small)
+behind_zeros (c ∷ d ∷ ds) all some small = behind_by c d ds (eqb c 48) refl all small
+    (λ all small. behind_zeros (d ∷ ds) all (omega arith) small)
 
 -- a word that is read as a number below a bound of at most 2^64 spells it, and it is below that
 pub number_is : (end : ℕ) (word : List ℕ) (n : ℕ) → end ≤ 2 ^ 64 → number_below end word ≡ Some n → (n < end) × IsNumber n word
@@ -55,7 +56,8 @@ digit_lower c v e = (grind (arith, nat_tests, e), grind (arith, nat_tests, e))
 digit_back : (c v : ℕ) → v < 16 → lower_digit c ≡ digit_glyph false v → hex_digit_value c ≡ Some v
 digit_back c v low e = grind (arith, nat_tests, e, low)
 
-bind_ok : {A B : Type 0} (r : Result A FromHexError) (f : A → Result B FromHexError) (y : B) → (r >>= f) ≡ Ok y → (x : A) × (r ≡ Ok x) × (f x ≡ Ok y)
+bind_ok : {A B : Type 0} (r : Result A FromHexError) (f : A → Result B FromHexError) (y : B) → (r >>= f) ≡ Ok y
+    → (x : A) × (r ≡ Ok x) × (f x ≡ Ok y)
 bind_ok (Ok x) f y h = (x, refl, h)
 bind_ok (Err e) f y h = cc h
 
@@ -141,7 +143,8 @@ digits_are [] h = refl
 digits_are (b ∷ bs) h =
     let low : b < 256 = h 0 in
     rw (digit_is (b / 16) (omega (arith, low)))
-    (rw (digit_is (b % 16) (omega arith)) (ap (λ ds. digit_glyph false (b / 16) ∷ digit_glyph false (b % 16) ∷ ds) (digits_are bs (λ i. h (suc i)))))
+    (rw (digit_is (b % 16) (omega arith)) (ap (λ ds. digit_glyph false (b / 16) ∷ digit_glyph false (b % 16) ∷ ds)
+    (digits_are bs (λ i. h (suc i)))))
 
 -- a word that spells bytes is read as them
 pub bytes_back : (word bytes : List ℕ) → AreBytes bytes → AreDigits bytes word → bytes_of word ≡ Some bytes

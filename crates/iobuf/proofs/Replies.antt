@@ -42,7 +42,8 @@ piece_same k p q f g e = let (bytes, spare) = seam p.bytes.items q.bytes.items p
 spaceless_piece : (k : Kind) (p : Piece) → PieceFits k p → Lacks 32 (piece_word k p)
 spaceless_piece kind.View p f = spaceless_bytes p.bytes.items
 spaceless_piece kind.Text p f = spaceless_bytes p.bytes.items
-spaceless_piece k p f = lacks_both 32 (hex_text p.bytes.items) (43 ∷ decimal p.spare) (spaceless_bytes p.bytes.items) (refl, spaceless_decimal p.spare f.1)
+spaceless_piece k p f = lacks_both 32 (hex_text p.bytes.items) (43 ∷ decimal p.spare) (spaceless_bytes p.bytes.items)
+    (refl, spaceless_decimal p.spare f.1)
 
 piece_is : (k : Kind) (p : Piece) → piece_text k p ≡ 32 ∷ piece_word k p
 piece_is kind.View p = refl
@@ -94,12 +95,14 @@ fault_told text =
 abbrev refusal_told : List ℕ → Refusal
 refusal_told text =
     let c = get_or text 1 0 in
-    if eqb c 49 then refusal.NoName else (if eqb c 50 then refusal.WrongKind else (if eqb c 51 then refusal.InUse else (if eqb c 52 then refusal.OutOfRange
+    if eqb c 49 then refusal.NoName else (if eqb c 50 then refusal.WrongKind else
+    (if eqb c 51 then refusal.InUse else (if eqb c 52 then refusal.OutOfRange
     else (if eqb c 53 then refusal.BadLayout else (if eqb c 54 then refusal.TooLong else (if eqb c 55 then refusal.Declined
     else (if eqb c 56 then refusal.Codec (fault_told text) else refusal.Memory)))))))
 
 refusal_read : (r : Refusal) → RefusalFits r → refusal_told (refusal_text r) ≡ r
-refusal_read (refusal.Codec (fault.InvalidLength len)) f = ap (λ (n : Option ℕ). refusal.Codec (fault.InvalidLength (unwrap_or n 0))) (number_spelled len f)
+refusal_read (refusal.Codec (fault.InvalidLength len)) f = ap (λ (n : Option ℕ). refusal.Codec (fault.InvalidLength (unwrap_or n 0)))
+    (number_spelled len f)
 refusal_read r f = refl
 
 refusal_same : (r q : Refusal) → RefusalFits r → RefusalFits q → refusal_text r ≡ refusal_text q → r ≡ q

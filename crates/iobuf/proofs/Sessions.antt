@@ -6,11 +6,21 @@ use Rattle.iobuf.proofs.Going.{Going, Laws, said_more}
 
 -- at first no line is answered, nothing but what was there before is written, and all 16 names are free
 pub none_answered : (input before : List ℕ) → Answered input before (commands_of input) (Some before) 0 (replicate 16 Free)
-none_answered input before = record { commands = []; replies = []; counts = refl; say = refl; run = refl; prints = ap Some (sym (append-nil before)) }
+none_answered input before = record {
+  commands = [];
+  replies = [];
+  counts = refl;
+  say = refl;
+  run = refl;
+  prints = ap Some
+      (sym (append-nil before));
+}
 
 -- one more is answered
-pub answered_more : (input before line reply : List ℕ) (left : List (Option Command)) (written new : Option (List ℕ)) (count : ℕ) (names after : List Slot)
-    → Answered input before (command_of line ∷ left) written count names → CommandAnswered line names after reply → Appends written new reply
+pub answered_more : (input before line reply : List ℕ) (left : List (Option Command)) (written new : Option (List ℕ)) (count : ℕ)
+    (names after : List Slot)
+    → Answered input before (command_of line ∷ left) written count names → CommandAnswered line names after reply
+    → Appends written new reply
     → Answered input before left new (count + 1) after
 answered_more input before line reply left written new count names after a c e =
     let bs = before ++ flat_map reply_line a.replies in
@@ -18,9 +28,11 @@ answered_more input before line reply left written new count names after a c e =
       commands = a.commands ++ c.command ∷ [];
       replies = a.replies ++ c.reply ∷ [];
       counts = omega (arith, a.counts, length-append a.commands (c.command ∷ []));
-      say = a.say ∙ ap (λ o. map (λ c. Some (plain c)) a.commands ++ o ∷ left) c.says ∙ said_more (λ c. Some (plain c)) a.commands c.command left;
+      say = a.say ∙ ap (λ o. map (λ c. Some (plain c)) a.commands ++ o ∷ left) c.says
+          ∙ said_more (λ c. Some (plain c)) a.commands c.command left;
       run = run_more a.commands a.replies (replicate 16 Free) names after c.command c.reply a.run c.step;
-      prints = line_more bs reply written new a.prints e ∙ ap (λ l. Some (bs ++ l)) c.prints ∙ ap Some (flat_map_more reply_line before a.replies c.reply);
+      prints = line_more bs reply written new a.prints e ∙ ap (λ l. Some (bs ++ l)) c.prints
+          ∙ ap Some (flat_map_more reply_line before a.replies c.reply);
     }
 
 -- the half of named buffers

@@ -39,8 +39,10 @@ made_of f (Some a) b e = (a, refl, cc)
 made_of f None b e = cc e
 
 -- a word after a letter
-lettered : {A B : Type 0} {read : List ℕ → Option A} {word : A → SpelledWord} (make : A → B) (spelled : B → SpelledWord) (letter c : ℕ) (rest : List ℕ) (b : B)
-    → Reads read word → ((a : A) → spelled (make a) ≡ Behind (letter ∷ []) (word a)) → eqb c letter ≡ true → option_map make (read rest) ≡ Some b
+lettered : {A B : Type 0} {read : List ℕ → Option A} {word : A → SpelledWord} (make : A → B) (spelled : B → SpelledWord) (letter c : ℕ)
+    (rest : List ℕ) (b : B)
+    → Reads read word → ((a : A) → spelled (make a) ≡ Behind (letter ∷ []) (word a)) → eqb c letter ≡ true
+    → option_map make (read rest) ≡ Some b
     → Spells (spelled b) (c ∷ rest)
 lettered {read = read} make spelled letter c rest b reads same at e =
     let (a, said, made) = made_of make (read rest) b e in
@@ -88,13 +90,15 @@ record Shape {C : Type 0} (read : List (List ℕ) → Option C) : Type 1 where
 same_value : {A : Type 0} {o : Option A} {a b : A} → o ≡ Some a → o ≡ Some b → a ≡ b
 same_value at e = cc (at, e)
 
-lone_is : {A : Type 0} {read : List ℕ → Option A} {word : A → SpelledWord} → Reads read word → (text : List ℕ) (a : A) (o : Option A) (texts : List (List ℕ))
+lone_is : {A : Type 0} {read : List ℕ → Option A} {word : A → SpelledWord} → Reads read word
+    → (text : List ℕ) (a : A) (o : Option A) (texts : List (List ℕ))
     → read text ≡ o → only_word o texts ≡ Some a → (b : A) × (b ≡ a) × AreSpelled (word b ∷ []) (text ∷ texts)
 lone_is reads text a (Some x) [] at e = (a, refl, (reads.is text a (at ∙ e), tt))
 lone_is reads text a o texts at e = cc e
 
 -- one word, and none after it
-abbrev lone : {A : Type 0} {read : List ℕ → Option A} {word : A → SpelledWord} (whole : List (List ℕ) → Option A) → Reads read word → whole [] ≡ None
+abbrev lone : {A : Type 0} {read : List ℕ → Option A} {word : A → SpelledWord} (whole : List (List ℕ) → Option A) → Reads read word
+    → whole [] ≡ None
     → ((text : List ℕ) (texts : List (List ℕ)) → whole (text ∷ texts) ≡ only_word (read text) texts) → Shape whole
 lone {A} {read} {word} whole reads none some = record { Value = A; words = λ a. word a ∷ []; make = λ a. a; is = is; back = back }
   where
@@ -133,12 +137,14 @@ led {A} {C} {D} {read} {word} {behind} join whole reads shape none some = record
     is [] d e = absurd (none-some d (sym none ∙ e))
     is (text ∷ texts) d e = led_is join reads shape text texts d (read text) (behind texts) refl refl (sym (some text texts) ∙ e)
 
-    back : (texts : List (List ℕ)) (a : A × shape.Value) → AreSpelled (word a.0 ∷ shape.words a.1) texts → whole texts ≡ Some (join a.0 (shape.make a.1))
+    back : (texts : List (List ℕ)) (a : A × shape.Value) → AreSpelled (word a.0 ∷ shape.words a.1) texts
+        → whole texts ≡ Some (join a.0 (shape.make a.1))
     back (text ∷ texts) a s = some text texts ∙ rw (reads.back text a.0 s.0, shape.back texts a.1 s.1) refl
     back [] a s = absurd s
 
 -- a word, and a shape after it, as a pair
-abbrev paired : {A C : Type 0} {read : List ℕ → Option A} {word : A → SpelledWord} {behind : List (List ℕ) → Option C} (whole : List (List ℕ) → Option (A × C))
+abbrev paired : {A C : Type 0} {read : List ℕ → Option A} {word : A → SpelledWord} {behind : List (List ℕ) → Option C}
+    (whole : List (List ℕ) → Option (A × C))
     → Reads read word → Shape behind → whole [] ≡ None
     → ((text : List ℕ) (texts : List (List ℕ)) → whole (text ∷ texts) ≡ both (read text) (behind texts)) → Shape whole
 paired {A} {C} {read} {word} {behind} whole reads shape none some =
@@ -148,7 +154,8 @@ paired {A} {C} {read} {word} {behind} whole reads shape none some =
     same (Some a) (Some c) = refl
     same o p = refl
 
-each_is : {A : Type 0} {read : List ℕ → Option A} {word : A → SpelledWord} → Reads read word → (text : List ℕ) (texts : List (List ℕ)) (xs : List A)
+each_is : {A : Type 0} {read : List ℕ → Option A} {word : A → SpelledWord} → Reads read word
+    → (text : List ℕ) (texts : List (List ℕ)) (xs : List A)
     (o : Option A) (p : Option (List A)) → read text ≡ o → ((bs : List A) → p ≡ Some bs → AreSpelled (map word bs) texts)
     → put_first o p ≡ Some xs → AreSpelled (map word xs) (text ∷ texts)
 each_is reads text texts xs (Some a) (Some bs) at more e = let made : a ∷ bs ≡ xs = cc in rw (← made) (reads.is text a at, more bs refl)
@@ -156,7 +163,8 @@ each_is reads text texts xs o p at more e = cc e
 
 -- each word says one of a list
 abbrev each : {A : Type 0} {read : List ℕ → Option A} {word : A → SpelledWord} (whole : List (List ℕ) → Option (List A)) → Reads read word
-    → whole [] ≡ Some [] → ((text : List ℕ) (texts : List (List ℕ)) → whole (text ∷ texts) ≡ put_first (read text) (whole texts)) → Shape whole
+    → whole [] ≡ Some [] → ((text : List ℕ) (texts : List (List ℕ)) → whole (text ∷ texts) ≡ put_first (read text) (whole texts))
+    → Shape whole
 each {A} {read} {word} whole reads none some = record {
   Value = List A;
   words = map word;
@@ -221,7 +229,8 @@ record Run : Type 0 where
 
 static_from : (dst lo hi : ℕ) (texts : List (List ℕ)) (command : Command) → AreSpelled (Number dst ∷ Number lo ∷ Number hi ∷ []) texts
     → option_map (Static dst) (letters_of lo hi) ≡ Some command
-    → (run : Run) × (Static run.dst run.text ≡ command) × AreSpelled (Number run.dst ∷ Number run.first ∷ Number (run.first + length run.text) ∷ []) texts
+    → (run : Run) × (Static run.dst run.text ≡ command)
+    × AreSpelled (Number run.dst ∷ Number run.first ∷ Number (run.first + length run.text) ∷ []) texts
 static_from dst lo hi texts command s e =
     let (text, taken, made) = made_of (Static dst) (letters_of lo hi) command e in
     let end = letters_by lo hi text taken in
@@ -237,7 +246,8 @@ static = record {
       let (a, same, spelled) = threes.is texts n at in
       static_from a.0 a.1.0 a.1.1 texts command spelled
       (subst (λ (n : Three). option_map (Static n.first) (letters_of n.second n.third) ≡ Some command) (sym same) more));
-  back = λ texts run s. rw (threes.back texts (run.dst, (run.first, run.first + length run.text)) s) (ap (option_map (Static run.dst)) run.stands);
+  back = λ texts run s. rw (threes.back texts (run.dst, (run.first, run.first + length run.text)) s)
+      (ap (option_map (Static run.dst)) run.stands);
 }
 
 -- the command of the words after a verb
@@ -246,12 +256,15 @@ shape (verb.One v) = mapped (one_command v) one
 shape (verb.Two v) = mapped (λ n. two_command v n.0 n.1) two
 shape (verb.Three v) = mapped (λ n. three_command v n.first n.second n.third) threes
 shape (verb.Bytes v) =
-    mapped (λ n. bytes_command v n.0 n.1) (paired bytes_for_of number (lone lone_bytes_of digits refl (λ text texts. refl)) refl (λ text texts. refl))
+    mapped (λ n. bytes_command v n.0 n.1) (paired bytes_for_of number (lone lone_bytes_of digits refl (λ text texts. refl)) refl
+    (λ text texts. refl))
 shape (verb.Numbers v) =
-    mapped (λ n. numbers_command v n.0 n.1) (paired numbers_for_of number (each numbers_of number refl (λ text texts. refl)) refl (λ text texts. refl))
+    mapped (λ n. numbers_command v n.0 n.1) (paired numbers_for_of number (each numbers_of number refl (λ text texts. refl)) refl
+    (λ text texts. refl))
 shape verb.Static = static
 shape verb.Fill =
-    led (λ target n. Fill target n.0 n.1) fill_of number (paired byte_and_one_of byte one refl (λ text texts. refl)) refl (λ text texts. refl)
+    led (λ target n. Fill target n.0 n.1) fill_of number (paired byte_and_one_of byte one refl (λ text texts. refl)) refl
+    (λ text texts. refl)
 shape verb.Slice =
     led (λ src n. Slice src n.dst n.lo n.hi) slice_said number (led (λ dst n. bounds_for dst n.0 n.1) bounds_for_of number
     (paired bounds_of bound (lone last_bound_of bound refl (λ text texts. refl)) refl (λ text texts. refl)) refl (λ text texts. refl)) refl
@@ -288,10 +301,12 @@ named (v ∷ verbs) word = if bytes_eq word (verb_text v) then Some v else named
 named_is : (verbs : List Verb) (word : List ℕ) (v : Verb) → named verbs word ≡ Some v → word ≡ verb_text v
 named_is [] word v e = cc e
 named_is (here ∷ verbs) word v e =
-    choose _ _ v (bytes_eq word (verb_text here)) (λ is e. let same : here ≡ v = cc in same_word word (verb_text here) is ∙ ap verb_text same)
+    choose _ _ v (bytes_eq word (verb_text here)) (λ is e. let same : here ≡ v = cc in same_word word (verb_text here) is
+    ∙ ap verb_text same)
     (λ _. named_is verbs word v) e
 
-either_is : (word : List ℕ) (v : Verb) (made : Option Verb) → making_of word ≡ made → option_or made (acting_of word) ≡ Some v → word ≡ verb_text v
+either_is : (word : List ℕ) (v : Verb) (made : Option Verb) → making_of word ≡ made → option_or made (acting_of word) ≡ Some v
+    → word ≡ verb_text v
 either_is word v (Some here) at e =
     named_is (verb.Three of_three.New ∷ verb.Three of_three.Zeroed ∷ verb.Bytes of_bytes.Adopt ∷ verb.Static ∷ verb.Bytes of_bytes.Bytes
     ∷ verb.Two of_two.Freeze ∷ verb.Two of_two.Recover ∷ verb.Two of_two.Clone ∷ verb.Slice ∷ verb.Three of_three.Split ∷ verb.Numbers of_numbers.Gather
@@ -305,7 +320,8 @@ either_is word v None at e =
 abbrev Says : Command → List (List ℕ) → Type 0
 Says command texts = (first : ℕ) × StandsAt first command × AreSpelled (words_from first command) texts
 
-verb_says : (v : Verb) (a : (shape v).Value) (texts : List (List ℕ)) → AreSpelled ((shape v).words a) texts → Says ((shape v).make a) (verb_text v ∷ texts)
+verb_says : (v : Verb) (a : (shape v).Value) (texts : List (List ℕ)) → AreSpelled ((shape v).words a) texts
+    → Says ((shape v).make a) (verb_text v ∷ texts)
 verb_says (verb.One of_one.Clear) a texts s = (0, tt, (refl, s))
 verb_says (verb.Two of_two.SetLen) a texts s = (0, tt, (refl, s))
 verb_says (verb.Three of_three.New) a texts s = (0, tt, (refl, s))
@@ -367,7 +383,8 @@ parts (Show target) first stands = (verb.One of_one.Show, target, refl, refl, re
 
 said_back : (v : Verb) (a : (shape v).Value) (texts : List (List ℕ)) → verb_of (verb_text v) ≡ Some v
     → AreSpelled (Named (verb_text v) ∷ (shape v).words a) texts → command_by texts ≡ Some ((shape v).make a)
-said_back v a (word ∷ texts) named s = ap (λ (o : Option Verb). option_and_then (λ v. said_by v texts) o) (ap verb_of s.0 ∙ named) ∙ (shape v).back texts a s.1
+said_back v a (word ∷ texts) named s = ap (λ (o : Option Verb). option_and_then (λ v. said_by v texts) o) (ap verb_of s.0 ∙ named)
+    ∙ (shape v).back texts a s.1
 said_back v a [] named s = absurd s
 
 texts_back : (command : Command) (first : ℕ) (texts : List (List ℕ)) → StandsAt first command → AreSpelled (words_from first command) texts
@@ -449,7 +466,8 @@ pub line_says : (command : Command) → CommandFits command → command_of (line
 line_says command fits =
     let words = words_from (first_of command) command in
     let (spelled, plain) = all_written words (own_written command fits) in
-    words_of_line (map written words) command plain (texts_back command (first_of command) (map written words) (stands_first command fits) spelled)
+    words_of_line (map written words) command plain
+    (texts_back command (first_of command) (map written words) (stands_first command fits) spelled)
 
 -- commands that fit and have one line of their own are the same
 pub different_lines : (a b : Command) → CommandFits a → CommandFits b → line_of_command a ≡ line_of_command b → a ≡ b

@@ -19,8 +19,11 @@ denial_says false = (assumption)
 
 spaceless_act : (a : Act) → FitsAct a → AreSpaceless (verb_of_act a ∷ words_behind a)
 spaceless_act (Go memory) h = ((assumption), (denial_says memory).0)
-spaceless_act (Begin call memory) h =
-    ((verb_says call).0, spaceless_joined (map decimal (numbers_in call)) (denial memory) (spaceless_numbers (numbers_in call) h) (denial_says memory).0)
+spaceless_act (Begin call memory) h = (
+  (verb_says call).0,
+  spaceless_joined (map decimal (numbers_in call)) (denial memory) (spaceless_numbers (numbers_in call) h)
+      (denial_says memory).0,
+)
 
 spaceless_ask : (ask : Ask) → AskFits ask → AreSpaceless (first_word_of ask ∷ other_words_of ask)
 spaceless_ask (Take step) h = (spaceless_decimal step.thread h.0, spaceless_act step.act h.1)
@@ -30,7 +33,8 @@ spaceless_ask (Look Freed) h = (assumption)
 
 -- ---- the meaning of words
 
-call_says : (c : Call) (rest : List (List ℕ)) → AreNumbers (numbers_in c) → call_of (call_verb c) (map decimal (numbers_in c) ++ rest) ≡ Some (c, rest)
+call_says : (c : Call) (rest : List (List ℕ)) → AreNumbers (numbers_in c)
+    → call_of (call_verb c) (map decimal (numbers_in c) ++ rest) ≡ Some (c, rest)
 call_says (New base size align) rest (b, (s, (a, none))) = rw (number_spelled base b, number_spelled size s, number_spelled align a)
 call_says (Slice x lo hi) rest (h, (l, (k, none))) = rw (number_spelled x h, number_spelled lo l, number_spelled hi k)
 call_says (External base size) rest (b, (s, none)) = rw (number_spelled base b, number_spelled size s)
@@ -41,7 +45,8 @@ call_says c rest h = rw (number_spelled _ h.0)
 
 act_says : (a : Act) → FitsAct a → act_by (verb_of_act a) (words_behind a) ≡ Some a
 act_says (Go memory) h = ap (option_map Go) (denial_says memory).1
-act_says (Begin call memory) h = rw ((verb_says call).1, call_says call (denial memory) h) (ap (option_map (Begin call)) (denial_says memory).1)
+act_says (Begin call memory) h = rw ((verb_says call).1, call_says call (denial memory) h)
+    (ap (option_map (Begin call)) (denial_says memory).1)
 
 -- a number is no word that says none
 number_is_not : (n : ℕ) (word : List ℕ) → n < 2 ^ 64 → number_of word ≡ None → bytes_eq (decimal n) word ≡ false

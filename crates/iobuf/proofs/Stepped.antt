@@ -20,7 +20,8 @@ pub record AreSteps (m : Seen) (asks : List Ask) (texts : List (List ℕ)) (next
   pub runs : GrowingRuns m (steps_of asks) replies next
   pub says : answers_to_steps asks texts ≡ map step_reply_text replies
 
--- the steps among what is asked, questions left out, are a run of the machine in which tables may get more room, and its replies are the answers to them
+-- the steps among what is asked, questions left out, are a run of the machine in which tables may get more room, and its replies are the
+-- answers to them
 pub stepped : (m next : Seen) (asks : List Ask) (texts : List (List ℕ)) → AreAnswered m asks texts next → AreSteps m asks texts next
 stepped m next [] [] h = record { replies = []; runs = h; says = refl }
 stepped m next (Take step ∷ asks) (text ∷ texts) (mid, (grown, reply, has, one, says), others) =
@@ -32,7 +33,12 @@ stepped m next (Take step ∷ asks) (text ∷ texts) (mid, (grown, reply, has, o
     }
 stepped m next (Look question ∷ asks) (text ∷ texts) (mid, (same, says), others) =
     let rest = stepped mid next asks texts others in
-    record { replies = rest.replies; runs = subst (λ (s : Seen). GrowingRuns s (steps_of asks) rest.replies next) same rest.runs; says = rest.says }
+    record {
+      replies = rest.replies;
+      runs = subst (λ (s : Seen). GrowingRuns s
+          (steps_of asks) rest.replies next) same rest.runs;
+      says = rest.says;
+    }
 stepped m next asks texts h = absurd h
 
 -- one more is answered
@@ -49,7 +55,8 @@ promised_after m next (Take step) text (grown, reply, has, one, says) p = one.se
 promised_after m next (Look question) text (same, says) p = subst (λ (s : Seen). Promises s.state) (sym same) p
 
 -- where what is asked was answered, what was promised of the machine before is promised of it after
-pub promised : (m next : Seen) (asks : List Ask) (texts : List (List ℕ)) → AreAnswered m asks texts next → Promises m.state → Promises next.state
+pub promised : (m next : Seen) (asks : List Ask) (texts : List (List ℕ)) → AreAnswered m asks texts next → Promises m.state
+    → Promises next.state
 promised m next [] [] h p = subst (λ (s : Seen). Promises s.state) (sym h) p
 promised m next (ask ∷ asks) (text ∷ texts) (mid, one, others) p = promised mid next asks texts others (promised_after m mid ask text one p)
 promised m next asks texts h p = absurd h

@@ -45,11 +45,14 @@ buffer_first false buffer None = tt
 pub after_last : (standing len : ℕ) (old mid new : Option (List ℕ)) (line : List ℕ) (more : Bool) → standing ≤ len
     → DropsConsumable old mid (Some len) standing → TakesLine mid new line more → TakesLine (left_after standing old) new line more
 after_last standing len None mid new line more low drops takes = tt
-after_last standing len (Some bytes) mid new line more low drops takes = subst (λ (o : Option (List ℕ)). TakesLine o new line more) (drops low) takes
+after_last standing len (Some bytes) mid new line more low drops takes = subst (λ (o : Option (List ℕ)). TakesLine o new line more)
+    (drops low) takes
 
 -- the bytes of a buffer up to its first 10 and with it, which are left there, are the first line
-pub takes_standing : (known : Option (List ℕ)) (buffer copied : List ℕ) (place : ℕ) → IfSome known (λ bytes. (behind : List ℕ) × (bytes ≡ buffer ++ behind))
-    → IsFirstByte (is_byte 10) buffer (Some place) → TakesLine known (left_after (place + 1) known) (last_line (place + 1) buffer copied) true
+pub takes_standing : (known : Option (List ℕ)) (buffer copied : List ℕ) (place : ℕ)
+    → IfSome known (λ bytes. (behind : List ℕ) × (bytes ≡ buffer ++ behind))
+    → IsFirstByte (is_byte 10) buffer (Some place)
+    → TakesLine known (left_after (place + 1) known) (last_line (place + 1) buffer copied) true
 takes_standing None buffer copied place known first = tt
 takes_standing (Some bytes) buffer copied place (behind, is) first =
     let parted = parted_at buffer behind place first.0.high first.1 (λ k low. first.0.before k (omega arith) low) in
@@ -59,11 +62,13 @@ takes_standing (Some bytes) buffer copied place (behind, is) first =
     rw stands (record {
       rest = drop_through 10 bytes;
       left_is = ap (λ (l : List ℕ). Some l) rest;
-      split = lines_step bytes some ∙ ap (λ (l : List ℕ). line_text l ∷ lines (drop_through 10 bytes)) (ap (take_through 10) is ∙ parted.through);
+      split = lines_step bytes some ∙ ap (λ (l : List ℕ). line_text l ∷ lines (drop_through 10 bytes))
+          (ap (take_through 10) is ∙ parted.through);
     })
 
 -- a line that was copied was taken whole
-pub takes_copied : (standing : ℕ) (old new : Option (List ℕ)) (buffer line : List ℕ) (more : Bool) → standing ≡ 0 → TakesLine old new line more
+pub takes_copied : (standing : ℕ) (old new : Option (List ℕ)) (buffer line : List ℕ) (more : Bool) → standing ≡ 0
+    → TakesLine old new line more
     → TakesLine old (left_after standing new) (last_line standing buffer line) more
 takes_copied standing old (Some bytes) buffer line more none takes = rw none takes
 takes_copied standing old new buffer line more none takes = rw none takes

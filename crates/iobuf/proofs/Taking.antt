@@ -29,11 +29,15 @@ whole_rest n rest = ap (λ k. take k (drop n rest)) (sym (length-drop n rest)) �
 
 -- where a writer has taken a front of a text, it may have failed in writing it
 pub part_sent : {old new : Option (List ℕ)} {text rest : List ℕ} → Sent old new text rest → Takes old new text (Err Writing)
-part_sent {old} {new} {rest = rest} s =
-    (length s.front, subst (λ (l : List ℕ). Appends old new l) (sym (ap (take (length s.front)) s.split ∙ take-append_seam s.front rest)) s.appends)
+part_sent {old} {new} {rest = rest} s = (
+  length s.front,
+  subst (λ (l : List ℕ). Appends old new l)
+      (sym (ap (take (length s.front)) s.split ∙ take-append_seam s.front rest)) s.appends,
+)
 
 -- a writer that took the first n bytes of a text, and then the others or a front of them, took the text or a front of it
-pub takes_on : (old mid new : Option (List ℕ)) (text : List ℕ) (n : ℕ) (result : Result (Unit {0}) Obstacle) → IfErr result (λ fault. fault ≡ Writing)
+pub takes_on : (old mid new : Option (List ℕ)) (text : List ℕ) (n : ℕ) (result : Result (Unit {0}) Obstacle)
+    → IfErr result (λ fault. fault ≡ Writing)
     → Appends old mid (take n text) → Takes mid new (drop n text) result → Takes old new text result
 takes_on old mid new text n (Ok done) fails first more =
     subst (λ (l : List ℕ). Appends old new l) (take-append-drop n text) (Appends-trans old mid new (take n text) (drop n text) first more)

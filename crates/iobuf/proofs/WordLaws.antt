@@ -56,9 +56,11 @@ AreSpaceless [] = Unit {0}
 AreSpaceless (word ∷ words) = Lacks 32 word × AreSpaceless words
 
 -- the words of a line that is made of words
-pub words_joined : (word : List ℕ) (words : List (List ℕ)) → AreSpaceless (word ∷ words) → words_of (line_of_words (word ∷ words)) ≡ word ∷ words
+pub words_joined : (word : List ℕ) (words : List (List ℕ)) → AreSpaceless (word ∷ words)
+    → words_of (line_of_words (word ∷ words)) ≡ word ∷ words
 words_joined word [] h = last_part 32 word h.0
-words_joined word (next ∷ words) h = next_part 32 word (line_of_words (next ∷ words)) h.0 ∙ ap (λ ws. word ∷ ws) (words_joined next words h.1)
+words_joined word (next ∷ words) h = next_part 32 word (line_of_words (next ∷ words)) h.0
+    ∙ ap (λ ws. word ∷ ws) (words_joined next words h.1)
 
 -- a number that is written is read again
 pub number_spelled : (n : ℕ) → n < 2 ^ 64 → number_of (decimal n) ≡ Some n

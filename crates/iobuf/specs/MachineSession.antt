@@ -55,7 +55,8 @@ MachineAnsweredFirst input before count written =
 -- Where a session can't go on, lines were answered up to there
 abbrev pub ServesMachine : (input before : List ℕ) → (written : Option (List ℕ)) → Result (Unit {0}) Stop → Type 0
 ServesMachine input before written (Ok done) = AllStepsAnswered input before written
-ServesMachine input before written (Err (BadCommand number)) = (count : ℕ) × (number ≡ count + 1) × StepsAnsweredUpTo count input before written
+ServesMachine input before written (Err (BadCommand number)) = (count : ℕ) × (number ≡ count + 1)
+    × StepsAnsweredUpTo count input before written
     × IsTextAt input count
 ServesMachine input before written (Err (CannotContinue fault)) = Halts (MachineAnsweredFirst input before) input written fault
 ServesMachine input before written (Err OtherWords) = ⊥

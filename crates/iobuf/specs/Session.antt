@@ -31,7 +31,8 @@ commands_of input = map command_of (lines input)
 
 -- The first `count` lines of the input say commands, and `left` has the commands of the others. A run of the first ones
 -- from the empty table leaves `names`. The writer holds the bytes `before`, and then the lines of the run's replies.
-pub record Answered (input before : List ℕ) (left : List (Option Command)) (written : Option (List ℕ)) (count : ℕ) (names : List Slot) : Type 0 where
+pub record Answered (input before : List ℕ) (left : List (Option Command)) (written : Option (List ℕ)) (count : ℕ)
+    (names : List Slot) : Type 0 where
   pub commands : List Cmd
   pub replies : List Reply
   pub counts : length commands ≡ count
@@ -57,7 +58,8 @@ AnsweredFirst input before count written =
 -- Where a session can't go on, lines were answered up to there
 abbrev pub Serves : List ℕ → List ℕ → Option (List ℕ) → Result (Unit {0}) Stop → Type 0
 Serves input before written (Ok done) = AllAnswered input before written
-Serves input before written (Err (BadCommand number)) = (count : ℕ) × (number ≡ count + 1) × AnsweredUpTo count input before written × IsTextAt input count
+Serves input before written (Err (BadCommand number)) = (count : ℕ) × (number ≡ count + 1) × AnsweredUpTo count input before written
+    × IsTextAt input count
 Serves input before written (Err (CannotContinue fault)) = Halts (AnsweredFirst input before) input written fault
 Serves input before written (Err OtherWords) = ⊥
 

@@ -7,11 +7,11 @@ mod line;
 mod reply;
 mod shapes;
 
+use crate::buffers::line::command;
+use crate::buffers::reply::{push_line, push_shown};
 use crate::fault::{Obstacle, Stop};
 use crate::input::{Source, stop_at, text};
 use crate::output::Sink;
-use crate::buffers::line::command;
-use crate::buffers::reply::{push_line, push_shown};
 use crate::words::LineError;
 use iobufs_run::command::{Cmd, Reply};
 use iobufs_run::table::Table;
@@ -20,7 +20,8 @@ use std::alloc::Global;
 // How many names there are.
 const NAMES: usize = 16;
 
-// Executes the command of a line, and returns the line of its reply. For `ok`, the most frequent reply, nothing is copied.
+// Executes the command of a line, and returns the line of its reply. For `ok`, the most frequent reply, nothing is
+// copied.
 fn answer<'r>(
     alloc: Global,
     table: &mut Table,

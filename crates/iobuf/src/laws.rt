@@ -18,7 +18,8 @@ ghost use Rattle.iobuf.specs.declared.owner.line.Setup.{Setup};
 /// The line of a command says that command, and a line says a command exactly if its words spell it.
 pub fn line_law()
     ensures says { (command : Command) → CommandFits command → command_of (line_of_command command) ≡ Some command }
-    ensures different { (a b : Command) → CommandFits a → CommandFits b → line_of_command a ≡ line_of_command b → a ≡ b }
+    ensures different { (a b : Command) → CommandFits a → CommandFits b → line_of_command a ≡ line_of_command b
+        → a ≡ b }
     ensures spelled { (line : List ℕ) (command : Command) → command_of line ≡ Some command → IsLineOf command line }
     ensures read { (line : List ℕ) (command : Command) → IsLineOf command line → command_of line ≡ Some command }
 {}
@@ -38,11 +39,13 @@ pub fn setup_law()
     ensures { (setup : Setup) → FitsSetup setup → setup_of (line_of_setup setup) ≡ Some setup }
 {}
 
-/// The steps that are asked of a machine, questions left out, are a run of it, in which tables may get more room before each
+/// The steps that are asked of a machine, questions left out, are a run of it, in which tables may get more room before
+/// each
 /// step, and their answers are its replies.
 pub fn run_law()
     ensures { (m next : Seen) → (asks : List Ask) → (texts : List (List ℕ)) → AreAnswered m asks texts next
-        → (replies : List Reply) × GrowingRuns m (steps_of asks) replies next × (answers_to_steps asks texts ≡ map step_reply_text replies) }
+        → (replies : List Reply) × GrowingRuns m (steps_of asks) replies next
+        × (answers_to_steps asks texts ≡ map step_reply_text replies) }
 {}
 
 /// The promises of the machine hold at the end of a session if they held at its beginning.

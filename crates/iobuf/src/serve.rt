@@ -8,11 +8,10 @@ ghost use Rattle.iobuf.specs.Session.{HasStatus, Serves};
 ghost use Rattle.iobuf.specs.Stops.{IsFlushed, IsStatus, stop_line};
 ghost use Rattle.iobuf.specs.declared.fault.Stop.TheVariants.{OtherWords};
 
-use crate::buffers;
 use crate::fault::{Obstacle, Stop, status, tell};
 use crate::input::{InMemory, Input, Source};
 use crate::output::{Output, Sink};
-use crate::owner;
+use crate::{buffers, owner};
 use std::alloc::Global;
 use std::io::{self, Read, Write};
 
@@ -95,7 +94,8 @@ pub fn in_memory(alloc: Global, half: Half, input: &[u8]) -> (Result<(), Stop>, 
 // The half that the words after the program's name ask for.
 fn half_of(args: &[&str]) -> Option<Half>
     ensures asks { IfSome result (λ half. map (λ arg. arg.now) args.now ≡ half_word half ∷ []) }
-    ensures none { IfNone result ((map (λ arg. arg.now) args.now ≢ codes "buf" ∷ []) × (map (λ arg. arg.now) args.now ≢ codes "owner" ∷ [])) }
+    ensures none { IfNone result ((map (λ arg. arg.now) args.now ≢ codes "buf" ∷ [])
+        × (map (λ arg. arg.now) args.now ≢ codes "owner" ∷ [])) }
 {
     match args {
         ["buf"] => Some(Half::Buffers),
@@ -117,11 +117,13 @@ pub fn session<R: Read + Drop, W: Write, E: Write>(
         IfSome (W.contents output.old.writer) (λ before. Serves read before (W.contents output.new.writer) result.0)) }
     ensures machine { map (λ arg. arg.now) args.now ≡ codes "owner" ∷ [] → IfSome (R.remaining input.old) (λ read.
         IfSome (W.contents output.old.writer) (λ before. ServesMachine read before (W.contents output.new.writer) result.0)) }
-    ensures usage { map (λ arg. arg.now) args.now ≢ codes "buf" ∷ [] → map (λ arg. arg.now) args.now ≢ codes "owner" ∷ []
+    ensures usage { map (λ arg. arg.now) args.now ≢ codes "buf" ∷ []
+        → map (λ arg. arg.now) args.now ≢ codes "owner" ∷ []
         → (result.0 ≡ Err OtherWords) × (input.new ≡ input.old) × (output.new ≡ output.old) }
     ensures sent { OnOk result.0 (output.new.is_sent ≡ true) }
     ensures flushed { IsFlushed result.0 output.new.is_sent }
-    ensures told { IfErr result.0 (λ stop. OnOk result.1 (Appends (E.contents errors.old) (E.contents errors.new) (stop_line stop))) }
+    ensures told { IfErr result.0 (λ stop. OnOk result.1
+        (Appends (E.contents errors.old) (E.contents errors.new) (stop_line stop))) }
     ensures silent { OnOk result.0 (errors.new ≡ errors.old) }
     ensures nothing_told { OnOk result.0 (IsOk result.1) }
 {
@@ -149,7 +151,8 @@ pub fn serve<R: Read + Drop, W: Write, E: Write>(
         IfSome (W.contents output.old.writer) (λ before. HasStatus read before (W.contents output.new.writer) result)) }
     ensures machine { map (λ arg. arg.now) args.now ≡ codes "owner" ∷ [] → IfSome (R.remaining input) (λ read.
         IfSome (W.contents output.old.writer) (λ before. HasMachineStatus read before (W.contents output.new.writer) result)) }
-    ensures usage { map (λ arg. arg.now) args.now ≢ codes "buf" ∷ [] → map (λ arg. arg.now) args.now ≢ codes "owner" ∷ []
+    ensures usage { map (λ arg. arg.now) args.now ≢ codes "buf" ∷ []
+        → map (λ arg. arg.now) args.now ≢ codes "owner" ∷ []
         → (result ≡ 2) × (output.new ≡ output.old) }
     ensures sent { result ≡ 0 → output.new.is_sent ≡ true }
     ensures silent { result ≡ 0 → errors.new ≡ errors.old }

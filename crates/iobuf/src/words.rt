@@ -117,7 +117,8 @@ impl<'a> Words<'a> {
 
     /// Takes the next word, which says bytes.
     pub fn bytes(&mut self, alloc: Global) -> Result<Vec<u8>, LineError>
-        ensures ok { IfOk result (λ bytes. (word : List ℕ) × (self.old ≡ word ∷ self.new) × (bytes_of word ≡ Some bytes.items)) }
+        ensures ok { IfOk result (λ bytes. (word : List ℕ) × (self.old ≡ word ∷ self.new)
+            × (bytes_of word ≡ Some bytes.items)) }
         ensures err { IfErr result (λ error. (error ≡ LineError.Memory) ⊎ (first_bytes self.old ≡ None)) }
     {
         match self.next_word() {
@@ -152,7 +153,8 @@ impl<'a> Words<'a> {
 
 // The number before a line, up to its first space, and what follows that space, if there is one.
 fn front_number(line: &[u8]) -> Result<(usize, Option<&[u8]>), LineError>
-    ensures ok { IfOk result (λ n. (word : List ℕ) × (words_of line.now ≡ word ∷ words_left n.1) × (number_of word ≡ Some n.0)) }
+    ensures ok { IfOk result (λ n. (word : List ℕ) × (words_of line.now ≡ word ∷ words_left n.1)
+        × (number_of word ≡ Some n.0)) }
     ensures err { IfErr result (λ error. (error ≡ LineError.NoCommand) × (first_number (words_of line.now) ≡ None)) }
 {
     if line.is_empty() {

@@ -37,7 +37,8 @@ pub record Two : Type 0 where
   pub rest : List (List ℕ)
 
 abbrev pub two_before : List (List ℕ) → Option Two
-two_before words = option_and_then (λ a. option_map (λ b. record { first = a.0; second = b.0; rest = b.1 }) (one_before a.1)) (one_before words)
+two_before words = option_and_then (λ a. option_map (λ b. record { first = a.0; second = b.0; rest = b.1 }) (one_before a.1))
+    (one_before words)
 
 -- three numbers, and the words after them
 pub record ThreeBefore : Type 0 where
@@ -48,7 +49,8 @@ pub record ThreeBefore : Type 0 where
 
 abbrev pub three_before : List (List ℕ) → Option ThreeBefore
 three_before words =
-    option_and_then (λ a. option_map (λ b. record { first = a.0; second = b.first; third = b.second; rest = b.rest }) (two_before a.1)) (one_before words)
+    option_and_then (λ a. option_map (λ b. record { first = a.0; second = b.first; third = b.second; rest = b.rest }) (two_before a.1))
+    (one_before words)
 
 -- ---- steps
 

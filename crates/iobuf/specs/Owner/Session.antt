@@ -35,7 +35,8 @@ MakesRoom m grown = ((grown.state ≡ m.state) × KeepsRoom m.room grown.room ×
 -- Capacity is reserved before a step of the machine, and its reply is the answer. A question changes nothing, and is
 -- answered by the state that it asks for.
 abbrev pub Answers : Seen → Ask → List ℕ → Seen → Type 0
-Answers m (Take step) text next = (grown : Seen) × (reply : Reply) × MakesRoom m grown × IsMove grown step reply next × (text ≡ step_reply_text reply)
+Answers m (Take step) text next = (grown : Seen) × (reply : Reply) × MakesRoom m grown × IsMove grown step reply next
+    × (text ≡ step_reply_text reply)
 Answers m (Look question) text next = (next ≡ m) × (text ≡ answer_text m.state question)
 
 -- all of them, one after another: each begins where the one before it ended

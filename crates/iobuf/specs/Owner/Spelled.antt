@@ -96,7 +96,8 @@ AskFits (Look Freed) = Unit {0}
 -- the line that asks for this machine
 abbrev pub line_of_setup : Setup → List ℕ
 line_of_setup setup =
-    line_of_words (codes "machine" ∷ decimal setup.threads ∷ decimal setup.ceiling ∷ (if setup.is_wide then codes "64" else codes "32") ∷ [])
+    line_of_words (codes "machine" ∷ decimal setup.threads ∷ decimal setup.ceiling ∷ (if setup.is_wide then codes "64" else codes "32") ∷
+    [])
 
 -- the machines that have a line: of at most 2^32 threads, and a ceiling of 64 bits above 0
 pub record FitsSetup (setup : Setup) : Type 0 where

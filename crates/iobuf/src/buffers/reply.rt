@@ -81,7 +81,8 @@ fn push_bytes(bytes: &[u8], text: &mut String) -> Result<(), AllocError>
 
 // Prints the bytes and the spare capacity of a writable buffer.
 fn push_part(bytes: &[u8], spare: usize, text: &mut String) -> Result<(), AllocError>
-    ensures { OnOk result (string_bytes text.new ≡ string_bytes text.old ++ (codes " " ++ hex_text bytes.now ++ codes "+" ++ decimal spare)) }
+    ensures { OnOk result (string_bytes text.new ≡ string_bytes text.old
+        ++ (codes " " ++ hex_text bytes.now ++ codes "+" ++ decimal spare)) }
 {
     push_bytes(bytes, text)?;
     write!(text, "+{spare}").map_err(|_| AllocError)
@@ -142,7 +143,8 @@ pub fn push_line(reply: &Reply, text: &mut String) -> Result<(), AllocError>
 
 // Puts each chunk of a text there.
 fn push_chunks(chunks: &IoBufs, text: &mut String) -> Result<(), AllocError>
-    ensures { OnOk result (string_bytes text.new ≡ string_bytes text.old ++ flat_map (held_text Kind.Text) (pieces_of (Slot.Text chunks.now))) }
+    ensures { OnOk result (string_bytes text.new ≡ string_bytes text.old
+        ++ flat_map (held_text Kind.Text) (pieces_of (Slot.Text chunks.now))) }
 {
     for place in 0..chunks.chunk_count() {
         let Some(chunk) = chunks.chunk_at(place) else {
@@ -155,7 +157,8 @@ fn push_chunks(chunks: &IoBufs, text: &mut String) -> Result<(), AllocError>
 
 // Puts each of several parts there.
 fn push_parts(parts: &IoBufsMut, text: &mut String) -> Result<(), AllocError>
-    ensures { OnOk result (string_bytes text.new ≡ string_bytes text.old ++ flat_map (held_text Kind.Parts) (pieces_of (Slot.Parts parts.now))) }
+    ensures { OnOk result (string_bytes text.new ≡ string_bytes text.old
+        ++ flat_map (held_text Kind.Parts) (pieces_of (Slot.Parts parts.now))) }
 {
     for place in 0..parts.part_count() {
         let Some(part) = parts.part_at(place) else {
@@ -182,7 +185,8 @@ fn push_held(slot: &Slot, text: &mut String) -> Result<(), AllocError>
 
 /// Puts the line that answers `Show` after a text, with no copy of the bytes in between.
 pub fn push_shown(table: &Table, target: usize, text: &mut String) -> Result<(), AllocError>
-    ensures { OnOk result (IsReplied table.now (Cmd.Show target) table.now (string_bytes text.old) (string_bytes text.new)) }
+    ensures { OnOk result (IsReplied table.now (Cmd.Show target) table.now (string_bytes text.old)
+        (string_bytes text.new)) }
 {
     let slot = match table.shown(target) {
         Ok(slot) => slot,

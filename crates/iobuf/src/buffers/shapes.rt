@@ -81,7 +81,8 @@ fn bound(word: &[u8]) -> Result<Bound<usize>, LineError>
 
 // Takes the next word, which is a bound.
 fn next_bound(words: &mut Words<'_>) -> Result<Bound<usize>, LineError>
-    ensures ok { IfOk result (λ bound. (word : List ℕ) × (words.old ≡ word ∷ words.new) × (bound_said word ≡ Some bound)) }
+    ensures ok { IfOk result (λ bound. (word : List ℕ) × (words.old ≡ word ∷ words.new)
+        × (bound_said word ≡ Some bound)) }
     ensures err { IfErr result (λ error. (error ≡ LineError.NoCommand) × (first_bound words.old ≡ None)) }
 {
     match words.next_word() {

@@ -198,7 +198,8 @@ fn one(words: &mut Words) -> Result<usize, LineError>
 
 // Two numbers.
 fn two(words: &mut Words) -> Result<(usize, usize), LineError>
-    ensures ok { IfOk result (λ n. two_before words.old ≡ Some (record { first = n.0; second = n.1; rest = words.new })) }
+    ensures ok { IfOk result (λ n. two_before words.old ≡ Some
+        (record { first = n.0; second = n.1; rest = words.new })) }
     ensures err { IfErr result (λ error. (error ≡ LineError.NoCommand) × (two_before words.old ≡ None)) }
 {
     let first = one(words)?;
@@ -207,7 +208,8 @@ fn two(words: &mut Words) -> Result<(usize, usize), LineError>
 
 // Three numbers.
 fn three(words: &mut Words) -> Result<(usize, usize, usize), LineError>
-    ensures ok { IfOk result (λ n. three_before words.old ≡ Some (record { first = n.0; second = n.1; third = n.2; rest = words.new })) }
+    ensures ok { IfOk result (λ n. three_before words.old ≡ Some
+        (record { first = n.0; second = n.1; third = n.2; rest = words.new })) }
     ensures err { IfErr result (λ error. (error ≡ LineError.NoCommand) × (three_before words.old ≡ None)) }
 {
     let first = one(words)?;

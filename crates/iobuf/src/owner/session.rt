@@ -27,7 +27,8 @@ impl Setup {
     }
 }
 
-/// Takes a step, or looks at what a question asks for, and writes the answer as a line. Where writing fails, a step is taken
+/// Takes a step, or looks at what a question asks for, and writes the answer as a line. Where writing fails, a step is
+/// taken
 /// all the same. Before a step room is made for a block, a handle and a record, where it can be had.
 pub fn answer<W: Write>(machine: &mut Machine, ask: Ask, output: &mut W) -> io::Result<()>
     ensures { OnOk result (IfSome (W.contents output.old) (λ before.

@@ -13,7 +13,8 @@ loop-number-init g c =
 
 pub returns-in-Ok-false-clause-serves : goal.returns-in-Ok-false-clause-serves
 returns-in-Ok-false-clause-serves g c =
-    all_answered buffers _ _ _ _ _ _ _ c.loop-number.invariant (rw c.in-Ok-false.field-0-test at c.in-Ok-false.ensures.line) c.read_line.ensures.kept
+    all_answered buffers _ _ _ _ _ _ _ c.loop-number.invariant
+    (rw c.in-Ok-false.field-0-test at c.in-Ok-false.ensures.line) c.read_line.ensures.kept
 
 pub returns-in-Err-clause-serves : goal.returns-in-Err-clause-serves
 returns-in-Err-clause-serves g c = not_read buffers _ _ _ _ _ _ _ _ c.loop-number.invariant c.in-Err.ensures.err c.read_line.ensures.kept
@@ -21,7 +22,8 @@ returns-in-Err-clause-serves g c = not_read buffers _ _ _ _ _ _ _ _ c.loop-numbe
 pub returns-in-Err-NoCommand-clause-serves : goal.returns-in-Err-NoCommand-clause-serves
 returns-in-Err-NoCommand-clause-serves g c =
     let read = line_read buffers _ _ _ _ _ _ _ _ _ _ c.loop-number.invariant
-    (rw c.in-Ok-true.field-0-test at c.in-Ok-true.ensures.line) c.read_line.ensures.kept (c.text-line.ensures ∙ ap line_text c.line.ensures) in
+    (rw c.in-Ok-true.field-0-test at c.in-Ok-true.ensures.line) c.read_line.ensures.kept
+    (c.text-line.ensures ∙ ap line_text c.line.ensures) in
     stops_at buffers _ _ _ _ _ _ _ _ read (rw c.in-Err-NoCommand.field-0-is at c.in-Err-NoCommand.ensures) c.stop_at.ensures
 
 pub returns-in-Err-Memory-clause-serves : goal.returns-in-Err-Memory-clause-serves
@@ -32,13 +34,15 @@ returns-in-Err-Memory-clause-serves g c =
 pub returns-in-Err-take-clause-serves : goal.returns-in-Err-take-clause-serves
 returns-in-Err-take-clause-serves g c =
     let read = line_read buffers _ _ _ _ _ _ _ _ _ _ c.loop-number.invariant
-    (rw c.in-Ok-true.field-0-test at c.in-Ok-true.ensures.line) c.read_line.ensures.kept (c.text-line.ensures ∙ ap line_text c.line.ensures) in
+    (rw c.in-Ok-true.field-0-test at c.in-Ok-true.ensures.line) c.read_line.ensures.kept
+    (c.text-line.ensures ∙ ap line_text c.line.ensures) in
     not_written buffers _ _ _ _ _ _ _ _ _ _ _ read c.in-Ok-answer.ensures c.in-Err-take.ensures.bytes
 
 pub loop-number-preserved : goal.loop-number-preserved
 loop-number-preserved g c =
     let read = line_read buffers _ _ _ _ _ _ _ _ _ _ c.loop-number.invariant
-    (rw c.in-Ok-true.field-0-test at c.in-Ok-true.ensures.line) c.read_line.ensures.kept (c.text-line.ensures ∙ ap line_text c.line.ensures) in
+    (rw c.in-Ok-true.field-0-test at c.in-Ok-true.ensures.line) c.read_line.ensures.kept
+    (c.text-line.ensures ∙ ap line_text c.line.ensures) in
     line_answered buffers _ _ _ _ _ _ _ _ _ _ read c.in-Ok-answer.ensures c.in_default-take.ensures.bytes
 
 pub returns-clause-serves : goal.returns-clause-serves

@@ -15,7 +15,8 @@ returns-in-Err-NoCommand-clause-serves g c =
 
 pub returns-in-Err-Memory-clause-serves : goal.returns-in-Err-Memory-clause-serves
 returns-in-Err-Memory-clause-serves g c =
-    first_no_memory _ _ _ _ _ (first_read _ _ _ _ _ _ (rw c.in-Ok-true.field-0-test at c.in-Ok-true.ensures.line) c.read_line.ensures.kept refl)
+    first_no_memory _ _ _ _ _ (first_read _ _ _ _ _ _
+    (rw c.in-Ok-true.field-0-test at c.in-Ok-true.ensures.line) c.read_line.ensures.kept refl)
 
 pub returns-in-Err-take-clause-serves : goal.returns-in-Err-take-clause-serves
 returns-in-Err-take-clause-serves g c =
@@ -31,7 +32,8 @@ loop-number-init g c =
 
 pub returns-in-Ok-false-read_line-clause-serves : goal.returns-in-Ok-false-read_line-clause-serves
 returns-in-Ok-false-read_line-clause-serves g c =
-    all_answered machine _ _ _ _ _ _ _ c.loop-number.invariant (rw c.in-Ok-false-read_line.field-0-test at c.in-Ok-false-read_line.ensures.line)
+    all_answered machine _ _ _ _ _ _ _ c.loop-number.invariant
+    (rw c.in-Ok-false-read_line.field-0-test at c.in-Ok-false-read_line.ensures.line)
     c.read_line-in-loop-number.ensures.kept
 
 pub returns-in-Err-read_line-clause-serves : goal.returns-in-Err-read_line-clause-serves

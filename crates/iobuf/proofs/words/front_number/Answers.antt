@@ -26,6 +26,7 @@ loop-place-preserved c =
 
 pub returns-clause-ok : goal.returns-clause-ok
 returns-clause-ok c =
-    let a = at_end c.args.line.now c.loop-place.place c.loop-place.n c.loop-place-test.false (grind (arith, nat_tests, c.if-is_empty.ensures))
+    let a = at_end c.args.line.now c.loop-place.place c.loop-place.n c.loop-place-test.false
+    (grind (arith, nat_tests, c.if-is_empty.ensures))
     c.loop-place.invariant in
     (c.args.line.now, a.is, a.says)

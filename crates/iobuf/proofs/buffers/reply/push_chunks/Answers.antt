@@ -5,7 +5,8 @@ use Rattle.iobuf.proofs.buffers.reply.push_chunks.Goals as goal
 
 pub loop-place-preserved : goal.loop-place-preserved
 loop-place-preserved c =
-    held_more (λ (chunk : List ℕ). held_text kind.Text (chunk, 0)) (text_chunks c.args.chunks.now) c.loop-place.place c.in-Some.chunk.now _ _ _
+    held_more (λ (chunk : List ℕ). held_text kind.Text (chunk, 0))
+    (text_chunks c.args.chunks.now) c.loop-place.place c.in-Some.chunk.now _ _ _
     c.in-Some.ensures c.loop-place.invariant c.in_ok-push_bytes.ensures
 
 pub returns : goal.returns

@@ -16,4 +16,5 @@ put (Err x) old new pushed text e is = tt
 pub returns : goal.returns
 returns c =
     put c.push_str.result (string_bytes c.args.text.now) _ _ _ c.push_str.ensures.bytes
-    (c.in-Ok-from_utf8.ensures.cases.0 ∙ c.in-Ok.ensures.written ∙ sym (digits_are c.args.bytes.now (λ i. omega (arith, c.type_inv.bytes i))))
+    (c.in-Ok-from_utf8.ensures.cases.0 ∙ c.in-Ok.ensures.written
+    ∙ sym (digits_are c.args.bytes.now (λ i. omega (arith, c.type_inv.bytes i))))

@@ -5,4 +5,5 @@ use Rattle.iobuf.proofs.buffers.reply.push_parts.Given as goal
 -- the parts so far follow the text
 abbrev pub invariant-loop-place : goal.invariant-loop-place
 invariant-loop-place l =
-    string_bytes l.text ≡ string_bytes l.fn.text ++ flat_map (λ (part : Part). held_text kind.Parts (part.filled, part.spare)) (take l.place l.fn.parts)
+    string_bytes l.text ≡ string_bytes l.fn.text ++ flat_map (λ (part : Part). held_text kind.Parts (part.filled, part.spare))
+    (take l.place l.fn.parts)

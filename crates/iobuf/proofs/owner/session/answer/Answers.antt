@@ -16,7 +16,8 @@ returns-in-Take g c =
     let s = c.step.ensures in
     let r = c.reserve.ensures in
     let grown = room_made c.args.machine.now c.reserve.new.self c.reserve.result r.state r.room r.blocks r.handles r.records r.unchanged in
-    written c.writeln.result (g.W.Write.contents c.args.output.now) _ c.args.machine.now c.step.new.self c.args.ask (step_reply_text c.step.result)
+    written c.writeln.result (g.W.Write.contents c.args.output.now) _ c.args.machine.now c.step.new.self c.args.ask
+    (step_reply_text c.step.result)
     (rw c.in-Take.is (
       c.reserve.new.self,
       c.step.result,

@@ -10,4 +10,5 @@ returns-then-line-place-eq32 c =
 
 pub returns : goal.returns
 returns c =
-    sym c.self.view_is ∙ ap words_left c.in_ok-line.was ∙ to_end c.in_ok-line.line.now c.loop-place.place c.loop-place.invariant c.loop-place-test.false
+    sym c.self.view_is ∙ ap words_left c.in_ok-line.was
+    ∙ to_end c.in_ok-line.line.now c.loop-place.place c.loop-place.invariant c.loop-place-test.false
