@@ -18,6 +18,7 @@ pub record IsMove (m : Seen) (step : Step) (reply : Reply) (next : Seen) : Type 
 abbrev pub GrowingRuns : Seen → List Step → List Reply → Seen → Type 0
 GrowingRuns m [] [] next = next ≡ m
 GrowingRuns m (step ∷ steps) (reply ∷ replies) next =
-    (grown mid : Seen) × (grown.state ≡ m.state) × KeepsRoom m.room grown.room × IsMove grown step reply mid × GrowingRuns mid steps replies next
+    (grown mid : Seen) × (grown.state ≡ m.state) × KeepsRoom m.room grown.room × IsMove grown step reply mid
+    × GrowingRuns mid steps replies next
 GrowingRuns m [] (reply ∷ replies) next = ⊥
 GrowingRuns m (step ∷ steps) [] next = ⊥

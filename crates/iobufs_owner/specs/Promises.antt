@@ -57,6 +57,7 @@ pub record Promises (s : State) : Type 0 where
   pub unused_freed : (b : ℕ) → b < length s.tables.blocks → users (reading s) b ≡ 0 → IsFreed s b
   pub records_freed : (r : ℕ) → r < length s.tables.records → IsFreed s (record_at s.tables r).block → is_logged r s.freed_records ≡ true
   -- With no handle and no call left, every block and every record is freed.
-  pub none_left : IsOver s → ((b : ℕ) → b < length s.tables.blocks → IsFreed s b) × ((r : ℕ) → r < length s.tables.records → is_logged r s.freed_records ≡ true)
+  pub none_left : IsOver s → ((b : ℕ) → b < length s.tables.blocks → IsFreed s b)
+      × ((r : ℕ) → r < length s.tables.records → is_logged r s.freed_records ≡ true)
   -- Holders pass the ceiling by at most one.
   pub capped : (b : ℕ) → holders (reading s) b ≤ s.ceiling + 1

@@ -44,7 +44,8 @@ abbrev pub EndsInFour : (p n : ℕ) → List Step → List Reply → Type 0
 EndsInFour p n [] replies = Unit {0}
 EndsInFour p n (step ∷ steps) [] = Unit {0}
 EndsInFour p n (step ∷ steps) (reply ∷ replies) =
-    MatchBool (step.thread == p) ((taken_after n reply < 4) × EndsInFour p (taken_after n reply) steps replies) (EndsInFour p n steps replies)
+    MatchBool (step.thread == p) ((taken_after n reply < 4) × EndsInFour p (taken_after n reply) steps replies)
+    (EndsInFour p n steps replies)
 
 -- how many steps an unfinished call has taken at most: four, less those that it may still take
 abbrev pub taken_of : Option Unfinished → ℕ

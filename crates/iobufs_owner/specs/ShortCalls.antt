@@ -71,7 +71,8 @@ placed s base size align =
 
 abbrev pub new_of : State → (base size align : ℕ) → Bool → Outcome
 new_of s base size align memory =
-    if is_good_place s.tables.blocks base size align then (if memory then placed s base size align else refused s Memory) else refused s BadPlace
+    if is_good_place s.tables.blocks base size align then
+    (if memory then placed s base size align else refused s Memory) else refused s BadPlace
 
 abbrev pub external_of : State → (base size : ℕ) → Bool → Outcome
 external_of s base size memory =
@@ -87,7 +88,8 @@ static_of s len = made s (detached_handle len)
 
 abbrev pub put_of : State → ℕ → ℕ → Outcome
 put_of s h n =
-    on_lent s (lend_of s h Mut) (λ x. if nat_lt (x.cap - x.len) n then refused s OutOfRange else done (edited s h (record x { len = x.len + n })))
+    on_lent s (lend_of s h Mut) (λ x. if nat_lt (x.cap - x.len) n then refused s OutOfRange else done
+    (edited s h (record x { len = x.len + n })))
 
 -- a view has capacity 0 and keeps it
 abbrev pub advanced : Handle → ℕ → Handle

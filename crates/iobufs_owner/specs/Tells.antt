@@ -18,14 +18,16 @@ pub record IsSole (w : World) (h b : ℕ) : Type 0 where
 -- `IsUnique` answers true exactly where the handle is its block's sole holder
 abbrev pub TellsUnique : World → Step → Reply → Type 0
 TellsUnique w step reply =
-    (h b : ℕ) (memory v : Bool) (x : LiveHandle) → step.act ≡ Begin (IsUnique h) memory → reply ≡ Unique v → held_at w h ≡ Some x → x.block ≡ Some b
+    (h b : ℕ) (memory v : Bool) (x : LiveHandle) → step.act ≡ Begin (IsUnique h) memory → reply ≡ Unique v → held_at w h ≡ Some x
+    → x.block ≡ Some b
     → (v ≡ true) ↔ IsSole w h b
 
 -- Where n steps of the thread's unfinished call are taken at most, fewer than four are after the step, and no more than
 -- the call that is unfinished then has taken at most.
 abbrev pub CountsTaken : World → Step → Reply → World → Type 0
 CountsTaken w step reply next =
-    (n : ℕ) → n ≤ taken_of (going_at w step.thread) → (taken_after n reply < 4) × (taken_after n reply ≤ taken_of (going_at next step.thread))
+    (n : ℕ) → n ≤ taken_of (going_at w step.thread)
+    → (taken_after n reply < 4) × (taken_after n reply ≤ taken_of (going_at next step.thread))
 
 -- ---- the step tables, from the replies of a run
 

@@ -15,7 +15,8 @@ ghost use Rattle.iobufs_owner.specs.World.{World, going_at};
 
 /// State and step determine the reply and the next state.
 pub fn answer_law()
-    ensures { (m next other : Seen) → (step : Step) → (reply answer : Reply) → IsMove m step reply next → IsMove m step answer other
+    ensures { (m next other : Seen) → (step : Step) → (reply answer : Reply) → IsMove m step reply next
+        → IsMove m step answer other
         → (answer ≡ reply) × (other ≡ next) }
 {}
 
@@ -58,5 +59,6 @@ pub fn ends_law()
 
 /// A run adds what it frees at the end of the logs.
 pub fn logs_law()
-    ensures { (s next : State) → (steps : List Step) → (replies : List Reply) → Runs s steps replies next → KeepsLogs s next }
+    ensures { (s next : State) → (steps : List Step) → (replies : List Reply) → Runs s steps replies next
+        → KeepsLogs s next }
 {}

@@ -14,7 +14,8 @@ count-set p (x ∷ xs) zero y d h = omega arith
 count-set p (x ∷ xs) (suc i) y d h = omega (arith, count-set p xs i y d (omega arith))
 
 -- the count changes by whether the old element passes and the new one does
-pub count-change : {X : Type 0} (p : X → Bool) (xs : List X) (i : ℕ) (y d : X) (a b : Bool) → i < length xs → p (get_or xs i d) ≡ a → p y ≡ b
+pub count-change : {X : Type 0} (p : X → Bool) (xs : List X) (i : ℕ) (y d : X) (a b : Bool) → i < length xs → p (get_or xs i d) ≡ a
+    → p y ≡ b
     → tally p (set xs i y) + cond a 1 0 ≡ tally p xs + cond b 1 0
 count-change p xs i y d a b l e f = rw (← e, ← f) (count-set p xs i y d l)
 
@@ -75,7 +76,8 @@ unfolding holders users
 holders-le-users w b = omega (arith, count-most (drops b) (still_holds b) w.calls (drops-more b))
 
 -- two places that pass count two
-pub count-two : {X : Type 0} (p : X → Bool) (xs : List X) (i j : ℕ) (d : X) → i ≢ j → i < length xs → j < length xs → p (get_or xs i d) ≡ true
+pub count-two : {X : Type 0} (p : X → Bool) (xs : List X) (i j : ℕ) (d : X) → i ≢ j → i < length xs → j < length xs
+    → p (get_or xs i d) ≡ true
     → p (get_or xs j d) ≡ true → 2 ≤ tally p xs
 count-two p [] i j d n h l t u = absurd (omega arith)
 count-two p (x ∷ xs) zero zero d n h l t u = absurd (n refl)
@@ -100,7 +102,8 @@ count-find p d (x ∷ xs) h = elim (cases_Bool (p x)) [
 ]
 
 -- where no element passes, the count is 0
-pub count-none : {X : Type 0} (p : X → Bool) (d : X) (xs : List X) → ((i : ℕ) → i < length xs → p (get_or xs i d) ≡ true → ⊥) → tally p xs ≡ 0
+pub count-none : {X : Type 0} (p : X → Bool) (d : X) (xs : List X) → ((i : ℕ) → i < length xs → p (get_or xs i d) ≡ true → ⊥)
+    → tally p xs ≡ 0
 count-none p d xs never = elim (eqb_tells (tally p xs) 0) [
   | inl i ↦ i.1
   | inr i ↦ absurd (let w = count-find p d xs (let n = i.1 in omega arith) in never w.place w.inside w.passes)

@@ -7,7 +7,8 @@ use Rattle.iobufs_owner.proofs.Base.Lent.{owner-same}
 use Rattle.iobufs_owner.proofs.Base.Counts.{count-some, holders-few}
 
 -- a handle that is alone has one holder
-pub alone-at : (s : State) (h : ℕ) (x : Handle) (b : ℕ) → IsSound s → handle_at s h ≡ Some x → alone s.tables b (Some x) ≡ true → holders (reading s) b ≡ 1
+pub alone-at : (s : State) (h : ℕ) (x : Handle) (b : ℕ) → IsSound s → handle_at s h ≡ Some x → alone s.tables b (Some x) ≡ true
+    → holders (reading s) b ≡ 1
 alone-at s h x b k at e = k.sole b (count-some (alone s.tables b) s.handles h None (at-some s.handles h x at) (rw at e))
 
 -- a live record is one of the table
@@ -24,7 +25,8 @@ unfolding owner_of
 owner-described g x w e = rw e refl
 
 -- a handle with another descriptor of one base holds one block
-pub owner-redescribed : (g : Tables) (x y : Handle) (w v : ℕ) → x.word ≡ Descriptor w → y.word ≡ Descriptor v → base_by g y v ≡ base_by g x w
+pub owner-redescribed : (g : Tables) (x y : Handle) (w v : ℕ) → x.word ≡ Descriptor w → y.word ≡ Descriptor v
+    → base_by g y v ≡ base_by g x w
     → owner_of g y ≡ owner_of g x
 owner-redescribed g x y w v ex ey e =
     owner-described g y v ey ∙ ap (λ n. block_with n g.blocks) e ∙ sym (owner-described g x w ex)
@@ -82,7 +84,8 @@ word-fits s x w b log tail k d =
       log = log;
       tail = tail;
       small = log-below (2 ^ log) log
-          (align-small (block_at s.tables b).base (2 ^ log) place.above (let z = place.ends in omega arith) (rw (← d.align) place.aligned)) refl;
+          (align-small (block_at s.tables b).base (2 ^ log) place.above (let z = place.ends in omega arith)
+          (rw (← d.align) place.aligned)) refl;
       room = d.room;
       is = d.word;
     }
@@ -94,7 +97,8 @@ end-kind b x Mut e lies = omega (arith, e, lies.ends, lies.within)
 
 end-by : (s : State) (x : Handle) (w : Word) → IsSound s → FitsWord s.tables s.calls x w → x.ptr + x.len < 2 ^ 64
 end-by s x Empty k f = f.ends
-end-by s x (Descriptor w) k d = end-kind (block_at s.tables d.block) x x.kind (k.blocks.places d.block no_block d.says.known).ends d.says.lies
+end-by s x (Descriptor w) k d = end-kind (block_at s.tables d.block) x x.kind
+    (k.blocks.places d.block no_block d.says.known).ends d.says.lies
 end-by s x (Counted r) k f = end-kind (block_at s.tables (record_at s.tables r).block) x x.kind
     (k.blocks.places (record_at s.tables r).block no_block f.known).ends f.lies
 
@@ -106,7 +110,8 @@ end-small s h x k at = end-by s x x.word k (fits-at s h x k at)
 
 -- another handle of the kind, by the same word, fits where it lies and ends as the old one does, or holds nothing as that does
 pub fits-again : (g : Tables) (calls : List (Option Pending)) (x y : Handle) (w : Word) → y.kind ≡ x.kind → owner_of g y ≡ owner_of g x
-    → ((b : Block) → LiesIn b x x.kind → LiesIn b y y.kind) → ((b : Block) (tail : ℕ) → LeavesBehind b x tail x.kind → LeavesBehind b y tail y.kind)
+    → ((b : Block) → LiesIn b x x.kind → LiesIn b y y.kind)
+    → ((b : Block) (tail : ℕ) → LeavesBehind b x tail x.kind → LeavesBehind b y tail y.kind)
     → (HoldsNothing x → HoldsNothing y) → FitsWord g calls x w → FitsWord g calls y w
 fits-again g calls x y Empty same o lies behind nothing f = nothing f
 fits-again g calls x y (Descriptor w) same o lies behind nothing f =
@@ -139,13 +144,15 @@ pub owner-put : (g : Tables) (x : Handle) (n : ℕ) → x.kind ≡ Mut → owner
 owner-put g x n m = owner-same g x (record x { len = x.len + n }) refl (λ w. rw m refl)
 
 -- bytes put to a writable handle that no call borrows, within its capacity, keep the machine sound
-pub sound-put : (s : State) (h : ℕ) (x : Handle) (n : ℕ) → IsSound s → Lends s h Mut x → n ≤ x.cap - x.len → IsSound (edited s h (record x { len = x.len + n }))
+pub sound-put : (s : State) (h : ℕ) (x : Handle) (n : ℕ) → IsSound s → Lends s h Mut x → n ≤ x.cap - x.len
+    → IsSound (edited s h (record x { len = x.len + n }))
 sound-put s h x n k t l =
     let y : Handle = record x { len = x.len + n } in
     let o = owner-put s.tables x n t.kind_is in
     sound-edited s h x y k t.at t.free o (λ b. rw o refl) (λ b a. alone-at s h x b k t.at (rw o at a))
     (fits-again s.tables s.calls x y x.word refl o (λ b f.
-    let lies = rw t.kind_is at f in rw t.kind_is (record { begins = lies.begins; ends = lies.ends; within = omega (arith, l, lies.within) }))
+    let lies = rw t.kind_is at f in rw t.kind_is (record
+    { begins = lies.begins; ends = lies.ends; within = omega (arith, l, lies.within) }))
     (λ b tail f. rw t.kind_is (rw t.kind_is at f))
     (λ f. let z = f.no_bytes t.kind_is in record {
       no_room = f.no_room;
@@ -170,18 +177,25 @@ base-kind g x n View l c w e = rw e (omega arith)
 base-kind g x n Mut l c w e = let z = c refl in rw e (omega arith)
 
 -- a handle that gives up bytes that it has holds what it held, where a writable one has no more bytes than capacity
-pub owner-advanced : (g : Tables) (x : Handle) (n : ℕ) → n ≤ x.len → (x.kind ≡ Mut → x.len ≤ x.cap) → owner_of g (advanced x n) ≡ owner_of g x
+pub owner-advanced : (g : Tables) (x : Handle) (n : ℕ) → n ≤ x.len → (x.kind ≡ Mut → x.len ≤ x.cap)
+    → owner_of g (advanced x n) ≡ owner_of g x
 owner-advanced g x n l c = owner-same g x (advanced x n) refl (λ w. base-kind g x n x.kind l c w refl)
 
 advance-lies : (b : Block) (x : Handle) (n : ℕ) (kind : Kind) → n ≤ x.len → LiesIn b x kind → LiesIn b (advanced x n) kind
-advance-lies b x n View l lies = record { begins = omega (arith, lies.begins); ends = omega (arith, l, lies.ends); no_room = omega (arith, lies.no_room) }
+advance-lies b x n View l lies = record {
+  begins = omega (arith, lies.begins);
+  ends = omega (arith, l, lies.ends);
+  no_room = omega
+      (arith, lies.no_room);
+}
 advance-lies b x n Mut l lies = record {
   begins = omega (arith, lies.begins);
   ends = omega (arith, l, lies.ends, lies.within);
   within = omega (arith, l, lies.within);
 }
 
-advance-behind : (b : Block) (x : Handle) (n tail : ℕ) (kind : Kind) → n ≤ x.len → LeavesBehind b x tail kind → LeavesBehind b (advanced x n) tail kind
+advance-behind : (b : Block) (x : Handle) (n tail : ℕ) (kind : Kind) → n ≤ x.len → LeavesBehind b x tail kind
+    → LeavesBehind b (advanced x n) tail kind
 advance-behind b x n tail View l e = omega (arith, e)
 advance-behind b x n tail Mut l e = e
 
@@ -191,7 +205,8 @@ pub sound-advanced : (s : State) (h : ℕ) (x : Handle) (n : ℕ) → IsSound s 
 sound-advanced s h x n k at free l =
     let o = owner-advanced s.tables x n l (within s h x k at) in
     sound-edited s h x (advanced x n) k at free o (λ b. rw o refl) (λ b a. alone-at s h x b k at (rw o at a))
-    (fits-again s.tables s.calls x (advanced x n) x.word refl o (λ b f. advance-lies b x n x.kind l f) (λ b tail f. advance-behind b x n tail x.kind l f)
+    (fits-again s.tables s.calls x (advanced x n) x.word refl o (λ b f. advance-lies b x n x.kind l f)
+    (λ b tail f. advance-behind b x n tail x.kind l f)
     (λ f. record {
       no_room = omega (arith, f.no_room);
       ends = omega (arith, f.ends, l);
@@ -202,21 +217,26 @@ sound-advanced s h x n k at free l =
 
 -- a writable handle gives the same base as a view whose descriptor has its spare bytes for a tail, where these fit the field
 pub base-frozen : (g : Tables) (x : Handle) (w b log tail : ℕ) → x.kind ≡ Mut → x.len ≤ x.cap → IsDescribed g x w b log tail
-    → x.cap - x.len < 2 ^ g.tail_bits → base_by g (frozen x (Descriptor (retailed g w (x.cap - x.len)))) (retailed g w (x.cap - x.len)) ≡ base_by g x w
+    → x.cap - x.len < 2 ^ g.tail_bits → base_by g (frozen x (Descriptor (retailed g w (x.cap - x.len))))
+    (retailed g w (x.cap - x.len)) ≡ base_by g x w
 base-frozen g x w b log tail m c d l =
     let room = room-again g x w b log tail (x.cap - x.len) d l in
     let word = word-again g x w b log tail (x.cap - x.len) d in
-    let size = word-size g.align_bits g.tail_bits g.size_bits (retailed g w (x.cap - x.len)) (block_at g b).size log (x.cap - x.len) room word in
-    let back = word-tail g.align_bits g.tail_bits g.size_bits (retailed g w (x.cap - x.len)) (block_at g b).size log (x.cap - x.len) room word in
+    let size = word-size g.align_bits g.tail_bits g.size_bits (retailed g w (x.cap - x.len)) (block_at g b).size log
+    (x.cap - x.len) room word in
+    let back = word-tail g.align_bits g.tail_bits g.size_bits (retailed g w (x.cap - x.len)) (block_at g b).size log
+    (x.cap - x.len) room word in
     let old = size-says g x w b log tail d in
     rw (size, back, m, old) (omega arith)
 
 -- the facts of a descriptor
-pub described-at : (s : State) (h : ℕ) (x : Handle) (w : ℕ) → IsSound s → handle_at s h ≡ Some x → x.word ≡ Descriptor w → DescribesBlock s.tables x w
+pub described-at : (s : State) (h : ℕ) (x : Handle) (w : ℕ) → IsSound s → handle_at s h ≡ Some x → x.word ≡ Descriptor w
+    → DescribesBlock s.tables x w
 described-at s h x w k at i = subst (λ (v : Word). FitsWord s.tables s.calls x v) i (fits-at s h x k at)
 
 -- in a sound machine a handle by a record lies in the record's block, and the record is live and published
-pub counted-at : (s : State) (h : ℕ) (x : Handle) (r : ℕ) → IsSound s → handle_at s h ≡ Some x → x.word ≡ Counted r → IsCounted s.tables s.calls x r
+pub counted-at : (s : State) (h : ℕ) (x : Handle) (r : ℕ) → IsSound s → handle_at s h ≡ Some x → x.word ≡ Counted r
+    → IsCounted s.tables s.calls x r
 counted-at s h x r k at i = subst (λ (v : Word). FitsWord s.tables s.calls x v) i (fits-at s h x k at)
 
 -- in a sound machine a handle without block has no capacity, ends where addresses end, and is empty where it is writable
@@ -238,7 +258,8 @@ lies-still b x v View l = record { begins = l.begins; ends = l.ends; no_room = l
 lies-still b x v Mut l = record { begins = l.begins; ends = l.ends; within = l.within }
 
 -- after a handle of this kind is left what this kind leaves
-pub behind-as : (b : Block) (x : Handle) (tail : ℕ) (kind : Kind) → x.kind ≡ kind → LeavesBehind b x tail x.kind → LeavesBehind b x tail kind
+pub behind-as : (b : Block) (x : Handle) (tail : ℕ) (kind : Kind) → x.kind ≡ kind → LeavesBehind b x tail x.kind
+    → LeavesBehind b x tail kind
 behind-as b x tail kind e l = subst (λ (q : Kind). LeavesBehind b x tail q) e l
 
 -- which handles are descriptors, and which must be alone
@@ -246,7 +267,8 @@ pub alone-described : (g : Tables) (c : ℕ) (x : Handle) (w : ℕ) → x.word �
 alone-described g c x w e = rw e (grind (arith))
 
 -- a handle by a descriptor describes the block that it holds, and no other
-pub describes-described : (g : Tables) (c : ℕ) (x : Handle) (w : ℕ) → x.word ≡ Descriptor w → describes g c (Some x) ≡ is_block c (owner_of g x)
+pub describes-described : (g : Tables) (c : ℕ) (x : Handle) (w : ℕ) → x.word ≡ Descriptor w
+    → describes g c (Some x) ≡ is_block c (owner_of g x)
 describes-described g c x w e = rw e (grind (arith))
 
 -- a handle by a record describes no block
@@ -258,11 +280,13 @@ pub alone-shared : (g : Tables) (c : ℕ) (x : Handle) (r : ℕ) → x.word ≡ 
 alone-shared g c x r e v = rw (e, v) (grind (arith))
 
 -- a writable handle by a record has to be alone on the block that it holds, and on no other
-pub alone-written : (g : Tables) (c : ℕ) (x : Handle) (r : ℕ) → x.word ≡ Counted r → x.kind ≡ Mut → alone g c (Some x) ≡ is_block c (owner_of g x)
+pub alone-written : (g : Tables) (c : ℕ) (x : Handle) (r : ℕ) → x.word ≡ Counted r → x.kind ≡ Mut
+    → alone g c (Some x) ≡ is_block c (owner_of g x)
 alone-written g c x r e v = rw (e, v) (grind (arith))
 
 -- a handle by a descriptor, with another descriptor for the same block
-pub sound-redescribed : (s : State) (h : ℕ) (x y : Handle) (w b log tail n : ℕ) → IsSound s → handle_at s h ≡ Some x → is_lent h s.calls ≡ false
+pub sound-redescribed : (s : State) (h : ℕ) (x y : Handle) (w b log tail n : ℕ) → IsSound s → handle_at s h ≡ Some x
+    → is_lent h s.calls ≡ false
     → x.word ≡ Descriptor w → IsDescribed s.tables x w b log tail → n < 2 ^ s.tables.tail_bits → y.word ≡ Descriptor (retailed s.tables w n)
     → base_by s.tables y (retailed s.tables w n) ≡ base_by s.tables x w → LiesIn (block_at s.tables b) y y.kind
     → LeavesBehind (block_at s.tables b) y n y.kind → IsSound (edited s h y)
@@ -271,7 +295,8 @@ sound-redescribed s h x y w b log tail n k at free xw d l yw base lies behind =
     sound-edited s h x y k at free o (λ c. describes-described s.tables c y (retailed s.tables w n) yw ∙ ap (is_block c) o
     ∙ sym (describes-described s.tables c x w xw))
     (λ c a. alone-at s h x c k at (alone-described s.tables c x w xw ∙ ap (is_block c) (sym o)
-    ∙ sym (alone-described s.tables c y (retailed s.tables w n) yw) ∙ a)) (subst (λ (v : Word). FitsWord s.tables s.calls y v) (sym yw) (record {
+    ∙ sym (alone-described s.tables c y (retailed s.tables w n) yw)
+    ∙ a)) (subst (λ (v : Word). FitsWord s.tables s.calls y v) (sym yw) (record {
       block = b;
       log = log;
       tail = n;
@@ -288,7 +313,8 @@ sound-redescribed s h x y w b log tail n k at free xw d l yw base lies behind =
     }))
 
 -- another handle that holds nothing, in the place of one that no call borrows
-pub sound-emptied : (s : State) (h : ℕ) (x y : Handle) (kind : Kind) → IsSound s → Lends s h kind x → x.word ≡ Empty → y.word ≡ Empty → HoldsNothing y
+pub sound-emptied : (s : State) (h : ℕ) (x y : Handle) (kind : Kind) → IsSound s → Lends s h kind x → x.word ≡ Empty → y.word ≡ Empty
+    → HoldsNothing y
     → IsSound (edited s h y)
 sound-emptied s h x y kind k t i e f =
     let oy = owner-empty s.tables y e in
@@ -297,7 +323,8 @@ sound-emptied s h x y kind k t i e f =
     (subst (λ (v : Word). FitsWord s.tables s.calls y v) (sym e) f)
 
 -- another view by the same record, in the place of a handle that no call borrows
-pub sound-recounted : (s : State) (h : ℕ) (x y : Handle) (kind : Kind) (r : ℕ) → IsSound s → Lends s h kind x → x.word ≡ Counted r → y.word ≡ Counted r
+pub sound-recounted : (s : State) (h : ℕ) (x y : Handle) (kind : Kind) (r : ℕ) → IsSound s → Lends s h kind x → x.word ≡ Counted r
+    → y.word ≡ Counted r
     → y.kind ≡ View → LiesIn (block_at s.tables (record_at s.tables r).block) y View → IsSound (edited s h y)
 sound-recounted s h x y kind r k t i e v lies =
     let f = counted-at s h x r k t.at i in
@@ -312,7 +339,8 @@ sound-recounted s h x y kind r k t i e v lies =
       native = λ m. absurd (let q = sym v ∙ m in cc);
     }))
 
--- a writable handle by a descriptor that no call borrows becomes a view with its spare bytes for a tail, where these fit the field: the machine stays sound
+-- a writable handle by a descriptor that no call borrows becomes a view with its spare bytes for a tail, where these fit the field: the
+-- machine stays sound
 pub sound-frozen_described : (s : State) (h : ℕ) (x : Handle) (w : ℕ) → IsSound s → Lends s h Mut x → x.word ≡ Descriptor w
     → x.cap - x.len < 2 ^ s.tables.tail_bits → IsSound (edited s h (frozen x (Descriptor (retailed s.tables w (x.cap - x.len)))))
 sound-frozen_described s h x w k t i l =
@@ -321,7 +349,8 @@ sound-frozen_described s h x w k t i l =
     let b : ℕ = d.block in
     let c = within s h x k t.at t.kind_is in
     let lies = lies-as (block_at g b) x Mut t.kind_is d.says.lies in
-    sound-redescribed s h x (frozen x (Descriptor (retailed s.tables w (x.cap - x.len)))) w d.block d.log d.tail (x.cap - x.len) k t.at t.free i d.says l refl
+    sound-redescribed s h x (frozen x (Descriptor (retailed s.tables w (x.cap - x.len)))) w d.block d.log d.tail
+    (x.cap - x.len) k t.at t.free i d.says l refl
     (base-frozen g x w d.block d.log d.tail t.kind_is c d.says l)
     (record { begins = omega (arith, lies.begins); ends = omega (arith, lies.ends, c); no_room = refl })
     (omega (arith, lies.ends, c))
@@ -354,17 +383,20 @@ sound-thawed_described s h x w k t i =
     let lies = lies-as (block_at g d.block) x View t.kind_is d.says.lies in
     let behind = behind-as (block_at g d.block) x d.tail View t.kind_is d.says.behind in
     let tail = tail-says g x w d.block d.log d.tail d.says in
-    sound-redescribed s h x (thawed x (x.len + tail_in s.tables w) (Descriptor (retailed s.tables w 0))) w d.block d.log d.tail 0 k t.at t.free i
+    sound-redescribed s h x (thawed x (x.len + tail_in s.tables w)
+    (Descriptor (retailed s.tables w 0))) w d.block d.log d.tail 0 k t.at t.free i
     d.says (pow_pos g.tail_bits) refl
     (base-thawed g x w d.block d.log d.tail t.kind_is d.says)
     (record { begins = lies.begins; ends = rw tail (omega (arith, behind)); within = omega arith })
     refl
 
--- a view by a record that counts one, of a native block, becomes writable up to the block's end where no call borrows it: the machine stays sound
+-- a view by a record that counts one, of a native block, becomes writable up to the block's end where no call borrows it: the machine stays
+-- sound
 pub sound-thawed_counted : (s : State) (h : ℕ) (x : Handle) (r : ℕ) → IsSound s → Lends s h View x → x.word ≡ Counted r
     → (block_at s.tables (record_at s.tables r).block).external ≡ false → (record_at s.tables r).count ≡ 1
     → IsSound
-    (edited s h (thawed x ((block_at s.tables (record_at s.tables r).block).base + (block_at s.tables (record_at s.tables r).block).size - x.ptr) (Counted r)))
+    (edited s h (thawed x ((block_at s.tables (record_at s.tables r).block).base +
+    (block_at s.tables (record_at s.tables r).block).size - x.ptr) (Counted r)))
 sound-thawed_counted s h x r k t i native one =
     let bl : Block = block_at s.tables (record_at s.tables r).block in
     let y : Handle = thawed x (bl.base + bl.size - x.ptr) (Counted r) in
@@ -392,7 +424,8 @@ same-some None v P w e s = absurd (cc)
 same-some (Some u) v P w e s = let q : u ≡ v = cc in sym q ∙ s.1
 
 -- a count never comes near the end of its type
-pub count-small : (s : State) (r : ℕ) → IsSound s → (record_at s.tables r).live ≡ true → hidden s.calls r ≡ 0 → (record_at s.tables r).count ≤ 2 ^ 33
+pub count-small : (s : State) (r : ℕ) → IsSound s → (record_at s.tables r).live ≡ true → hidden s.calls r ≡ 0
+    → (record_at s.tables r).count ≤ 2 ^ 33
 count-small s r k live z =
     let b : ℕ = (record_at s.tables r).block in
     let c = (k.counted r live).counts z in

@@ -4,7 +4,8 @@ use Rattle.iobufs_owner.proofs.Base.Known.{releases, holds, drops, still_holds, 
 use Rattle.iobufs_owner.proofs.Base.Kept.{Keeps, owner-kept, KeepsLetGo, calls-read-kept, release-kept}
 use Rattle.iobufs_owner.proofs.Base.Counts.{count-map, held_by, still_by, drops_by}
 
-pub read-kept : (g k : Tables) (calls : List (Option Pending)) (o : Option Handle) → Keeps g k → Fits g calls o → read_handle k o ≡ read_handle g o
+pub read-kept : (g k : Tables) (calls : List (Option Pending)) (o : Option Handle) → Keeps g k → Fits g calls o
+    → read_handle k o ≡ read_handle g o
 read-kept g k calls None e f = refl
 read-kept g k calls (Some x) e f = rw (owner-kept g k calls x e f) refl
 
@@ -21,7 +22,8 @@ tally-kept P p q [] e f = refl
 tally-kept P p q (x ∷ xs) e f = rw (e x (All-head P x xs f), tally-kept P p q xs e (All-tail P x xs f)) refl
 
 -- ---- the first block with a base
-found-step : (v : Bool) (o p : Option ℕ) (b : ℕ) → ((c : ℕ) → o ≡ Some c → p ≡ Some c) → cond v (Some 0) (option_map (λ i. i + 1) o) ≡ Some b
+found-step : (v : Bool) (o p : Option ℕ) (b : ℕ) → ((c : ℕ) → o ≡ Some c → p ≡ Some c)
+    → cond v (Some 0) (option_map (λ i. i + 1) o) ≡ Some b
     → cond v (Some 0) (option_map (λ i. i + 1) p) ≡ Some b
 found-step true o p b h e = e
 found-step false None p b h e = absurd (cc)
@@ -29,7 +31,8 @@ found-step false (Some c) p b h e = rw (h c refl) e
 
 pub with-append : (base b : ℕ) (bs cs : List Block) → block_with base bs ≡ Some b → block_with base (bs ++ cs) ≡ Some b
 with-append base b [] cs e = absurd (cc)
-with-append base b (x ∷ bs) cs e = found-step (x.base == base) (block_with base bs) (block_with base (bs ++ cs)) b (λ c i. with-append base c bs cs i) e
+with-append base b (x ∷ bs) cs e = found-step (x.base == base) (block_with base bs) (block_with base (bs ++ cs)) b
+    (λ c i. with-append base c bs cs i) e
 
 -- a block after others, none of which has its base, is the first one with it
 pub with-fresh : (base : ℕ) (bs : List Block) (c : Block) → c.base ≡ base → All (λ (x : Block). x.base ≢ base) bs
@@ -73,7 +76,8 @@ alike s k i e a =
     record {
       held = λ b. sym (count-map (holds b) (read_handle k) s.handles) ∙ ap (λ (xs : List (Option LiveHandle)). tally (holds b) xs) hs
           ∙ count-map (holds b) (read_handle s.tables) s.handles;
-      still = λ b. sym (count-map (still_holds b) (read_call k) s.calls) ∙ ap (λ (xs : List (Option Unfinished)). tally (still_holds b) xs) cs
+      still = λ b. sym (count-map (still_holds b) (read_call k) s.calls)
+          ∙ ap (λ (xs : List (Option Unfinished)). tally (still_holds b) xs) cs
           ∙ count-map (still_holds b) (read_call s.tables) s.calls;
       drops = λ b. sym (count-map (drops b) (read_call k) s.calls) ∙ ap (λ (xs : List (Option Unfinished)). tally (drops b) xs) cs
           ∙ count-map (drops b) (read_call s.tables) s.calls;

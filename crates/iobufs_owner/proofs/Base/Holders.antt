@@ -18,7 +18,12 @@ alone-few s b = omega (arith, holders-as s b, count-most (held_by s.tables b) (a
 
 -- no more handles describe a block than hold it
 pub describes-few : (s : State) (b : ℕ) → tally (describes s.tables b) s.handles ≤ holders (reading s) b
-describes-few s b = omega (arith, holders-as s b, count-most (held_by s.tables b) (describes s.tables b) s.handles (describes-holds s.tables b))
+describes-few s b = omega (
+  arith,
+  holders-as s b,
+  count-most (held_by s.tables b) (describes s.tables b) s.handles
+      (describes-holds s.tables b),
+)
 
 -- a handle of a block is one that holds it
 pub held-at : (s : State) (h : ℕ) (x : Handle) (b : ℕ) → handle_at s h ≡ Some x → owner_of s.tables x ≡ Some b
@@ -27,7 +32,11 @@ held-at s h x b at o = rw (at, o) (eq-eqb b b refl)
 
 -- its block is known
 pub owner-used : (s : State) (h : ℕ) (x : Handle) (b : ℕ) → handle_at s h ≡ Some x → owner_of s.tables x ≡ Some b → 0 < users (reading s) b
-owner-used s h x b at o = omega (arith, users-as s b, count-some (held_by s.tables b) s.handles h None (at-some s.handles h x at) (held-at s h x b at o))
+owner-used s h x b at o = omega (
+  arith,
+  users-as s b,
+  count-some (held_by s.tables b) s.handles h None (at-some s.handles h x at) (held-at s h x b at o),
+)
 
 -- ---- drops that have let go
 

@@ -30,7 +30,8 @@ pub keeps-self : (g : Tables) → Keeps g g
 keeps-self g = keeps-records g g.records (λ r h. refl)
 
 -- a handle that fits holds the same block by tables that keep what it speaks of
-pub owner-kept : (g k : Tables) (calls : List (Option Pending)) (x : Handle) → Keeps g k → FitsWord g calls x x.word → owner_of k x ≡ owner_of g x
+pub owner-kept : (g k : Tables) (calls : List (Option Pending)) (x : Handle) → Keeps g k → FitsWord g calls x x.word
+    → owner_of k x ≡ owner_of g x
 unfolding owner_of
 owner-kept g k calls x e f =
     let by : (w : Word) → x.word ≡ w → FitsWord g calls x w → owner_by k x w ≡ owner_by g x w =
@@ -61,29 +62,40 @@ described-kept g k x w b log tail o e d =
       behind = rw same d.behind;
     }
 
--- a handle that fits goes on to fit by tables that keep what it speaks of, where the record by which it goes, if any, stays live and is shown
+-- a handle that fits goes on to fit by tables that keep what it speaks of, where the record by which it goes, if any, stays live and is
+-- shown
 pub fit-on : {g k : Tables} {cs : List (Option Pending)} (ds : List (Option Pending)) (o : Option Handle) → Keeps g k
     → ((x : Handle) (r : ℕ) → o ≡ Some x → x.word ≡ Counted r → IsCounted g cs x r → ((record_at k r).live ≡ true) × (hidden ds r ≡ 0))
     → Fits g cs o → Fits k ds o
 fit-on ds None e on f = tt
 fit-on {g} {k} {cs} ds (Some x) e on f =
     let o = owner-kept g k cs x e f in
-    let by : (w : Word) → x.word ≡ w → FitsWord g cs x w → FitsWord k ds x w = λ w. elim w as (λ w. x.word ≡ w → FitsWord g cs x w → FitsWord k ds x w) [
+    let by : (w : Word) → x.word ≡ w → FitsWord g cs x w
+    → FitsWord k ds x w = λ w. elim w as (λ w. x.word ≡ w → FitsWord g cs x w → FitsWord k ds x w) [
       | Empty ↦ λ i f. f
-      | Descriptor w ↦ λ i d. record { block = d.block; log = d.log; tail = d.tail; says = described-kept g k x w d.block d.log d.tail o e d.says }
+      | Descriptor w ↦ λ i d. record
+          { block = d.block; log = d.log; tail = d.tail; says = described-kept g k x w d.block d.log d.tail o e d.says }
       | Counted r ↦ λ i f.
           let n = on x r refl i f in
           let b = e.records r f.live in
           let same = e.blocks (record_at g r).block f.known in
           let longer = e.longer in
           let known = f.known in
-          record { live = n.0; known = rw b (omega arith); shown = n.1; lies = rw (b, same) f.lies; native = λ m. rw (b, same) (f.native m) }
+          record {
+            live = n.0;
+            known = rw b (omega arith);
+            shown = n.1;
+            lies = rw (b, same) f.lies;
+            native = λ m. rw (b, same)
+                (f.native m);
+          }
     ] in
     by x.word refl f
 
 -- each handle of a list fits the new tables, if those that go by a record do
 pub all-fit-on : {g k : Tables} {cs : List (Option Pending)} (ds : List (Option Pending)) (hs : List (Option Handle)) → Keeps g k
-    → ((i r : ℕ) (x : Handle) → get_or hs i None ≡ Some x → x.word ≡ Counted r → IsCounted g cs x r → ((record_at k r).live ≡ true) × (hidden ds r ≡ 0))
+    → ((i r : ℕ) (x : Handle) → get_or hs i None ≡ Some x → x.word ≡ Counted r → IsCounted g cs x r
+    → ((record_at k r).live ≡ true) × (hidden ds r ≡ 0))
     → All (Fits g cs) hs → All (Fits k ds) hs
 all-fit-on {k} ds hs e on f = All-from_get_or (Fits k ds) hs None (λ i l. fit-on ds (get_or hs i None) e (λ x r. on i r x) (f i None l))
 
@@ -101,7 +113,8 @@ abbrev pub KeepsLetGo : Tables → Tables → Option Pending → Type 0
 KeepsLetGo g k c = (r : ℕ) → c ≡ Some (Release r) → (record_at g r).live ≡ true → has_let_go k r ≡ has_let_go g r
 
 -- a clone or slice that shares a view shares it in another state, if that has the view under the same number
-pub shares-kept : (s t : State) (part : Share) (x : Handle) → (handle_at s part.handle ≡ Some x → handle_at t part.handle ≡ Some x) → Shares s part x
+pub shares-kept : (s t : State) (part : Share) (x : Handle) → (handle_at s part.handle ≡ Some x → handle_at t part.handle ≡ Some x)
+    → Shares s part x
     → Shares t part x
 shares-kept s t part x at h = record { at = at h.at; view = h.view; order = h.order; within = h.within }
 
@@ -138,18 +151,25 @@ call-kept {s} t (Some (Loaded part w)) k e gone live hid stays held f = record {
   view = f.view;
   shares = shares-kept s t part f.view (stays part.handle f.view (eq-eqb part.handle part.handle refl)) f.shares;
   block = f.block;
-  promised = promised-kept s.tables t.tables f.view w f.block e (owner-kept _ _ s.calls f.view e (fits-at s _ f.view k f.shares.at)) f.promised;
+  promised = promised-kept s.tables t.tables f.view w f.block e
+      (owner-kept _ _ s.calls f.view e (fits-at s _ f.view k f.shares.at)) f.promised;
 }
 call-kept {s} t (Some (Ready part w r)) k e gone live hid stays held f = record {
   view = f.view;
   shares = shares-kept s t part f.view (stays part.handle f.view (eq-eqb part.handle part.handle refl)) f.shares;
   block = f.block;
-  promised = promised-kept s.tables t.tables f.view w f.block e (owner-kept _ _ s.calls f.view e (fits-at s _ f.view k f.shares.at)) f.promised;
+  promised = promised-kept s.tables t.tables f.view w f.block e
+      (owner-kept _ _ s.calls f.view e (fits-at s _ f.view k f.shares.at)) f.promised;
   live = live r (eq-eqb r r refl) f.live;
   same = e.records r f.live ∙ f.same;
 }
 call-kept {s} t (Some (Add part r)) k e gone live hid stays held f =
-    record { view = f.view; shares = shares-kept s t part f.view (stays part.handle f.view (eq-eqb part.handle part.handle refl)) f.shares; word = f.word }
+    record {
+      view = f.view;
+      shares = shares-kept s t part f.view
+          (stays part.handle f.view (eq-eqb part.handle part.handle refl)) f.shares;
+      word = f.word;
+    }
 call-kept t (Some (Subtract r)) k e gone live hid stays held (l, z) = (live r (eq-eqb r r refl) l, hid r (eq-eqb r r refl) l ∙ z)
 call-kept t (Some (Release r)) k e gone live hid stays held f =
     record {
@@ -160,8 +180,10 @@ call-kept t (Some (Release r)) k e gone live hid stays held f =
 
 -- where no handle that is lent changes, and what calls name and hold stays, each call fits as before
 pub calls-fit-kept : {s : State} (t : State) → IsSound s → t.calls ≡ s.calls → Keeps s.tables t.tables
-    → ((p r : ℕ) → p < length s.calls → names r (call_at s p) ≡ true → (record_at s.tables r).live ≡ true → (record_at t.tables r).live ≡ true)
-    → ((i : ℕ) (x : Handle) → is_lent i s.calls ≡ true → handle_at s i ≡ Some x → handle_at t i ≡ Some x) → All (KeepsLetGo s.tables t.tables) s.calls
+    → ((p r : ℕ) → p < length s.calls → names r (call_at s p) ≡ true → (record_at s.tables r).live ≡ true
+    → (record_at t.tables r).live ≡ true)
+    → ((i : ℕ) (x : Handle) → is_lent i s.calls ≡ true → handle_at s i ≡ Some x → handle_at t i ≡ Some x)
+    → All (KeepsLetGo s.tables t.tables) s.calls
     → ((p r : ℕ) → p < length s.calls → call_at s p ≡ Some (Release r)
     → holders (reading t) (record_at s.tables r).block ≡ holders (reading s) (record_at s.tables r).block) → All (FitsCall t) s.calls
 calls-fit-kept {s} t k same e live at a n = All-from_get_or (FitsCall t) s.calls None
@@ -171,7 +193,8 @@ calls-fit-kept {s} t k same e live at a n = All-from_get_or (FitsCall t) s.calls
 -- calls fit if the holders of blocks stay
 pub calls-kept : {s : State} (t : State) → IsSound s → t.calls ≡ s.calls → Keeps s.tables t.tables
     → ((r : ℕ) → (record_at s.tables r).live ≡ true → (record_at t.tables r).live ≡ true)
-    → ((i : ℕ) (x : Handle) → is_lent i s.calls ≡ true → handle_at s i ≡ Some x → handle_at t i ≡ Some x) → All (KeepsLetGo s.tables t.tables) s.calls
+    → ((i : ℕ) (x : Handle) → is_lent i s.calls ≡ true → handle_at s i ≡ Some x → handle_at t i ≡ Some x)
+    → All (KeepsLetGo s.tables t.tables) s.calls
     → ((b : ℕ) → b < length s.tables.blocks → holders (reading t) b ≡ holders (reading s) b) → All (FitsCall t) s.calls
 calls-kept {s} t k same e live at a n = calls-fit-kept t k same e (λ _ r _ _ t. live r t) at a
     (λ p r h i. n (record_at s.tables r).block (let g = rw i at (k.calls_fit p None h) in (k.counted r g.live).known))
@@ -184,7 +207,8 @@ call-read-kept s k (Some (Release r)) e a f = rw (e.records r f.live, a r refl f
 call-read-kept s k c e a f = refl
 
 -- calls that fit are read alike by tables that keep what they speak of, where each that frees a live record has let go as before
-pub calls-read-kept : (s : State) (k : Tables) (cs : List (Option Pending)) → Keeps s.tables k → All (KeepsLetGo s.tables k) cs → All (FitsCall s) cs
+pub calls-read-kept : (s : State) (k : Tables) (cs : List (Option Pending)) → Keeps s.tables k → All (KeepsLetGo s.tables k) cs
+    → All (FitsCall s) cs
     → map (read_call k) cs ≡ map (read_call s.tables) cs
 calls-read-kept s k [] e a f = refl
 calls-read-kept s k (c ∷ cs) e a f = rw (
@@ -193,7 +217,8 @@ calls-read-kept s k (c ∷ cs) e a f = rw (
 ) refl
 
 -- a call that fits releases the same block by tables that keep what it speaks of
-pub release-kept : (s : State) (k : Tables) (b : ℕ) (c : Option Pending) → Keeps s.tables k → FitsCall s c → releases k b c ≡ releases s.tables b c
+pub release-kept : (s : State) (k : Tables) (b : ℕ) (c : Option Pending) → Keeps s.tables k → FitsCall s c
+    → releases k b c ≡ releases s.tables b c
 release-kept s k b (Some (Release r)) e f = rw (e.records r f.live) refl
 release-kept s k b c e f = refl
 
@@ -209,7 +234,8 @@ calls-fit-set s t p c l f others k = All-from_get_or (FitsCall t) (set s.calls p
     ])
 
 -- another handle under a number: where it fits, and each other one fits as it did, all fit
-pub handles-fit-set : (g : Tables) (calls : List (Option Pending)) (hs : List (Option Handle)) (h : ℕ) (o : Option Handle) → h < length hs → Fits g calls o
+pub handles-fit-set : (g : Tables) (calls : List (Option Pending)) (hs : List (Option Handle)) (h : ℕ) (o : Option Handle) → h < length hs
+    → Fits g calls o
     → ((i : ℕ) → i ≢ h → i < length hs → Fits g calls (get_or hs i None)) → All (Fits g calls) (set hs h o)
 handles-fit-set g calls hs h o l f others = All-from_get_or (Fits g calls) (set hs h o) None (λ i li. elim (eqb_tells i h) [
   | inl z ↦ rw (z.1, get_or-set_same hs h o None l) f

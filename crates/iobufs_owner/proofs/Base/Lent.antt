@@ -9,7 +9,8 @@ same-kind Mut View e = absurd (cc)
 same-kind Mut Mut e = refl
 
 -- an element that `asked` returns is the one under the number, passes the test and isn't borrowed
-pub asked-ok : {X : Type 0} (test : X → Bool) (b : Bool) (o : Option X) (x : X) → asked test b o ≡ Ok x → (o ≡ Some x) × (test x ≡ true) × (b ≡ false)
+pub asked-ok : {X : Type 0} (test : X → Bool) (b : Bool) (o : Option X) (x : X) → asked test b o ≡ Ok x
+    → (o ≡ Some x) × (test x ≡ true) × (b ≡ false)
 asked-ok test b None x e = absurd (cc)
 asked-ok test b (Some y) x e = grind (arith, e)
 
@@ -30,5 +31,6 @@ pub owner-same : (g : Tables) (x y : Handle) → y.word ≡ x.word → ((w : ℕ
 unfolding owner_of
 owner-same g x y e b =
     let by : (v : Word) → owner_by g y v ≡ owner_by g x v =
-    λ v. elim v as (λ v. owner_by g y v ≡ owner_by g x v) [ Empty ↦ refl | Descriptor w ↦ ap (λ n. block_with n g.blocks) (b w) | Counted r ↦ refl ] in
+    λ v. elim v as (λ v. owner_by g y v ≡ owner_by g x v)
+    [ Empty ↦ refl | Descriptor w ↦ ap (λ n. block_with n g.blocks) (b w) | Counted r ↦ refl ] in
     rw e (by x.word)

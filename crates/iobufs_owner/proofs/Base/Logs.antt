@@ -9,7 +9,8 @@ any-push : {X : Type 0} (p : X → Bool) (xs : List X) (y : X) → list_any p (x
 any-push p xs y = list_any-append p xs (y ∷ []) ∙ grind (arith)
 
 -- where one fails, fewer pass than there are
-pub count-short : {X : Type 0} (p : X → Bool) (xs : List X) (i : ℕ) (d : X) → i < length xs → p (get_or xs i d) ≡ false → tally p xs < length xs
+pub count-short : {X : Type 0} (p : X → Bool) (xs : List X) (i : ℕ) (d : X) → i < length xs → p (get_or xs i d) ≡ false
+    → tally p xs < length xs
 count-short p [] i d l e = absurd (omega arith)
 count-short p (x ∷ xs) zero d l e = rw e (omega (arith, count-few p xs))
 count-short p (x ∷ xs) (suc i) d l e = grind (arith, count-short p xs i d (omega arith) e)
@@ -64,7 +65,8 @@ record-log-counted {rs} {log} r v l e k = record {
 }
 
 -- a live record is freed
-pub record-log-dead : {rs : List Record} {log : List ℕ} (r : ℕ) (v : Record) → r < length rs → v.live ≡ false → (get_or rs r no_record).live ≡ true
+pub record-log-dead : {rs : List Record} {log : List ℕ} (r : ℕ) (v : Record) → r < length rs → v.live ≡ false
+    → (get_or rs r no_record).live ≡ true
     → LogsRecords rs log → LogsRecords (set rs r v) (log ++ r ∷ [])
 record-log-dead {rs} {log} r v l dead live k =
     let before : is_logged r log ≡ false = k.exact r l ∙ ap not live in
@@ -75,7 +77,8 @@ record-log-dead {rs} {log} r v l dead live k =
       ];
       known = All-push (λ q. q < length (set rs r v)) log r
           (All-weaker (λ q. q < length rs) (λ q. q < length (set rs r v)) (λ q l. rw length-set l) log k.known) (rw length-set l);
-      once = λ i j d h t. once-push log r (λ i j d h t. k.once i j d h t) (λ i d t z. let w = rw z at (logged-at log i d t) in cc) i j d h t;
+      once = λ i j d h t. once-push log r (λ i j d h t. k.once i j d h t)
+          (λ i d t z. let w = rw z at (logged-at log i d t) in cc) i j d h t;
       many = let c = count-set is_dead rs r v no_record l in let m = k.many in let one : ◌≡◌ {A = ℕ} (cond (is_dead v) 1 0) 1 =
           ap (λ (b : Bool). cond {A = ℕ} (not b) 1 0) dead in let none : ◌≡◌ {A = ℕ} (cond (is_dead (get_or rs r no_record)) 1 0) 0 =
           ap (λ (b : Bool). cond {A = ℕ} (not b) 1 0) live in rw length-append (omega (arith, c, one, none, m));
@@ -92,7 +95,8 @@ same-triple : (b : Block) → same_freed b (triple b) ≡ true
 same-triple b = rw (eq-eqb b.base b.base refl, eq-eqb b.size b.size refl, eq-eqb b.align b.align refl) refl
 
 -- two blocks have two bases
-pub bases : (g : Tables) (b c : ℕ) → ArePlaced g.blocks → b < length g.blocks → c < length g.blocks → b ≢ c → (block_at g b).base ≢ (block_at g c).base
+pub bases : (g : Tables) (b c : ℕ) → ArePlaced g.blocks → b < length g.blocks → c < length g.blocks → b ≢ c
+    → (block_at g b).base ≢ (block_at g c).base
 bases g b c k lb lc ne e =
     let pb = (k.places b no_block lb).some in
     let pc = (k.places c no_block lc).some in
@@ -102,7 +106,8 @@ bases g b c k lb lc ne e =
 
 -- one triple more in the log frees its block alone
 pub freed-more : (g : Tables) (log : List Freed) (b : ℕ) → ArePlaced g.blocks → b < length g.blocks
-    → map (λ (x : Block). is_freed x (log ++ triple (block_at g b) ∷ [])) g.blocks ≡ set (map (λ (x : Block). is_freed x log) g.blocks) b true
+    → map (λ (x : Block). is_freed x (log ++ triple (block_at g b) ∷ [])) g.blocks ≡ set
+    (map (λ (x : Block). is_freed x log) g.blocks) b true
 freed-more g log b k l =
     let old : Block → Bool = λ (x : Block). is_freed x log in
     let new : Block → Bool = λ (x : Block). is_freed x (log ++ triple (block_at g b) ∷ []) in
@@ -112,13 +117,18 @@ freed-more g log b k l =
     get_or-map new bs i no_block false li ∙ any-push (same_freed (block_at g i)) log (triple (block_at g b)) ∙ elim (eqb_tells i b) [
       | inl z ↦ rw (z.1, same-triple (block_at g b), get_or-set_same (map old bs) b true false (rw length-map l))
           (or_right (is_freed (block_at g b) log) true refl)
-      | inr z ↦ rw (ne_eqb (block_at g i).base (block_at g b).base (bases g i b k li l z.1), get_or-set_other (map old bs) b i true false z.1)
+      | inr z ↦ rw (
+        ne_eqb (block_at g i).base (block_at g b).base (bases g i b k li l z.1),
+        get_or-set_other (map old bs) b i true false z.1,
+      )
           (grind (arith, get_or-map old bs i no_block false li))
     ])
 
 -- the block that is freed had users and has none, and all others keep having some or none
-pub block-log-freed : (g : Tables) {log : List Freed} (b : ℕ) {used used' : ℕ → ℕ} → ArePlaced g.blocks → b < length g.blocks → 0 < used b → used' b ≡ 0
-    → ((c : ℕ) → c ≢ b → nat_eq (used' c) 0 ≡ nat_eq (used c) 0) → LogsBlocks g.blocks log used → LogsBlocks g.blocks (log ++ triple (block_at g b) ∷ []) used'
+pub block-log-freed : (g : Tables) {log : List Freed} (b : ℕ) {used used' : ℕ → ℕ} → ArePlaced g.blocks → b < length g.blocks → 0 < used b
+    → used' b ≡ 0
+    → ((c : ℕ) → c ≢ b → nat_eq (used' c) 0 ≡ nat_eq (used c) 0) → LogsBlocks g.blocks log used
+    → LogsBlocks g.blocks (log ++ triple (block_at g b) ∷ []) used'
 block-log-freed g {log} b {used} {used'} p l some none others k =
     let before : is_freed (block_at g b) log ≡ false = k.freed b l ∙ ne_eqb (used b) 0 (omega arith) in
     record {
@@ -144,7 +154,8 @@ block-log-freed g {log} b {used} {used'} p l some none others k =
     }
 
 -- where a block has a user, the log has room
-pub block-log-room : {bs : List Block} {log : List Freed} {used : ℕ → ℕ} (b : ℕ) → b < length bs → 0 < used b → LogsBlocks bs log used → length log < length bs
+pub block-log-room : {bs : List Block} {log : List Freed} {used : ℕ → ℕ} (b : ℕ) → b < length bs → 0 < used b → LogsBlocks bs log used
+    → length log < length bs
 block-log-room {bs} {log} {used} b l some k =
     let before : is_freed (get_or bs b no_block) log ≡ false = k.freed b l ∙ ne_eqb (used b) 0 (omega arith) in
     let s = count-short (λ (x : Block). is_freed x log) bs b no_block l before in

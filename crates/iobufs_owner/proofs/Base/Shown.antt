@@ -35,7 +35,8 @@ asked-reads s h test seen {b} {c} t e =
 
 -- users see the handle of this kind that a call may have alone, or the same cause against it
 pub alone-reads : (s : State) (h : ℕ) (kind : Kind) → alone_of (reading s) h kind ≡ read_lent s.tables (lend_of s h kind)
-alone-reads s h kind = asked-reads s h (λ x. same_kind x.kind kind) (λ x. same_kind x.kind kind) (λ x _. refl) (shared-reads s.tables h s.calls)
+alone-reads s h kind = asked-reads s h (λ x. same_kind x.kind kind) (λ x. same_kind x.kind kind) (λ x _. refl)
+    (shared-reads s.tables h s.calls)
 
 -- users see the handle of either kind that a call may have alone, or the same cause against it
 pub any-reads : (s : State) (h : ℕ) → any_of (reading s) h ≡ read_lent s.tables (lend_any_of s h)
@@ -54,15 +55,18 @@ owner-some s h x (Counted r) k at e = rw (owner-counted s.tables x r e) refl
 -- in a sound machine users see the handle with a block that a call may have alone, or the same cause against it
 pub owning-reads : (s : State) (h : ℕ) → IsSound s → owning_of (reading s) h ≡ read_lent s.tables (lend_owning_of s h)
 owning-reads s h k =
-    asked-reads s h (λ x. not (is_empty x.word)) (λ x. is_some x.block) (λ x at. owner-some s h x x.word k at refl) (shared-reads s.tables h s.calls)
+    asked-reads s h (λ x. not (is_empty x.word)) (λ x. is_some x.block) (λ x at. owner-some s h x x.word k at refl)
+    (shared-reads s.tables h s.calls)
 
 -- in a sound machine users see the view with a block that a call may have alone, or the same cause against it
 pub owning-view-reads : (s : State) (h : ℕ) → IsSound s → owning_view_of (reading s) h ≡ read_lent s.tables (lend_owning_view_of s h)
-owning-view-reads s h k = asked-reads s h (λ x. same_kind x.kind View && not (is_empty x.word)) (λ x. same_kind x.kind View && is_some x.block)
+owning-view-reads s h k = asked-reads s h (λ x. same_kind x.kind View && not (is_empty x.word))
+    (λ x. same_kind x.kind View && is_some x.block)
     (λ x at. ap (λ (v : Bool). same_kind x.kind View && v) (owner-some s h x x.word k at refl)) (shared-reads s.tables h s.calls)
 
 -- in a sound machine the capacity that users see of a writable handle is its own
-pub capacity-reads : (s : State) (h : ℕ) (x : Handle) → IsSound s → handle_at s h ≡ Some x → x.kind ≡ Mut → capacity (reading s) (read_held s.tables x) ≡ x.cap
+pub capacity-reads : (s : State) (h : ℕ) (x : Handle) → IsSound s → handle_at s h ≡ Some x → x.kind ≡ Mut
+    → capacity (reading s) (read_held s.tables x) ≡ x.cap
 capacity-reads s h x k at m =
     let by : (w : Word) → x.word ≡ w → FitsWord s.tables s.calls x w → capacity_in (reading s) x.ptr (owner_of s.tables x) ≡ x.cap =
     λ w. elim w as (λ w. x.word ≡ w → FitsWord s.tables s.calls x w → capacity_in (reading s) x.ptr (owner_of s.tables x) ≡ x.cap) [

@@ -19,7 +19,8 @@ entries s = record { handles = length s.handles; blocks = length s.tables.blocks
 
 -- one of the tables has more entries in t
 abbrev pub Grows : State → State → Type 0
-Grows s t = (length s.handles < length t.handles) ⊎ (length s.tables.blocks < length t.tables.blocks) ⊎ (length s.tables.records < length t.tables.records)
+Grows s t = (length s.handles < length t.handles) ⊎ (length s.tables.blocks < length t.tables.blocks)
+    ⊎ (length s.tables.records < length t.tables.records)
 
 -- where all tables have as many entries, none has more
 pub grows-never : (s t : State) → entries t ≡ entries s → Grows s t → ⊥

@@ -18,7 +18,8 @@ pub call-fits : (s : State) (p : ℕ) (c : Pending) → IsSound s → call_at s 
 call-fits s p c k at = subst (λ (c : Option Pending). FitsCall s c) at (k.calls_fit p None (at-some s.calls p c at))
 
 -- an entry stays at its index if another is appended
-pub append-at : {X : Type 0} (xs : List (Option X)) (y : Option X) (i : ℕ) (x : X) → get_or xs i None ≡ Some x → get_or (xs ++ y ∷ []) i None ≡ Some x
+pub append-at : {X : Type 0} (xs : List (Option X)) (y : Option X) (i : ℕ) (x : X) → get_or xs i None ≡ Some x
+    → get_or (xs ++ y ∷ []) i None ≡ Some x
 append-at xs y i x e = get_or_append_left xs (y ∷ []) None i (at-some xs i x e) ∙ e
 
 abbrev pub no_record : Record
@@ -32,7 +33,8 @@ lent-stays s h o free i x lent at = get_or-set_other s.handles h i o None (λ e.
 -- ---- facts that a change leaves
 
 -- blocks that keep having users or none
-pub block-log-alike : {bs : List Block} {log : List Freed} {used used' : ℕ → ℕ} → ((b : ℕ) → b < length bs → nat_eq (used' b) 0 ≡ nat_eq (used b) 0)
+pub block-log-alike : {bs : List Block} {log : List Freed} {used used' : ℕ → ℕ}
+    → ((b : ℕ) → b < length bs → nat_eq (used' b) 0 ≡ nat_eq (used b) 0)
     → LogsBlocks bs log used → LogsBlocks bs log used'
 block-log-alike e k = record {
   freed = λ b l. rw (e b l) (k.freed b l);
@@ -63,7 +65,8 @@ changed s rs hs cs log = record s { tables = record s.tables { records = rs }; h
 
 -- other records, handles and calls that fit keep the machine sound, where blocks keep their holders and users
 pub sound-same : (s : State) (rs : List Record) (hs : List (Option Handle)) (cs : List (Option Pending)) (log : List ℕ) → IsSound s
-    → IsInSize (1 + s.tables.align_bits + s.tables.tail_bits + s.tables.size_bits) s.ceiling (length s.tables.blocks) (length rs) (length hs) (length cs)
+    → IsInSize (1 + s.tables.align_bits + s.tables.tail_bits + s.tables.size_bits) s.ceiling (length s.tables.blocks) (length rs)
+    (length hs) (length cs)
     → All (Fits (record s.tables { records = rs }) cs) hs → All (FitsCall (changed s rs hs cs log)) cs
     → ((b : ℕ) → tally (releases (record s.tables { records = rs }) b) cs ≤ 1)
     → ((b : ℕ) → holders (reading (changed s rs hs cs log)) b ≡ holders (reading s) b)
@@ -71,7 +74,8 @@ pub sound-same : (s : State) (rs : List Record) (hs : List (Option Handle)) (cs 
     → ((r : ℕ) → (get_or rs r no_record).live ≡ true → FitsRecordAt (changed s rs hs cs log) r (get_or rs r no_record))
     → ((q r : ℕ) → (get_or rs q no_record).live ≡ true → (get_or rs r no_record).live ≡ true → hidden cs q ≡ 0 → hidden cs r ≡ 0
     → (get_or rs q no_record).block ≡ (get_or rs r no_record).block → q ≡ r)
-    → ((b : ℕ) → 0 < tally (alone (record s.tables { records = rs }) b) hs → holders (reading s) b ≡ 1) → LogsRecords rs log → IsSound (changed s rs hs cs log)
+    → ((b : ℕ) → 0 < tally (alone (record s.tables { records = rs }) b) hs → holders (reading s) b ≡ 1) → LogsRecords rs log
+    → IsSound (changed s rs hs cs log)
 sound-same s rs hs cs log k size fit calls one hm um counted shown sole records = record {
   size = size;
   blocks = k.blocks;
@@ -93,7 +97,8 @@ pub sound-handles : (s : State) (hs : List (Option Handle)) → IsSound s → le
     → ((b : ℕ) → tally (held_by s.tables b) hs ≡ tally (held_by s.tables b) s.handles)
     → ((b : ℕ) → tally (describes s.tables b) hs ≤ tally (describes s.tables b) s.handles)
     → ((b : ℕ) → 0 < tally (alone s.tables b) hs → holders (reading s) b ≡ 1)
-    → ((i : ℕ) (x : Handle) → is_lent i s.calls ≡ true → handle_at s i ≡ Some x → get_or hs i None ≡ Some x) → IsSound (record s { handles = hs })
+    → ((i : ℕ) (x : Handle) → is_lent i s.calls ≡ true → handle_at s i ≡ Some x → get_or hs i None ≡ Some x)
+    → IsSound (record s { handles = hs })
 sound-handles s hs k few fit held dm sole stay =
     let next : State = record s { handles = hs } in
     let hm : (b : ℕ) → holders (reading next) b ≡ holders (reading s) b = λ b. omega (arith, holders-as s b, holders-as next b, held b) in
@@ -111,7 +116,8 @@ pub sound-detached : (s : State) (x : Handle) → IsSound s → x.word ≡ Empty
     → IsSound (with_handle s x)
 sound-detached s x k e f l =
     let o = owner-empty s.tables x e in
-    sound-handles s (s.handles ++ Some x ∷ []) k (rw length-append (omega arith)) (All-push (Fits s.tables s.calls) s.handles (Some x) k.fit f)
+    sound-handles s (s.handles ++ Some x ∷ []) k (rw length-append (omega arith))
+    (All-push (Fits s.tables s.calls) s.handles (Some x) k.fit f)
     (λ b. rw count-append (rw o (omega arith))) (λ b. rw count-append (rw o (omega arith)))
     (λ b h. k.sole b (let z = rw (count-append (alone s.tables b) s.handles (Some x), o) at h in omega (arith, z)))
     (λ i y b a. append-at s.handles (Some x) i y a)
@@ -129,7 +135,8 @@ pub sound-edited : (s : State) (h : ℕ) (x y : Handle) → IsSound s → handle
     → ((b : ℕ) → alone s.tables b (Some y) ≡ true → holders (reading s) b ≡ 1) → FitsWord s.tables s.calls y y.word → IsSound (edited s h y)
 sound-edited s h x y k at free o same only f =
     let l = at-some s.handles h x at in
-    sound-handles s (set s.handles h (Some y)) k (rw length-set k.size.few_handles) (All-set (Fits s.tables s.calls) s.handles h (Some y) f k.fit)
+    sound-handles s (set s.handles h (Some y)) k (rw length-set k.size.few_handles)
+    (All-set (Fits s.tables s.calls) s.handles h (Some y) f k.fit)
     (λ b. let e = rw (at, o) at (count-set (held_by s.tables b) s.handles h (Some y) None l) in omega (arith, e))
     (λ b. let e = rw (at, same b) at (count-set (describes s.tables b) s.handles h (Some y) None l) in omega (arith, e))
     (λ b p. alone-edited s.tables s.handles h y b l (k.sole b) (only b) p) (lent-stays s h (Some y) free)

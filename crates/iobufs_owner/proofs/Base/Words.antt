@@ -22,7 +22,8 @@ word-parts a t size log tail = rw (pow-add 2 (1 + a) t, pow-add 2 1 a) (omega ar
 
 -- fields that have room in a format of at most 64 bits, shifted to their places and joined by `or` with the lowest bit, are their word
 pub pack-is : (a t s size log tail : ℕ) → 1 + a + t + s ≤ 64 → HasRoom a t s size log tail
-    → bit_or (size * 2 ^ (1 + a + t) % 2 ^ 64) (bit_or (tail * 2 ^ (1 + a) % 2 ^ 64) (bit_or (log * 2 % 2 ^ 64) 1)) ≡ word_of a t size log tail
+    → bit_or (size * 2 ^ (1 + a + t) % 2 ^ 64) (bit_or (tail * 2 ^ (1 + a) % 2 ^ 64)
+    (bit_or (log * 2 % 2 ^ 64) 1)) ≡ word_of a t size log tail
 unfolding word_of
 pack-is a t s size log tail fits room =
     let e1 = shl_whole log a 1 64 room.log_fits (omega arith) in
@@ -41,7 +42,8 @@ pack-is a t s size log tail fits room =
 -- a word shifted by one bit and masked by the bits of an alignment is the logarithm, where that has room
 pub unpack-log : (a t size log tail : ℕ) → log < 2 ^ a → bit_and (word_of a t size log tail / 2) (2 ^ a - 1) ≡ log
 unpack-log a t size log tail h =
-    rw (word-parts a t size log tail, shr_high ((size * 2 ^ t + tail) * 2 ^ a + log) 1 1 (omega arith), and_mask) (mod_low (size * 2 ^ t + tail) a log h)
+    rw (word-parts a t size log tail, shr_high ((size * 2 ^ t + tail) * 2 ^ a + log) 1 1 (omega arith), and_mask)
+    (mod_low (size * 2 ^ t + tail) a log h)
 
 unpack-high : (a t size log tail : ℕ) → log < 2 ^ a → word_of a t size log tail / 2 ^ (1 + a) ≡ size * 2 ^ t + tail
 unpack-high a t size log tail h =
@@ -52,7 +54,8 @@ unpack-high a t size log tail h =
     ) (shr_high (size * 2 ^ t + tail) a log h)
 
 -- a word shifted after the logarithm and masked by the bits of a tail is the tail, where both have room
-pub unpack-tail : (a t size log tail : ℕ) → log < 2 ^ a → tail < 2 ^ t → bit_and (word_of a t size log tail / 2 ^ (1 + a)) (2 ^ t - 1) ≡ tail
+pub unpack-tail : (a t size log tail : ℕ) → log < 2 ^ a → tail < 2 ^ t
+    → bit_and (word_of a t size log tail / 2 ^ (1 + a)) (2 ^ t - 1) ≡ tail
 unpack-tail a t size log tail h k = rw (unpack-high a t size log tail h, and_mask) (mod_low size t tail k)
 
 -- a word shifted after the tail is the size, where logarithm and tail have room
@@ -65,7 +68,8 @@ pub zeros-of : (align log : ℕ) → align < 2 ^ 64 → align ≡ 2 ^ log → tr
 zeros-of align log fits is = rw is (zeros_pow w64 log (rw is at fits))
 
 -- a word holds one logarithm alone
-pub log-small : (a t s word size log tail : ℕ) → IsWord a t s word → HasRoom a t s size log tail → word ≡ word_of a t size log tail → log < 64
+pub log-small : (a t s word size log tail : ℕ) → IsWord a t s word → HasRoom a t s size log tail → word ≡ word_of a t size log tail
+    → log < 64
 log-small a t s word size log tail w room is =
     let one = unpack-log a t size log tail room.log_fits in
     let two = unpack-log a t w.size w.log w.tail w.room.log_fits in
@@ -90,11 +94,13 @@ some-iff P Q None v s f g = λ q. s (g q)
 some-iff P Q (Some x) v s f g = (f s.0, s.1)
 
 -- the fields of a word, by division
-pub word-size : (a t s word size log tail : ℕ) → HasRoom a t s size log tail → word ≡ word_of a t size log tail → size_of_word a t word ≡ size
+pub word-size : (a t s word size log tail : ℕ) → HasRoom a t s size log tail → word ≡ word_of a t size log tail
+    → size_of_word a t word ≡ size
 word-size a t s word size log tail room is = rw is (unpack-size a t size log tail room.log_fits room.tail_fits)
 
 -- the tail by division is the one of which the word was made, where its fields have room
-pub word-tail : (a t s word size log tail : ℕ) → HasRoom a t s size log tail → word ≡ word_of a t size log tail → tail_of_word a t word ≡ tail
+pub word-tail : (a t s word size log tail : ℕ) → HasRoom a t s size log tail → word ≡ word_of a t size log tail
+    → tail_of_word a t word ≡ tail
 word-tail a t s word size log tail room is = rw (is, unpack-high a t size log tail room.log_fits) (mod_low size t tail room.tail_fits)
 
 -- the logarithm by division is the one of which the word was made, where its fields have room
@@ -104,7 +110,8 @@ word-log a t s word size log tail room is = let e = unpack-log a t size log tail
 -- a word with another tail
 pub retailed-is : (a t s word size log tail n : ℕ) → HasRoom a t s size log tail → word ≡ word_of a t size log tail
     → word_with_tail a t word n ≡ word_of a t size log n
-retailed-is a t s word size log tail n room is = rw (word-size a t s word size log tail room is, word-log a t s word size log tail room is) refl
+retailed-is a t s word size log tail n room is = rw
+    (word-size a t s word size log tail room is, word-log a t s word size log tail room is) refl
 
 -- ---- whether the fields have room
 

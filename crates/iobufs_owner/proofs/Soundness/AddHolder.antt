@@ -2,8 +2,10 @@
 use Rattle.iobufs_owner.proofs.Base.{Share, Shares, part, lies-as, ◌≡◌, ◌≢◌, inl, inr, ℕ, ◌+◌, ◌^◌, ◌<◌, ◌≤◌, ◌==◌, true, false, cond, List, [], ◌∷◌, ◌++◌, length, get_or, set, sym, ◌∙◌, ap, refl, arith, All, Option, Some, None, nat_eq, length-append, length-set, All-push, get_or-set_same, get_or-set_other, nat_tests, eqb_tells, State, Tables, owner_of, record_at, block_at, handle_at, holders, users, tally, reading, has_let_go, IsSound, Fits, alone, describes, counted, with_count, with_handle, Record, Handle, View, Pending, Release, Counted, count-append, count-some, count-less, Keeps, KeepsLetGo, calls-fit-kept, at-some, append-at, owner-counted, ne_eqb, eq-eqb, counted-at, live-inside, alone-shared, describes-counted, alone-holds, held_by, held-at, holders-as, block-log-alike, record-log-counted, sized, alike, users-as, all-fit-on, get_or-read, map-set_same, keeps-records, no_record, still_by, cases_Bool}
 
 -- a write that keeps a field keeps it everywhere
-pub field-set : {X Y : Type 0} (f : X → Y) (xs : List X) (i q : ℕ) (v d : X) → f v ≡ f (get_or xs i d) → f (get_or (set xs i v) q d) ≡ f (get_or xs q d)
-field-set f xs i q v d e = sym (get_or-read f (set xs i v) q d) ∙ ap (λ l. get_or l q (f d)) (map-set_same f xs i v d e) ∙ get_or-read f xs q d
+pub field-set : {X Y : Type 0} (f : X → Y) (xs : List X) (i q : ℕ) (v d : X) → f v ≡ f (get_or xs i d)
+    → f (get_or (set xs i v) q d) ≡ f (get_or xs q d)
+field-set f xs i q v d e = sym (get_or-read f (set xs i v) q d) ∙ ap (λ l. get_or l q (f d)) (map-set_same f xs i v d e)
+    ∙ get_or-read f xs q d
 
 -- ---- another count for a record
 
@@ -24,7 +26,8 @@ pub counted-let_go : (g : Tables) (r n q : ℕ) → nat_eq n 0 ≡ has_let_go g 
 counted-let_go g r n q e = field-set (λ (v : Record). nat_eq v.count 0) g.records r q _ _ e
 
 -- a shared view beside those that must be alone
-alone-less : (s : State) (h : ℕ) (x : Handle) (b : ℕ) → handle_at s h ≡ Some x → owner_of s.tables x ≡ Some b → alone s.tables b (Some x) ≡ false
+alone-less : (s : State) (h : ℕ) (x : Handle) (b : ℕ) → handle_at s h ≡ Some x → owner_of s.tables x ≡ Some b
+    → alone s.tables b (Some x) ≡ false
     → tally (alone s.tables b) s.handles < holders (reading s) b
 alone-less s h x b at o f = omega (
   arith,
@@ -54,7 +57,8 @@ pub counted-more : (s : State) (h : ℕ) (x : Handle) (r : ℕ) → IsSound s �
 counted-more s h x r k at w =
     let b : ℕ = (record_at s.tables r).block in
     let f = counted-at s h x r k at w in
-    let held = count-some (held_by s.tables b) s.handles h None (at-some s.handles h x at) (held-at s h x b at (owner-counted s.tables x r w)) in
+    let held = count-some (held_by s.tables b) s.handles h None (at-some s.handles h x at)
+    (held-at s h x b at (owner-counted s.tables x r w)) in
     let some : 0 < (record_at s.tables r).count = omega (arith, (k.counted r f.live).counts f.shown, holders-as s b, held) in
     grind (arith, nat_tests, some)
 
@@ -68,7 +72,8 @@ counted-other g r n q ne = rw (get_or-set_other g.records r q _ no_record ne) re
 
 -- a part of a view, by the record of the view and counted there, keeps the machine sound, where the count was at most the
 -- ceiling and there were fewer than 2^32 handles
-pub sound-added : (s : State) (r : ℕ) (m : Share) (x : Handle) → IsSound s → Shares s m x → x.word ≡ Counted r → (record_at s.tables r).count ≤ s.ceiling
+pub sound-added : (s : State) (r : ℕ) (m : Share) (x : Handle) → IsSound s → Shares s m x → x.word ≡ Counted r
+    → (record_at s.tables r).count ≤ s.ceiling
     → length s.handles < 2 ^ 32 → IsSound (with_handle (with_count s r ((record_at s.tables r).count + 1)) (part x m.lo m.hi (Counted r)))
 sound-added s r m x k sh xw on few =
     let h : ℕ = m.handle in
@@ -111,7 +116,8 @@ sound-added s r m x k sh xw on few =
             live = live r fx.live;
             known = rw counted-block fx.known;
             shown = fx.shown;
-            lies = rw (counted-block g r n r) (record { begins = omega (arith, lies.begins); ends = omega (arith, lies.ends); no_room = refl });
+            lies = rw (counted-block g r n r) (record
+                { begins = omega (arith, lies.begins); ends = omega (arith, lies.ends); no_room = refl });
             native = λ m. absurd (cc);
           });
       calls_fit = calls-fit-kept next k refl e (λ _ q _ _ t. live q t) (λ i z l a. append-at s.handles (Some y) i z a) gone

@@ -2,7 +2,8 @@
 use Rattle.iobufs_owner.proofs.Base.{◌≡◌, ◌≢◌, inl, inr, ℕ, ◌<◌, true, false, length, sym, ◌∙◌, ap, refl, arith, Option, Some, None, nat_tests, eqb_tells, State, owner_of, record_at, handle_at, call_at, holders, users, tally, reading, has_let_go, IsSound, Fits, FitsCall, hidden, readies, tables_without, is_lent, Handle, Pending, Ready, Subtract, Release, Counted, count-some, count-two, count-sum, names, at-some, owner-counted, eq-eqb, counted-at, held_by, still_by, drops_by, holders-as, users-as, held-at, lets_go, drops-split, count-none, fit-on, ◌⊎◌, list_any_at, borrows_it, and_parts}
 use Rattle.iobufs_owner.proofs.Soundness.RecordFreed.{dead-other, dead-keeps}
 
-let-go-call : (s : State) (b i : ℕ) (c : Option Pending) → call_at s i ≡ c → lets_go s.tables b c ≡ true → FitsCall s c → holders (reading s) b ≡ 0
+let-go-call : (s : State) (b i : ℕ) (c : Option Pending) → call_at s i ≡ c → lets_go s.tables b c ≡ true → FitsCall s c
+    → holders (reading s) b ≡ 0
 let-go-call s b i (Some (Release q)) at t f =
     let same : b ≡ (record_at s.tables q).block = grind (arith, nat_tests, t) in
     rw same (rw (and_parts _ (has_let_go s.tables q) t).1 at f.alone)
@@ -16,7 +17,8 @@ pub record Only (s : State) (h b : ℕ) : Type 0 where
   pub handle : (i : ℕ) (y : Handle) → handle_at s i ≡ Some y → owner_of s.tables y ≡ Some b → i ≡ h
 
 -- where a handle's block has one holder, the handle is its only one, no unfinished drop is of the block, and it has one user
-pub only : (s : State) (h b : ℕ) (x : Handle) → IsSound s → handle_at s h ≡ Some x → owner_of s.tables x ≡ Some b → holders (reading s) b ≡ 1 → Only s h b
+pub only : (s : State) (h b : ℕ) (x : Handle) → IsSound s → handle_at s h ≡ Some x → owner_of s.tables x ≡ Some b
+    → holders (reading s) b ≡ 1 → Only s h b
 only s h b x k at o one =
     let l = at-some s.handles h x at in
     let some = count-some (held_by s.tables b) s.handles h None l (held-at s h x b at o) in
@@ -33,7 +35,8 @@ only s h b x k at o one =
       users = omega (arith, users-as s b, held, dropped);
       handle = λ i y a own. elim (eqb_tells i h) [
         | inl z ↦ z.1
-        | inr z ↦ absurd (let two = count-two (held_by s.tables b) s.handles i h None z.1 (at-some s.handles i y a) l (held-at s i y b a own)
+        | inr z ↦ absurd (let two = count-two (held_by s.tables b) s.handles i h None z.1 (at-some s.handles i y a) l
+            (held-at s i y b a own)
             (held-at s h x b at o) in omega (arith, two, held))
       ];
     }
@@ -47,7 +50,8 @@ pub record BorrowedFor (s : State) (q : ℕ) : Type 0 where
   pub lent : is_lent handle s.calls ≡ true
 
 -- a call that has made a record borrows a handle of the record's block
-pub ready-borrows : (s : State) (q i : ℕ) (c : Option Pending) → i < length s.calls → call_at s i ≡ c → readies q c ≡ true → FitsCall s c → BorrowedFor s q
+pub ready-borrows : (s : State) (q i : ℕ) (c : Option Pending) → i < length s.calls → call_at s i ≡ c → readies q c ≡ true → FitsCall s c
+    → BorrowedFor s q
 ready-borrows s q i (Some (Ready part w z)) l at t f =
     let e : q ≡ z = grind (arith, nat_tests, t) in
     record {
@@ -60,7 +64,8 @@ ready-borrows s q i (Some (Ready part w z)) l at t f =
 ready-borrows s q i c l at t f = absurd (cc)
 
 -- where the only holder isn't borrowed, no unpublished record is of its block
-pub unready : (s : State) (h b q : ℕ) → IsSound s → Only s h b → is_lent h s.calls ≡ false → (record_at s.tables q).block ≡ b → hidden s.calls q ≡ 0
+pub unready : (s : State) (h b q : ℕ) → IsSound s → Only s h b → is_lent h s.calls ≡ false → (record_at s.tables q).block ≡ b
+    → hidden s.calls q ≡ 0
 unready s h b q k one free e = count-none (readies q) None s.calls (λ j l t.
     let y = ready-borrows s q j (call_at s j) l refl t (k.calls_fit j None l) in
     let u = ap (λ (n : ℕ). is_lent n s.calls) (one.handle y.handle y.view y.at (y.owner ∙ ap Some e)) in
@@ -103,7 +108,8 @@ named-once s h r x k at xw one =
     }
 
 -- every other live record that a call counts on stays live
-pub calls-live : (s : State) (h r q i : ℕ) → NamedOnce s h r → i < length s.calls → names q (call_at s i) ≡ true → (record_at s.tables q).live ≡ true
+pub calls-live : (s : State) (h r q i : ℕ) → NamedOnce s h r → i < length s.calls → names q (call_at s i) ≡ true
+    → (record_at s.tables q).live ≡ true
     → (record_at (tables_without s.tables r) q).live ≡ true
 calls-live s h r q i once l t live = dead-other s.tables r q (λ e. once.calls i l (rw e at t)) ∙ live
 

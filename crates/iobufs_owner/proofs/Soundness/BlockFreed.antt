@@ -37,7 +37,8 @@ loose g calls o (inr e) =
 -- a handle that holds its block alone and that no call borrows goes, or is detached, and the block is freed, by records that
 -- are kept or are dead and of that block
 sound-let-go : (s : State) (h b : ℕ) (x : Handle) (o : Option Handle) (rs : List Record) (fr : List ℕ) → IsSound s → handle_at s h ≡ Some x
-    → is_lent h s.calls ≡ false → owner_of s.tables x ≡ Some b → b < length s.tables.blocks → holders (reading s) b ≡ 1 → IsLoose o → length rs ≤ 2 ^ 32
+    → is_lent h s.calls ≡ false → owner_of s.tables x ≡ Some b → b < length s.tables.blocks → holders (reading s) b ≡ 1 → IsLoose o
+    → length rs ≤ 2 ^ 32
     → Keeps s.tables (record s.tables { records = rs }) → All (KeepsLetGo s.tables (record s.tables { records = rs })) s.calls
     → ((i q : ℕ) → i < length s.calls → names q (call_at s i) ≡ true → (record_at s.tables q).live ≡ true
     → (record_at (record s.tables { records = rs }) q).live ≡ true)
@@ -56,7 +57,12 @@ sound-let-go s h b x o rs fr k at free ox known one is few e gone live fits back
     let l = at-some s.handles h x at in
     let n = loose g' s.calls o is in
     let me = only s h b x k at ox one in
-    let next : State = replaced (record s { tables = g'; freed_blocks = s.freed_blocks ++ triple (block_at s.tables b) ∷ []; freed_records = fr }) h o in
+    let next : State = replaced (record s {
+      tables = g';
+      freed_blocks = s.freed_blocks
+          ++ triple (block_at s.tables b) ∷ [];
+      freed_records = fr;
+    }) h o in
     let ox' : owner_of g' x ≡ Some b = owner-kept g g' s.calls x e (fits-at s h x k at) ∙ ox in
     let w = alike s g' k e gone in
     let held : (c : ℕ) → tally (held_by g' c) (set s.handles h o) + cond (c == b) 1 0 ≡ tally (held_by g c) s.handles = λ c. let m =
@@ -65,8 +71,10 @@ sound-let-go s h b x o rs fr k at free ox known one is few e gone live fits back
     λ c. omega (arith, holders-as s c, holders-as next c, held c, w.still c) in
     let um : (c : ℕ) → users (reading next) c + cond (c == b) 1 0 ≡ users (reading s) c =
     λ c. omega (arith, users-as s c, users-as next c, held c, w.drops c) in
-    let hn : (c : ℕ) → c ≢ b → holders (reading next) c ≡ holders (reading s) c = λ c ne. let m = rw (ne_eqb c b ne) at (hm c) in omega (arith, m) in
-    let un : (c : ℕ) → c ≢ b → users (reading next) c ≡ users (reading s) c = λ c ne. let m = rw (ne_eqb c b ne) at (um c) in omega (arith, m) in
+    let hn : (c : ℕ) → c ≢ b → holders (reading next) c ≡ holders (reading s) c = λ c ne. let m = rw (ne_eqb c b ne) at (hm c) in omega
+    (arith, m) in
+    let un : (c : ℕ) → c ≢ b → users (reading next) c ≡ users (reading s) c = λ c ne. let m = rw (ne_eqb c b ne) at (um c) in omega
+    (arith, m) in
     let none : users (reading next) b ≡ 0 = (let m = rw (eq-eqb b b refl) at (um b) in let u = me.users in omega (arith, m, u)) in
     let dm : (c : ℕ) → tally (describes g' c) (set s.handles h o) ≤ tally (describes g c) s.handles = λ c. let m =
     rw (n.describes c) at (count-set (describes g' c) s.handles h o None l) in omega (arith, m, w.describes c) in
@@ -83,7 +91,8 @@ sound-let-go s h b x o rs fr k at free ox known one is few e gone live fits back
       one_release = λ c. rw (w.releases c) (k.one_release c);
       counted = λ q t.
           let d = back q t in
-          rw (d.0, hn (record_at g q).block d.1, un (record_at g q).block d.1) (fits-fewer (k.counted q (rw d.0 at t)) (dm (record_at g q).block));
+          rw (d.0, hn (record_at g q).block d.1, un (record_at g q).block d.1)
+          (fits-fewer (k.counted q (rw d.0 at t)) (dm (record_at g q).block));
       one_record = λ p q tp tq hp hq i.
           let d = back p tp in
           let d' = back q tq in
@@ -91,7 +100,8 @@ sound-let-go s h b x o rs fr k at free ox known one is few e gone live fits back
       sole = λ c t. let ne : c ≢ b = λ e. (let z = rw e at t in omega (arith, z, lonely)) in hn c ne ∙ k.sole c (omega (arith, t, am c));
       capped = λ c. omega (arith, hm c, k.capped c);
       known_users = λ c t. k.known_users c (omega (arith, t, um c));
-      block_log = block-log-freed g b k.blocks known (let u = me.users in omega (arith, u)) none (λ c ne. ap (λ m. nat_eq m 0) (un c ne)) k.block_log;
+      block_log = block-log-freed g b k.blocks known (let u = me.users in omega (arith, u)) none
+          (λ c ne. ap (λ m. nat_eq m 0) (un c ne)) k.block_log;
       record_log = log;
     }
 
@@ -108,8 +118,10 @@ sound-freed_described s h x w o k at free xw is =
     let some : 0 < tally (describes g b) s.handles = count-some (describes g b) s.handles h None (at-some s.handles h x at)
     (ap (describes g b) at ∙ describes-described g b x w xw ∙ rw ox (eq-eqb b b refl)) in
     let apart : (q : ℕ) → (record_at g q).live ≡ true → (record_at g q).block ≢ b = λ q t e.
-    (let z = unready s h b q k (only s h b x k at ox one) free e in let u = rw e at ((k.counted q t).undescribed z) in omega (arith, u, some)) in
-    rw (recovered-is s h x w b k at xw ox) (sound-let-go s h b x o g.records s.freed_records k at free ox d.says.known one is k.size.few_records (keeps-self g)
+    (let z = unready s h b q k (only s h b x k at ox one) free e in let u = rw e at ((k.counted q t).undescribed z) in omega
+    (arith, u, some)) in
+    rw (recovered-is s h x w b k at xw ox)
+    (sound-let-go s h b x o g.records s.freed_records k at free ox d.says.known one is k.size.few_records (keeps-self g)
     (λ i d l q j t. refl) (λ _ q _ _ t. t) (λ i _ li. k.fit i None li) (λ q t. (refl, apart q t)) sole k.record_log)
 
 -- ---- by a record
@@ -117,8 +129,10 @@ sound-freed_described s h x w o k at free xw is =
 -- in a sound machine with a live record both logs are shorter than their tables
 pub counted-ends : (s : State) (r : ℕ) → IsSound s → (record_at s.tables r).live ≡ true
     → (length s.freed_blocks < length s.tables.blocks) × (length s.freed_records < length s.tables.records)
-counted-ends s r k live = let c = k.counted r live in
-    (block-log-room (record_at s.tables r).block c.known c.used k.block_log, record-log-room r (live-inside s.tables.records r live) live k.record_log)
+counted-ends s r k live = let c = k.counted r live in (
+  block-log-room (record_at s.tables r).block c.known c.used k.block_log,
+  record-log-room r (live-inside s.tables.records r live) live k.record_log,
+)
 
 -- so in such a machine both logs have memory for an entry more
 pub logs-room : {m : Inside} {n : Seen} (r : ℕ) → IsReady m → seen_of m ≡ n → (record_at n.state.tables r).live ≡ true
@@ -139,12 +153,14 @@ sound-freed_counted s h x r o k at free xm xw is =
     let one = alone-at s h x b k at (alone-written g b x r xw xm ∙ rw ox (eq-eqb b b refl)) in
     let me = only s h b x k at ox one in
     let once = named-once s h r x k at xw one in
-    let own : owner_of (tables_without g r) x ≡ Some b = owner-kept g (tables_without g r) s.calls x (dead-keeps g r) (fits-at s h x k at) ∙ ox in
+    let own : owner_of (tables_without g r) x ≡ Some b = owner-kept g (tables_without g r) s.calls x (dead-keeps g r) (fits-at s h x k at)
+    ∙ ox in
     sound-let-go s h b x o (tables_without g r).records _ k at free ox f.known one is (rw length-set k.size.few_records) (dead-keeps g r)
     (λ i d l q j t. dead-let_go g r q) (λ i q li m t. calls-live s h r q i once li m t) (λ i ne li. fit-dead s h r i k once ne li)
     (λ q t. (let d = dead-live g r q inside t in
     (dead-at g r q d.1, λ i. d.1 (k.one_record q r d.0 f.live (unready s h b q k me free i) f.shown i))))
-    (alone-written (tables_without g r) b x r xw xm ∙ ap (is_block b) own ∙ eq-eqb b b refl) (record-log-dead r _ inside refl f.live k.record_log)
+    (alone-written (tables_without g r) b x r xw xm ∙ ap (is_block b) own ∙ eq-eqb b b refl)
+    (record-log-dead r _ inside refl f.live k.record_log)
 
 -- ---- a handle without block is gone
 

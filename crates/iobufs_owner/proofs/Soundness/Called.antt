@@ -27,7 +27,8 @@ count-calls p xs i y d l e f =
     omega (arith, count-change p xs i y d false false l e f)
 
 -- another call of a thread keeps the machine sound, where it fits and both it and the one before it count for nothing
-pub sound-called : (s : State) (p : ℕ) (c : Option Pending) → IsSound s → p < length s.calls → IsQuiet s (call_at s p) → IsQuiet s c → FitsCall s c
+pub sound-called : (s : State) (p : ℕ) (c : Option Pending) → IsSound s → p < length s.calls → IsQuiet s (call_at s p) → IsQuiet s c
+    → FitsCall s c
     → IsSound (called s p c)
 sound-called s p c k l q r f =
     let g : Tables = s.tables in
@@ -36,7 +37,8 @@ sound-called s p c k l q r f =
     λ b. omega (arith, holders-as s b, holders-as next b, count-calls (still_by g b) s.calls p c None l (q.still b) (r.still b)) in
     let um : (b : ℕ) → users (reading next) b ≡ users (reading s) b =
     λ b. omega (arith, users-as s b, users-as next b, count-calls (drops_by g b) s.calls p c None l (q.drops b) (r.drops b)) in
-    let hid : (n : ℕ) → hidden (set s.calls p c) n ≡ hidden s.calls n = λ n. count-calls (readies n) s.calls p c None l (q.readies n) (r.readies n) in
+    let hid : (n : ℕ) → hidden (set s.calls p c) n ≡ hidden s.calls n = λ n. count-calls (readies n) s.calls p c None l (q.readies n)
+    (r.readies n) in
     let rel : (b : ℕ) → tally (releases g b) (set s.calls p c) ≡ tally (releases g b) s.calls =
     λ b. count-calls (releases g b) s.calls p c None l (q.releases b) (r.releases b) in
     sound-same s _ _ _ _ k (rw length-set k.size)

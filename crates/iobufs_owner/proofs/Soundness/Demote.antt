@@ -10,7 +10,8 @@ use Rattle.iobufs_owner.proofs.Soundness.Recovered.{with-first}
 pub record MayDemote (g : Tables) (x : Handle) (r : ℕ) : Type 0 where
   pub one : (record_at g r).count ≡ 1
   pub native : (block_at g (record_at g r).block).external ≡ false
-  pub room : HasRoom g.align_bits g.tail_bits g.size_bits (block_at g (record_at g r).block).size (log_of (block_at g (record_at g r).block).align)
+  pub room : HasRoom g.align_bits g.tail_bits g.size_bits (block_at g (record_at g r).block).size
+      (log_of (block_at g (record_at g r).block).align)
       (tail_of (block_at g (record_at g r).block) x)
 
 -- where the test of a demotion passes, the record counts one, its block is native, and size, alignment and tail have room in a word
@@ -48,7 +49,8 @@ pub described-demoted : (s : State) (h r : ℕ) (x : Handle) → IsSound s → L
     → MayDemote s.tables x r
     → IsDescribed (tables_without s.tables r) (described s.tables x r)
     (word_of s.tables.align_bits s.tables.tail_bits (block_at s.tables (record_at s.tables r).block).size
-    (log_of (block_at s.tables (record_at s.tables r).block).align) (tail_of (block_at s.tables (record_at s.tables r).block) x)) (record_at s.tables r).block
+    (log_of (block_at s.tables (record_at s.tables r).block).align)
+    (tail_of (block_at s.tables (record_at s.tables r).block) x)) (record_at s.tables r).block
     (log_of (block_at s.tables (record_at s.tables r).block).align) (tail_of (block_at s.tables (record_at s.tables r).block) x)
 described-demoted s h r x k t xw m =
     let bl : Block = block_at s.tables (record_at s.tables r).block in
@@ -96,10 +98,13 @@ sound-demoted s h r x k t xw may =
     let v = alike s g' k e (λ i d l q j t. dead-let_go g r q) in
     let held : (c : ℕ) → tally (held_by g' c) (set s.handles h (Some y)) ≡ tally (held_by g c) s.handles = λ c. let n =
     rw (at, ox', oy) at (count-set (held_by g' c) s.handles h (Some y) None l) in omega (arith, n, v.held c) in
-    let hm : (c : ℕ) → holders (reading next) c ≡ holders (reading s) c = λ c. omega (arith, holders-as s c, holders-as next c, held c, v.still c) in
-    let um : (c : ℕ) → users (reading next) c ≡ users (reading s) c = λ c. omega (arith, users-as s c, users-as next c, held c, v.drops c) in
+    let hm : (c : ℕ) → holders (reading next) c ≡ holders (reading s) c = λ c. omega
+    (arith, holders-as s c, holders-as next c, held c, v.still c) in
+    let um : (c : ℕ) → users (reading next) c ≡ users (reading s) c = λ c. omega
+    (arith, users-as s c, users-as next c, held c, v.drops c) in
     let dm : (c : ℕ) → tally (describes g' c) (set s.handles h (Some y)) ≡ tally (describes g c) s.handles + cond (c == b) 1 0 = λ c.
-    let n = count-change (describes g' c) s.handles h (Some y) None false (c == b) l (ap (describes g' c) at ∙ describes-counted g' c x r xw)
+    let n = count-change (describes g' c) s.handles h (Some y) None false (c == b) l
+    (ap (describes g' c) at ∙ describes-counted g' c x r xw)
     (describes-described g' c y w refl ∙ ap (is_block c) oy) in omega (arith, n, v.describes c) in
     let am : (c : ℕ) → tally (alone g' c) (set s.handles h (Some y)) ≡ tally (alone g c) s.handles + cond (c == b) 1 0 = λ c.
     let n = count-change (alone g' c) s.handles h (Some y) None false (c == b) l (ap (alone g' c) at ∙ alone-shared g' c x r xw t.kind_is)
@@ -108,7 +113,13 @@ sound-demoted s h r x k t xw may =
     λ q t ne i. ne (k.one_record q r t f.live (unready s h b q k me free i) f.shown i) in
     sound-same s _ _ _ _ k (rw (length-set, length-set) k.size)
     (handles-fit-set g' s.calls s.handles h (Some y) l
-    (record { block = b; log = log_of (block_at s.tables (record_at s.tables r).block).align; tail = tail; says = described-demoted s h r x k t xw may })
+    (record {
+      block = b;
+      log = log_of (block_at s.tables
+          (record_at s.tables r).block).align;
+      tail = tail;
+      says = described-demoted s h r x k t xw may;
+    })
     (λ i ne li. fit-dead s h r i k once ne li))
     (calls-fit-kept next k refl e (λ i q li m t. calls-live s h r q i once li m t)
     (lent-stays s h (Some y) free)
@@ -128,7 +139,8 @@ sound-demoted s h r x k t xw may =
 -- ---- the state before the call
 
 pub record Demoting (s : State) (x : Handle) (r : ℕ) : Type 0 where
-  pub reaches : x.ptr + x.len ≤ (block_at s.tables (record_at s.tables r).block).base + (block_at s.tables (record_at s.tables r).block).size
+  pub reaches : x.ptr + x.len ≤ (block_at s.tables (record_at s.tables r).block).base +
+      (block_at s.tables (record_at s.tables r).block).size
   pub power : IsPowerOfTwo (block_at s.tables (record_at s.tables r).block).align
   pub log : (block_at s.tables (record_at s.tables r).block).align ≡ 2 ^ log_of (block_at s.tables (record_at s.tables r).block).align
   pub log_room : length s.freed_records < length s.tables.records

@@ -14,8 +14,10 @@ pub record IsDrop (s : State) (r : ℕ) (c : Pending) : Type 0 where
       → holders (reading t) (record_at s.tables r).block ≡ holders (reading s) (record_at s.tables r).block → FitsCall t (Some c)
   pub first : (b : ℕ) → tally (releases s.tables b) s.calls + cond (releases s.tables b (Some c)) 1 0 ≤ 1
 
--- a view by a record that no call borrows goes, and a drop that hasn't let go is the call of a thread that had none: the machine stays sound
-pub sound-dropping : (s : State) (p h r : ℕ) (x : Handle) (c : Pending) → IsSound s → handle_at s h ≡ Some x → x.word ≡ Counted r → x.kind ≡ View
+-- a view by a record that no call borrows goes, and a drop that hasn't let go is the call of a thread that had none: the machine stays
+-- sound
+pub sound-dropping : (s : State) (p h r : ℕ) (x : Handle) (c : Pending) → IsSound s → handle_at s h ≡ Some x → x.word ≡ Counted r
+    → x.kind ≡ View
     → is_lent h s.calls ≡ false → call_at s p ≡ None → p < length s.calls → IsDrop s r c → IsSound (dropping s p h c)
 sound-dropping s p h r x c k at word view free none lp d =
     let g : Tables = s.tables in
@@ -24,10 +26,12 @@ sound-dropping s p h r x c k at word view free none lp d =
     let o = owner-counted g x r word in
     let hm : (b : ℕ) → holders (reading next) b ≡ holders (reading s) b = λ b.
     let m = rw (at, o) at (count-set (held_by g b) s.handles h None None l) in
-    let n = rw (none, d.reads) at (count-set (still_by g b) s.calls p (Some c) None lp) in omega (arith, holders-as s b, holders-as next b, m, n) in
+    let n = rw (none, d.reads) at (count-set (still_by g b) s.calls p (Some c) None lp) in omega
+    (arith, holders-as s b, holders-as next b, m, n) in
     let um : (b : ℕ) → users (reading next) b ≡ users (reading s) b = λ b.
     let m = rw (at, o) at (count-set (held_by g b) s.handles h None None l) in
-    let n = rw (none, d.reads) at (count-set (drops_by g b) s.calls p (Some c) None lp) in omega (arith, users-as s b, users-as next b, m, n) in
+    let n = rw (none, d.reads) at (count-set (drops_by g b) s.calls p (Some c) None lp) in omega
+    (arith, users-as s b, users-as next b, m, n) in
     let hid : (q : ℕ) → hidden (set s.calls p (Some c)) q ≡ hidden s.calls q = λ q.
     let n = count-set (readies q) s.calls p (Some c) None lp in
     let nx : ◌≡◌ {A = ℕ} (cond (readies q (get_or s.calls p None)) 1 0) 0 = rw none refl in
@@ -39,7 +43,8 @@ sound-dropping s p h r x c k at word view free none lp d =
     λ b. omega (arith, count-set (describes g b) s.handles h None None l) in
     sound-same s _ _ _ _ k (rw (length-set, length-set) k.size)
     (handles-fit-set g (set s.calls p (Some c)) s.handles h None l tt
-    (λ i _ li. fit-on (set s.calls p (Some c)) (get_or s.handles i None) (keeps-self g) (λ x q _ _ f. (f.live, hid q ∙ f.shown)) (k.fit i None li)))
+    (λ i _ li. fit-on (set s.calls p (Some c)) (get_or s.handles i None) (keeps-self g) (λ x q _ _ f. (f.live, hid q ∙ f.shown))
+    (k.fit i None li)))
     (calls-fit-set s next p (Some c) lp (d.fits next refl hid (hm (record_at g r).block)) (λ i _ lo.
     call-kept next (call_at s i) k (keeps-self g) (λ q j t. refl) (λ q _ t. t) (λ q _ _. hid q)
     (λ j y b. lent-stays s h None free j y (list_any_at (borrows_it j) s.calls i None lo b)) (λ q _. hm (record_at g q).block)) k.calls_fit)
@@ -59,21 +64,24 @@ drop-subtract s r k live z = record {
 }
 
 -- a call that releases a block is one of the list
-release-of : (s : State) (h b i : ℕ) (x : Handle) (c : Option Pending) → handle_at s h ≡ Some x → owner_of s.tables x ≡ Some b → i < length s.calls
+release-of : (s : State) (h b i : ℕ) (x : Handle) (c : Option Pending) → handle_at s h ≡ Some x → owner_of s.tables x ≡ Some b
+    → i < length s.calls
     → call_at s i ≡ c → FitsCall s c → releases s.tables b c ≡ true → ⊥
 release-of s h b i x (Some (Release q)) at o l e f t =
     release-elsewhere s h b i q x None at o l e f.alone (grind (arith, nat_tests, t))
 release-of s h b i x c at o l e f t = absurd (cc)
 
 -- alone it will release
-pub drop-release : (s : State) (h r : ℕ) (x : Handle) → IsSound s → handle_at s h ≡ Some x → x.word ≡ Counted r → (record_at s.tables r).live ≡ true
+pub drop-release : (s : State) (h r : ℕ) (x : Handle) → IsSound s → handle_at s h ≡ Some x → x.word ≡ Counted r
+    → (record_at s.tables r).live ≡ true
     → hidden s.calls r ≡ 0 → (record_at s.tables r).count ≡ 1 → IsDrop s r (Release r)
 drop-release s h r x k at word live z one =
     let b : ℕ = (record_at s.tables r).block in
     let o = owner-counted s.tables x r word in
     let n = (k.counted r live).counts z in
     let still : has_let_go s.tables r ≡ false = ne_eqb (record_at s.tables r).count 0 (omega (arith, one)) in
-    let none = count-none (releases s.tables b) None s.calls (λ i l t. release-of s h b i x (call_at s i) at o l refl (k.calls_fit i None l) t) in
+    let none = count-none (releases s.tables b) None s.calls
+    (λ i l t. release-of s h b i x (call_at s i) at o l refl (k.calls_fit i None l) t) in
     record {
       left = 1;
       reads = rw still refl;
@@ -81,7 +89,8 @@ drop-release s h r x k at word live z one =
       fits = λ t e hid m. record {
         live = ap (λ (g : Tables). (record_at g r).live) e ∙ live;
         shown = hid r ∙ z;
-        alone = rw (ap (λ (g : Tables). has_let_go g r) e ∙ still) (ap (λ (g : Tables). holders (reading t) (record_at g r).block) e ∙ m ∙ sym n ∙ one);
+        alone = rw (ap (λ (g : Tables). has_let_go g r) e ∙ still)
+            (ap (λ (g : Tables). holders (reading t) (record_at g r).block) e ∙ m ∙ sym n ∙ one);
       };
       first = λ c. elim (eqb_tells c b) [
         | inl i ↦ rw (i.1, none, eq-eqb b b refl) (omega arith)
@@ -91,6 +100,7 @@ drop-release s h r x k at word live z one =
 
 -- the call of a drop, by the count that was loaded
 pub drop-after : (s : State) (h r : ℕ) (x : Handle) (v : Bool) → IsSound s → handle_at s h ≡ Some x → x.word ≡ Counted r
-    → (record_at s.tables r).live ≡ true → hidden s.calls r ≡ 0 → nat_eq (record_at s.tables r).count 1 ≡ v → IsDrop s r (cond v (Release r) (Subtract r))
+    → (record_at s.tables r).live ≡ true → hidden s.calls r ≡ 0 → nat_eq (record_at s.tables r).count 1 ≡ v
+    → IsDrop s r (cond v (Release r) (Subtract r))
 drop-after s h r x true k at word live z e = drop-release s h r x k at word live z (grind (arith, nat_tests, e))
 drop-after s h r x false k at word live z e = drop-subtract s r k live z

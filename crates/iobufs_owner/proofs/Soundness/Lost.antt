@@ -9,12 +9,14 @@ use Rattle.iobufs_owner.proofs.Soundness.Won.{some-same}
 not-mine : (s : State) (p r i : ℕ) (k : Share) (w : ℕ) (c : Option Pending) → IsSound s → call_at s p ≡ Some (Ready k w r) → i ≢ p
     → i < length s.calls → call_at s i ≡ c → FitsCall s c → hidden s.calls r ≡ 1 → names r c ≡ true → ⊥
 not-mine s p r i k w c sd at ne l e f hid t = elim (named s r c f t) [
-  | inl z ↦ (let two = count-two (readies r) s.calls i p None ne l (at-some s.calls p (Ready k w r) at) (rw e z) (rw at (eq-eqb r r refl)) in
+  | inl z ↦ (let two = count-two (readies r) s.calls i p None ne l (at-some s.calls p (Ready k w r) at) (rw e z)
+      (rw at (eq-eqb r r refl)) in
       omega (arith, two, hid))
   | inr z ↦ omega (arith, z.0, hid)
 ]
 
--- a clone or slice whose view goes by another record by now frees the one that it made, and is to be counted by the other: the machine stays sound
+-- a clone or slice whose view goes by another record by now frees the one that it made, and is to be counted by the other: the machine
+-- stays sound
 pub sound-lost : (s : State) (p r w winner : ℕ) (k : Share) (x : Handle) → IsSound s → call_at s p ≡ Some (Ready k w r)
     → handle_at s k.handle ≡ Some x → x.word ≡ Counted winner → IsSound (called (record_freed s r) p (Some (Add k winner)))
 sound-lost s p r w winner part' x k at atx xw =
@@ -32,12 +34,15 @@ sound-lost s p r w winner part' x k at atx xw =
     let hidr : hidden s.calls r ≡ 1 = (let a = count-some (readies r) s.calls p None l (ap (readies r) at ∙ eq-eqb r r refl) in let m =
     (k.counted r f.live).one_maker in omega (arith, a, m)) in
     let hm : (d : ℕ) → holders (reading next) d ≡ holders (reading s) d = λ d. let n =
-    count-calls (still_by g' d) s.calls p c None l (ap (still_by g' d) at) refl in omega (arith, holders-as s d, holders-as next d, n, v.held d, v.still d) in
+    count-calls (still_by g' d) s.calls p c None l (ap (still_by g' d) at) refl in omega
+    (arith, holders-as s d, holders-as next d, n, v.held d, v.still d) in
     let um : (d : ℕ) → users (reading next) d ≡ users (reading s) d = λ d. let n =
-    count-calls (drops_by g' d) s.calls p c None l (ap (drops_by g' d) at) refl in omega (arith, users-as s d, users-as next d, n, v.held d, v.drops d) in
+    count-calls (drops_by g' d) s.calls p c None l (ap (drops_by g' d) at) refl in omega
+    (arith, users-as s d, users-as next d, n, v.held d, v.drops d) in
     let hid : (q : ℕ) → hidden (set s.calls p c) q + cond (q == r) 1 0 ≡ hidden s.calls q = λ q.
     let n = rw at at (count-set (readies q) s.calls p c None l) in omega (arith, n) in
-    let old : (q : ℕ) → q ≢ r → hidden (set s.calls p c) q ≡ hidden s.calls q = λ q ne. (let n = rw (ne_eqb q r ne) at (hid q) in omega (arith, n)) in
+    let old : (q : ℕ) → q ≢ r → hidden (set s.calls p c) q ≡ hidden s.calls q = λ q ne. (let n = rw (ne_eqb q r ne) at (hid q) in omega
+    (arith, n)) in
     let rel : (d : ℕ) → tally (releases g' d) (set s.calls p c) ≡ tally (releases g d) s.calls =
     λ d. count-calls (releases g' d) s.calls p c None l (ap (releases g' d) at) refl ∙ v.releases d in
     sound-same s _ _ _ _ k (rw (length-set, length-set) k.size)

@@ -2,7 +2,8 @@
 use Rattle.iobufs_owner.proofs.Base.{◌≡◌, ◌≢◌, ℕ, ◌+◌, ◌^◌, ◌<◌, ◌==◌, inl, inr, true, false, cond, List, [], ◌∷◌, ◌++◌, length, refl, arith, All, Some, length-append, All-push, get_or-append_seam, eqb_tells, HasRoom, word_of, State, Tables, owner_of, base_by, record_at, block_at, holders, users, tally, reading, IsSound, ArePlaced, Fits, alone, describes, with_block, with_handle, first_handle, IsPlace, IsGoodPlace, Apart, ApartFrom, Block, Handle, Descriptor, unpack-size, calls-kept, append-at, count-append, holders-le-users, grown, grown-keeps, with-fresh, ne_eqb, eq-eqb, no_block, below-or, block-log-more, sized, alike, held_by, holders-as, users-as, all-fit-on, Keeps, KeepsLetGo, FitsWord, Record, hidden, LogsRecords, ◌≤◌, ◌⊎◌, describes-few, sym}
 
 -- no earlier block has the base of a good place
-pub other-base : (bs : List Block) (b : Block) → All (λ (x : Block). IsPlace x.base x.size x.align) bs → IsGoodPlace bs b.base b.size b.align
+pub other-base : (bs : List Block) (b : Block) → All (λ (x : Block). IsPlace x.base x.size x.align) bs
+    → IsGoodPlace bs b.base b.size b.align
     → All (λ (x : Block). x.base ≢ b.base) bs
 other-base bs b p good i d h e =
     elim (good.apart i d h) [
@@ -26,7 +27,8 @@ first-owner g b log w p good room is =
     rw (first-base g b log w room is) (with-fresh b.base g.blocks b refl (other-base g.blocks b p good))
 
 made-apart : (g : Tables) (b : Block) → ((c d : ℕ) → c < d → d < length g.blocks → Apart (block_at g c) (block_at g d))
-    → All (λ x. ApartFrom x b.base b.size) g.blocks → (c d : ℕ) → c < d → d < length g.blocks + 1 → Apart (block_at (grown g b) c) (block_at (grown g b) d)
+    → All (λ x. ApartFrom x b.base b.size) g.blocks → (c d : ℕ) → c < d → d < length g.blocks + 1
+    → Apart (block_at (grown g b) c) (block_at (grown g b) d)
 made-apart g b old new c d h l =
     let at : block_at (grown g b) (length g.blocks) ≡ b = get_or-append_seam g.blocks b [] _ in
     let keep = (grown-keeps g b).blocks in
@@ -50,13 +52,15 @@ more g b rs = record (grown g b) { records = rs }
 -- records are the old ones and perhaps one that counts the handle
 pub sound-block : (s : State) (b : Block) (x : Handle) (rs : List Record) → IsSound s → IsGoodPlace s.tables.blocks b.base b.size b.align
     → length s.tables.blocks < 2 ^ 32 → length rs ≤ 2 ^ 32 → length s.handles < 2 ^ 32 → Keeps s.tables (more s.tables b rs)
-    → All (KeepsLetGo s.tables (more s.tables b rs)) s.calls → ((q : ℕ) → (record_at s.tables q).live ≡ true → (record_at (more s.tables b rs) q).live ≡ true)
+    → All (KeepsLetGo s.tables (more s.tables b rs)) s.calls
+    → ((q : ℕ) → (record_at s.tables q).live ≡ true → (record_at (more s.tables b rs) q).live ≡ true)
     → owner_of (more s.tables b rs) x ≡ Some (length s.tables.blocks) → FitsWord (more s.tables b rs) s.calls x x.word
     → ((q : ℕ) → (record_at (more s.tables b rs) q).live ≡ true → (record_at (more s.tables b rs) q ≡ record_at s.tables q)
     ⊎ ((record_at (more s.tables b rs) q ≡ record { count = 1; block = length s.tables.blocks; live = true }) × (hidden s.calls q ≡ 0)
     × (describes (more s.tables b rs) (length s.tables.blocks) (Some x) ≡ false)))
     → ((p q : ℕ) → (record_at (more s.tables b rs) p).live ≡ true → (record_at (more s.tables b rs) q).live ≡ true → hidden s.calls p ≡ 0
-    → hidden s.calls q ≡ 0 → (record_at (more s.tables b rs) p).block ≡ (record_at (more s.tables b rs) q).block → p ≡ q) → LogsRecords rs s.freed_records
+    → hidden s.calls q ≡ 0 → (record_at (more s.tables b rs) p).block ≡ (record_at (more s.tables b rs) q).block → p ≡ q)
+    → LogsRecords rs s.freed_records
     → IsSound (record s { tables = more s.tables b rs; handles = s.handles ++ Some x ∷ [] })
 sound-block s b x rs k good few few' fewer e gone live o fits either shown log =
     let g : Tables = s.tables in
@@ -73,7 +77,8 @@ sound-block s b x rs k good few few' fewer e gone live o fits either shown log =
     λ c. omega (arith, users-as s c, users-as next c, held c, v.drops c) in
     let am : (c : ℕ) → c ≢ n → tally (alone g' c) (s.handles ++ Some x ∷ []) ≡ tally (alone g c) s.handles =
     λ c ne. rw (count-append (alone g' c) s.handles (Some x), v.alone c, o, ne_eqb c n ne) (omega arith) in
-    let dm : (c : ℕ) → describes g' c (Some x) ≡ false → tally (describes g' c) (s.handles ++ Some x ∷ []) ≡ tally (describes g c) s.handles =
+    let dm : (c : ℕ) → describes g' c (Some x) ≡ false
+    → tally (describes g' c) (s.handles ++ Some x ∷ []) ≡ tally (describes g c) s.handles =
     λ c no. rw (count-append (describes g' c) s.handles (Some x), v.describes c, no) (omega arith) in
     let unused : users (reading s) n ≡ 0 = grind (arith, k.known_users n) in
     let unheld : holders (reading s) n ≡ 0 = omega (arith, unused, holders-le-users (reading s) n) in
@@ -82,7 +87,8 @@ sound-block s b x rs k good few few' fewer e gone live o fits either shown log =
     record {
       size = sized k.size (rw length-append (omega arith)) few' (rw length-append (omega arith)) k.size.few_calls;
       blocks = placed-more g b k.blocks good;
-      fit = All-push (Fits g' s.calls) s.handles (Some x) (all-fit-on s.calls s.handles e (λ _ q z _ _ c. (live q c.live, c.shown)) k.fit) fits;
+      fit = All-push (Fits g' s.calls) s.handles (Some x)
+          (all-fit-on s.calls s.handles e (λ _ q z _ _ c. (live q c.live, c.shown)) k.fit) fits;
       calls_fit = calls-kept next k refl e live (λ i y b a. append-at s.handles (Some x) i y a) gone
           (λ c l. rw (hm, ne_eqb c n (omega arith)) (omega arith));
       one_release = λ c. rw (v.releases c) (k.one_release c);
@@ -121,7 +127,8 @@ sound-block s b x rs k good few few' fewer e gone live o fits either shown log =
       record_log = log;
     }
 
--- a new native block at a good place, with its first handle by a descriptor, keeps the machine sound, where there were fewer than 2^32 blocks and handles
+-- a new native block at a good place, with its first handle by a descriptor, keeps the machine sound, where there were fewer than 2^32
+-- blocks and handles
 pub sound-made : (s : State) (b : Block) (log w : ℕ) → IsSound s → IsGoodPlace s.tables.blocks b.base b.size b.align → b.external ≡ false
     → b.align ≡ 2 ^ log → HasRoom s.tables.align_bits s.tables.tail_bits s.tables.size_bits b.size log 0
     → w ≡ word_of s.tables.align_bits s.tables.tail_bits b.size log 0 → length s.tables.blocks < 2 ^ 32 → length s.handles < 2 ^ 32
@@ -130,7 +137,8 @@ sound-made s b log w k good native al room is few fewer =
     let g : Tables = s.tables in
     let o = first-owner g b log w k.blocks.places good room is in
     let at : block_at (grown g b) (length g.blocks) ≡ b = get_or-append_seam g.blocks b [] _ in
-    sound-block s b (first_handle b (Descriptor w)) g.records k good few k.size.few_records fewer (grown-keeps g b) (λ i d l q j t. refl) (λ q t. t) o (record {
+    sound-block s b (first_handle b (Descriptor w)) g.records k good few k.size.few_records fewer (grown-keeps g b) (λ i d l q j t. refl)
+    (λ q t. t) o (record {
       block = length g.blocks;
       log = log;
       tail = 0;

@@ -30,6 +30,18 @@ sound-fresh a t z c n wide some few =
       sole = λ b h. absurd (omega arith);
       capped = λ b. omega (arith, no-users a t z c n b, holders-le-users (reading s) b);
       known_users = λ b h. absurd (omega (arith, no-users a t z c n b));
-      block_log = record { freed = λ b h. absurd (omega arith); known = All-nil (λ (f : Freed). _); once = λ i j d h l. absurd (omega arith); many = refl };
-      record_log = record { exact = λ r l. absurd (omega arith); known = All-nil (λ (r : ℕ). _); once = λ i j d h l. absurd (omega arith); many = refl };
+      block_log = record {
+        freed = λ b h. absurd (omega arith);
+        known = All-nil (λ (f : Freed). _);
+        once = λ i j d h l. absurd
+            (omega arith);
+        many = refl;
+      };
+      record_log = record {
+        exact = λ r l. absurd (omega arith);
+        known = All-nil (λ (r : ℕ). _);
+        once = λ i j d h l. absurd
+            (omega arith);
+        many = refl;
+      };
     }

@@ -34,10 +34,13 @@ recorded-either g n b r e =
     let l = live-inside (recorded g n b).records r e in
     elim (below-or r (length g.records) (rw length-append at l)) [ inl m ↦ inl (m, recorded-old g n b r m) | inr m ↦ inr m ]
 
--- with a record more two that are shown and of one block are the same, where that held before and the new one, if shown, is alone on its block
+-- with a record more two that are shown and of one block are the same, where that held before and the new one, if shown, is alone on its
+-- block
 pub one-more : (g : Tables) (n b : ℕ) (P Q : ℕ → Type 0)
-    → ((p q : ℕ) → (record_at g p).live ≡ true → (record_at g q).live ≡ true → P p → P q → (record_at g p).block ≡ (record_at g q).block → p ≡ q)
-    → ((q : ℕ) → (record_at g q).live ≡ true → Q q → P q) → ((q : ℕ) → (record_at g q).live ≡ true → Q q → Q (length g.records) → (record_at g q).block ≢ b)
+    → ((p q : ℕ) → (record_at g p).live ≡ true → (record_at g q).live ≡ true → P p → P q → (record_at g p).block ≡ (record_at g q).block
+    → p ≡ q)
+    → ((q : ℕ) → (record_at g q).live ≡ true → Q q → P q)
+    → ((q : ℕ) → (record_at g q).live ≡ true → Q q → Q (length g.records) → (record_at g q).block ≢ b)
     → (p q : ℕ) → (record_at (recorded g n b) p).live ≡ true → (record_at (recorded g n b) q).live ≡ true → Q p → Q q
     → (record_at (recorded g n b) p).block ≡ (record_at (recorded g n b) q).block → p ≡ q
 one-more g n b P Q old shown apart p q tp tq hp hq i =
@@ -63,7 +66,8 @@ ready-live s r c t f = absurd (cc)
 -- a number that isn't given yet is no unpublished record
 pub unhidden-next : (s : State) → IsSound s → hidden s.calls (next_record s) ≡ 0
 unhidden-next s k = count-none (readies (next_record s)) None s.calls (λ i l t.
-    let m = live-inside s.tables.records (next_record s) (ready-live s (next_record s) (call_at s i) t (k.calls_fit i None l)) in omega arith)
+    let m = live-inside s.tables.records (next_record s)
+    (ready-live s (next_record s) (call_at s i) t (k.calls_fit i None l)) in omega arith)
 
 -- ---- a new block that a new record counts
 
@@ -81,17 +85,20 @@ both-keeps g b =
 -- is native, keep the machine sound, where there were fewer than 2^32 of each
 pub sound-recorded : (s : State) (b : Block) (x : Handle) → IsSound s → IsGoodPlace s.tables.blocks b.base b.size b.align
     → x.word ≡ Counted (length s.tables.records) → LiesIn b x x.kind → (x.kind ≡ Mut → b.external ≡ false) → length s.tables.blocks < 2 ^ 32
-    → length s.tables.records < 2 ^ 32 → length s.handles < 2 ^ 32 → IsSound (with_handle (with_record (with_block s b) 1 (length s.tables.blocks)) x)
+    → length s.tables.records < 2 ^ 32 → length s.handles < 2 ^ 32
+    → IsSound (with_handle (with_record (with_block s b) 1 (length s.tables.blocks)) x)
 sound-recorded s b x k good xw lies native few few' fewer =
     let g : Tables = s.tables in
     let n : ℕ = length s.tables.blocks in
     let r : ℕ = length s.tables.records in
     let g' : Tables = both s.tables b in
-    let new : record_at g' r ≡ record { count = 1; block = length s.tables.blocks; live = true } = recorded-new (grown s.tables b) 1 (length s.tables.blocks) in
+    let new : record_at g' r ≡ record { count = 1; block = length s.tables.blocks; live = true } = recorded-new (grown s.tables b) 1
+    (length s.tables.blocks) in
     let new-block : (record_at g' r).block ≡ n = ap (λ (v : Record). v.block) new in
     let at : block_at g' n ≡ b = get_or-append_seam g.blocks b [] _ in
     let shown = unhidden-next s k in
-    sound-block s b x g'.records k good few (rw length-append (omega arith)) fewer (both-keeps g b) (λ i d l q j t. recorded-let_go (grown g b) 1 n q t)
+    sound-block s b x g'.records k good few (rw length-append (omega arith)) fewer (both-keeps g b)
+    (λ i d l q j t. recorded-let_go (grown g b) 1 n q t)
     (λ q t. recorded-live (grown s.tables b) 1 n q t) (owner-counted g' x r xw ∙ ap Some new-block)
     (subst (λ (v : Word). FitsWord g' s.calls x v) (sym xw) (record {
       live = ap (λ (v : Record). v.live) new;
@@ -110,7 +117,8 @@ sound-recorded s b x k good xw lies native few few' fewer =
 -- a handle by a descriptor that no call borrows becomes a view by a new record that counts one, where there were fewer than
 -- 2^32 records: the machine stays sound
 pub sound-promoted : (s : State) (h : ℕ) (x : Handle) (w b : ℕ) (kind : Kind) → IsSound s → Lends s h kind x → x.word ≡ Descriptor w
-    → owner_of s.tables x ≡ Some b → length s.tables.records < 2 ^ 32 → IsSound (edited (with_record s 1 b) h (frozen x (Counted (length s.tables.records))))
+    → owner_of s.tables x ≡ Some b → length s.tables.records < 2 ^ 32
+    → IsSound (edited (with_record s 1 b) h (frozen x (Counted (length s.tables.records))))
 sound-promoted s h x w b kind k t xw ox few =
     let g : Tables = s.tables in
     let at = t.at in
@@ -130,22 +138,27 @@ sound-promoted s h x w b kind k t xw ox few =
     let v = alike s g' k e (λ i d l q j t. recorded-let_go g 1 b q t) in
     let held : (c : ℕ) → tally (held_by g' c) (set s.handles h (Some y)) ≡ tally (held_by g c) s.handles = λ c. let n =
     rw (at, ox', oy) at (count-set (held_by g' c) s.handles h (Some y) None l) in omega (arith, n, v.held c) in
-    let hm : (c : ℕ) → holders (reading next) c ≡ holders (reading s) c = λ c. omega (arith, holders-as s c, holders-as next c, held c, v.still c) in
-    let um : (c : ℕ) → users (reading next) c ≡ users (reading s) c = λ c. omega (arith, users-as s c, users-as next c, held c, v.drops c) in
+    let hm : (c : ℕ) → holders (reading next) c ≡ holders (reading s) c = λ c. omega
+    (arith, holders-as s c, holders-as next c, held c, v.still c) in
+    let um : (c : ℕ) → users (reading next) c ≡ users (reading s) c = λ c. omega
+    (arith, users-as s c, users-as next c, held c, v.drops c) in
     let dm : (c : ℕ) → tally (describes g' c) (set s.handles h (Some y)) + cond (c == b) 1 0 ≡ tally (describes g c) s.handles = λ c.
     let n = count-change (describes g' c) s.handles h (Some y) None (c == b) false l
-    (ap (describes g' c) at ∙ describes-described g' c x w xw ∙ ap (is_block c) ox') (describes-counted g' c y r refl) in omega (arith, n, v.describes c) in
+    (ap (describes g' c) at ∙ describes-described g' c x w xw ∙ ap (is_block c) ox') (describes-counted g' c y r refl) in omega
+    (arith, n, v.describes c) in
     let am : (c : ℕ) → tally (alone g' c) (set s.handles h (Some y)) ≤ tally (alone g c) s.handles = λ c.
     let n = count-set (alone g' c) s.handles h (Some y) None l in
     let ny : ◌≡◌ {A = ℕ} (cond (alone g' c (Some y)) 1 0) 0 = ap (λ (v : Bool). cond {A = ℕ} v 1 0) (alone-shared g' c y r refl refl) in
     omega (arith, n, ny, v.alone c) in
     let one : holders (reading s) b ≡ 1 = alone-at s h x b k at (alone-described g b x w xw ∙ ap (is_block b) ox ∙ eq-eqb b b refl) in
     let some : 0 < tally (describes g b) s.handles = (let z = rw (eq-eqb b b refl) at (dm b) in omega (arith, z)) in
-    let gone : tally (describes g' b) (set s.handles h (Some y)) ≡ 0 = (let z = rw (eq-eqb b b refl) at (dm b) in omega (arith, z, describes-few s b, one)) in
+    let gone : tally (describes g' b) (set s.handles h (Some y)) ≡ 0 = (let z = rw (eq-eqb b b refl) at (dm b) in omega
+    (arith, z, describes-few s b, one)) in
     let apart : (q : ℕ) → (record_at g q).live ≡ true → hidden s.calls q ≡ 0 → (record_at g q).block ≢ b =
     λ q t z i. (let u = rw i at ((k.counted q t).undescribed z) in omega (arith, u, some)) in
     let shown = unhidden-next s k in
-    sound-same s _ _ _ _ k (sized k.size k.size.few_blocks (rw length-append (omega arith)) (rw length-set k.size.few_handles) k.size.few_calls)
+    sound-same s _ _ _ _ k (sized k.size k.size.few_blocks (rw length-append (omega arith))
+    (rw length-set k.size.few_handles) k.size.few_calls)
     (All-set (Fits g' s.calls) s.handles h (Some y) (record {
       live = ap (λ (v : Record). v.live) new;
       known = rw (new-block, ← same) d.says.known;
@@ -157,7 +170,8 @@ sound-promoted s h x w b kind k t xw ox few =
     (λ i d l q j t. recorded-let_go g 1 b q t) (λ c _. hm c))
     (λ c. rw (v.releases c) (k.one_release c)) hm um
     (λ q t. elim (recorded-either g 1 b q t) [
-      | inl v ↦ rw (v.1, hm, um) (fits-fewer (k.counted q (ap (λ (v : Record). v.live) (sym v.1) ∙ t)) (omega (arith, dm (record_at g q).block)))
+      | inl v ↦ rw (v.1, hm, um) (fits-fewer (k.counted q (ap (λ (v : Record). v.live) (sym v.1) ∙ t))
+          (omega (arith, dm (record_at g q).block)))
       | inr i ↦ rw (i, new) (record {
         known = rw (← same) d.says.known;
         one_maker = omega (arith, shown);

@@ -40,7 +40,8 @@ promises-of s k = record {
   one_record = λ q r p t e. k.one_record q r p.live t.live p.shown t.shown e;
   one_maker = λ r. one-maker s r k;
   exclusive = λ h b x at o e. alone-at s h x b k at (rw (o, eq-eqb b b refl) e);
-  recovered = λ h w x at i. (let d = described-at s h x w k at i in (d.block, d.says.known, d.says.owner, recovered-is s h x w d.block k at i d.says.owner));
+  recovered = λ h w x at i. (let d = described-at s h x w k at i in
+      (d.block, d.says.known, d.says.owner, recovered-is s h x w d.block k at i d.says.owner));
   blocks_once = k.block_log.once;
   records_once = k.record_log.once;
   blocks_known = k.block_log.known;

@@ -3,8 +3,10 @@ use Rattle.iobufs_owner.proofs.Base.{◌≡◌, inl, inr, ℕ, ◌+◌, ◌^◌,
 use Rattle.iobufs_owner.proofs.Soundness.NewRecord.{recorded, recorded-new, recorded-keeps, recorded-let_go, recorded-live, recorded-either, one-more, unhidden-next}
 use Rattle.iobufs_owner.proofs.Soundness.Called.{count-calls}
 
--- a clone or slice that has loaded a descriptor of a block makes a record of it that counts two, where there were fewer than 2^32: the machine stays sound
-pub sound-readied : (s : State) (p : ℕ) (k : Share) (w b : ℕ) → IsSound s → call_at s p ≡ Some (Loaded k w) → (l : IsLoading s k w) → l.block ≡ b
+-- a clone or slice that has loaded a descriptor of a block makes a record of it that counts two, where there were fewer than 2^32: the
+-- machine stays sound
+pub sound-readied : (s : State) (p : ℕ) (k : Share) (w b : ℕ) → IsSound s → call_at s p ≡ Some (Loaded k w) → (l : IsLoading s k w)
+    → l.block ≡ b
     → length s.tables.records < 2 ^ 32 → IsSound (called (with_record s 2 b) p (Some (Ready k w (length s.tables.records))))
 sound-readied s p part w b k at ld same few =
     let g : Tables = s.tables in
@@ -20,25 +22,30 @@ sound-readied s p part w b k at ld same few =
     let live : (q : ℕ) → (record_at g q).live ≡ true → (record_at g' q).live ≡ true = λ q t. recorded-live g 2 b q t in
     let v = alike s g' k e (λ i d l q j t. recorded-let_go g 2 b q t) in
     let hm : (d : ℕ) → holders (reading next) d ≡ holders (reading s) d = λ d. let n =
-    count-calls (still_by g' d) s.calls p c None l (ap (still_by g' d) at) refl in omega (arith, holders-as s d, holders-as next d, n, v.held d, v.still d) in
+    count-calls (still_by g' d) s.calls p c None l (ap (still_by g' d) at) refl in omega
+    (arith, holders-as s d, holders-as next d, n, v.held d, v.still d) in
     let um : (d : ℕ) → users (reading next) d ≡ users (reading s) d = λ d. let n =
-    count-calls (drops_by g' d) s.calls p c None l (ap (drops_by g' d) at) refl in omega (arith, users-as s d, users-as next d, n, v.held d, v.drops d) in
+    count-calls (drops_by g' d) s.calls p c None l (ap (drops_by g' d) at) refl in omega
+    (arith, users-as s d, users-as next d, n, v.held d, v.drops d) in
     let hid : (q : ℕ) → hidden (set s.calls p c) q ≡ hidden s.calls q + cond (q == length s.tables.records) 1 0 = λ q.
     let n = rw at at (count-set (readies q) s.calls p c None l) in omega (arith, n) in
     let old : (q : ℕ) → q < length g.records → hidden (set s.calls p c) q ≡ hidden s.calls q =
     λ q m. (let n = rw (ne_eqb q (length s.tables.records) (omega arith)) at (hid q) in omega (arith, n)) in
     let one : hidden (set s.calls p c) r ≡ 1 =
-    (let n = rw (eq-eqb (length s.tables.records) (length s.tables.records) refl) at (hid r) in let z = unhidden-next s k in omega (arith, n, z)) in
+    (let n = rw (eq-eqb (length s.tables.records) (length s.tables.records) refl) at (hid r) in let z = unhidden-next s k in omega
+    (arith, n, z)) in
     let rel : (d : ℕ) → tally (releases g' d) (set s.calls p c) ≡ tally (releases g d) s.calls =
     λ d. count-calls (releases g' d) s.calls p c None l (ap (releases g' d) at) refl ∙ v.releases d in
-    sound-same s _ _ _ _ k (sized k.size k.size.few_blocks (rw length-append (omega arith)) k.size.few_handles (rw length-set k.size.few_calls))
+    sound-same s _ _ _ _ k (sized k.size k.size.few_blocks (rw length-append (omega arith)) k.size.few_handles
+    (rw length-set k.size.few_calls))
     (all-fit-on (set s.calls p c) s.handles e
     (λ _ q x _ _ f. (live q f.live, old q (live-inside g.records q f.live) ∙ f.shown)) k.fit)
     (calls-fit-set s next p c l (record {
       view = ld.view;
       shares = shares-kept s next part ld.view (λ a. a) ld.shares;
       block = b;
-      promised = promised-kept g g' ld.view w b e (owner-kept g g' s.calls ld.view e (fits-at s part.handle ld.view k ld.shares.at)) promised;
+      promised = promised-kept g g' ld.view w b e (owner-kept g g' s.calls ld.view e
+          (fits-at s part.handle ld.view k ld.shares.at)) promised;
       live = ap (λ (v : Record). v.live) new;
       same = ap (λ (v : Record). v.block) new;
     }) (λ i _ _. call-kept next (call_at s i) k e (λ q j t. recorded-let_go g 2 b q t) (λ n _ t. live n t)

@@ -23,9 +23,11 @@ pub dead-let_go : (g : Tables) (r q : ℕ) → has_let_go (tables_without g r) q
 dead-let_go g r q = ap (λ (n : ℕ). nat_eq n 0) (field-set (λ (v : Record). v.count) g.records r q _ _ refl)
 
 -- a record that is live after one is freed was live before, and is another record
-pub dead-live : (g : Tables) (r q : ℕ) → r < length g.records → (record_at (tables_without g r) q).live ≡ true → ((record_at g q).live ≡ true) × (q ≢ r)
+pub dead-live : (g : Tables) (r q : ℕ) → r < length g.records → (record_at (tables_without g r) q).live ≡ true
+    → ((record_at g q).live ≡ true) × (q ≢ r)
 dead-live g r q l e = elim (eqb_tells q r) [
   | inl i ↦ absurd (let z = rw i.1 at e in let y = ap (λ (v : Record). v.live)
-      (get_or-set_same g.records r (record { count = (record_at g r).count; block = (record_at g r).block; live = false }) no_record l) in cc)
+      (get_or-set_same g.records r
+      (record { count = (record_at g r).count; block = (record_at g r).block; live = false }) no_record l) in cc)
   | inr i ↦ (sym (dead-other g r q i.1) ∙ e, i.1)
 ]

@@ -48,7 +48,8 @@ recovered-is s h x w b k at i o =
 
 -- ---- requirements of freeing
 
-ends-below : (b : Block) (x : Handle) (tail size : ℕ) (kind : Kind) → x.kind ≡ kind → size ≡ b.size → LiesIn b x kind → LeavesBehind b x tail kind
+ends-below : (b : Block) (x : Handle) (tail size : ℕ) (kind : Kind) → x.kind ≡ kind → size ≡ b.size → LiesIn b x kind
+    → LeavesBehind b x tail kind
     → size ≤ end_of x tail
 ends-below b x tail size View e n lies behind = rw e (omega (arith, n, behind))
 ends-below b x tail size Mut e n lies behind = rw e (omega (arith, n, lies.ends))
@@ -61,7 +62,8 @@ pub record SaysEnds (g : Tables) (x : Handle) (w : ℕ) : Type 0 where
 
 -- in a machine a descriptor that describes a block is a word of the format, and the block's end, told from the handle, is an
 -- address and no less than its size
-pub says-ends : {m : Inside} {n : Seen} {x : Handle} {w : ℕ} → IsReady m → seen_of m ≡ n → DescribesBlock n.state.tables x w → SaysEnds (state_of m).tables x w
+pub says-ends : {m : Inside} {n : Seen} {x : Handle} {w : ℕ} → IsReady m → seen_of m ≡ n → DescribesBlock n.state.tables x w
+    → SaysEnds (state_of m).tables x w
 says-ends {m} {n} {x} {w} r v b =
     let k = r.sound in
     let d = before (λ (s : State). DescribesBlock s.tables x w) m n v b in

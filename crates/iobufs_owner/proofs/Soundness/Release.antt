@@ -35,7 +35,8 @@ release-last s p r k at =
           record { none = omega arith; one = omega arith; users = omega arith })
     ]
 
-none-holds : (s : State) (b i : ℕ) (x : Handle) → tally (held_by s.tables b) s.handles ≡ 0 → handle_at s i ≡ Some x → owner_of s.tables x ≢ Some b
+none-holds : (s : State) (b i : ℕ) (x : Handle) → tally (held_by s.tables b) s.handles ≡ 0 → handle_at s i ≡ Some x
+    → owner_of s.tables x ≢ Some b
 none-holds s b i x z at o =
     let t = count-some (held_by s.tables b) s.handles i None (at-some s.handles i x at) (rw (at, o) (eq-eqb b b refl)) in
     omega arith
@@ -45,7 +46,8 @@ still-other b c true ne = refl
 still-other b c false ne = ne_eqb c b ne
 
 -- no other call counts on the record, or drops the block
-other-drops : (s : State) (p r i b : ℕ) → call_at s p ≡ Some (Release r) → (record_at s.tables r).block ≡ b → tally (drops_by s.tables b) s.calls ≡ 1
+other-drops : (s : State) (p r i b : ℕ) → call_at s p ≡ Some (Release r) → (record_at s.tables r).block ≡ b
+    → tally (drops_by s.tables b) s.calls ≡ 1
     → i ≢ p → i < length s.calls → drops_by s.tables b (call_at s i) ≡ true → ⊥
 other-drops s p r i b at eb one ne l t =
     let two = count-two (drops_by s.tables b) s.calls i p None ne l (at-some s.calls p (Release r) at) t
@@ -80,7 +82,8 @@ sound-released s p r k at =
     let hid : (q : ℕ) → hidden (set s.calls p None) q ≡ hidden s.calls q = λ q. let c =
     rw at at (count-set (readies q) s.calls p None None l) in omega (arith, c) in
     let um : (c : ℕ) → users (reading next) c + cond (c == b) 1 0 ≡ users (reading s) c = λ c. let n =
-    rw (at, dead-block g r r) at (count-set (drops_by g' c) s.calls p None None l) in omega (arith, users-as s c, users-as next c, n, v.held c, v.drops c) in
+    rw (at, dead-block g r r) at (count-set (drops_by g' c) s.calls p None None l) in omega
+    (arith, users-as s c, users-as next c, n, v.held c, v.drops c) in
     let hm : (c : ℕ) → c ≢ b → holders (reading next) c ≡ holders (reading s) c = λ c ne. let n =
     rw (at, dead-block g r r, still-other b c (has_let_go g' r) ne) at (count-set (still_by g' c) s.calls p None None l) in
     omega (arith, holders-as s c, holders-as next c, n, v.held c, v.still c) in
@@ -107,10 +110,12 @@ sound-released s p r k at =
           let same : users (reading next) (record_at g q).block ≡ users (reading s) (record_at g q).block =
           (let n = rw (ne_eqb (record_at g q).block b nb) at (um (record_at g q).block) in omega (arith, n)) in
           rw (dead-at g r q d.1, hid q, hm (record_at g q).block nb, same, v.describes) (k.counted q d.0);
-      one_record = λ q q' tq tq' hq hq' i. k.one_record q q' (dead-live g r q inside tq).0 (dead-live g r q' inside tq').0 (sym (hid q) ∙ hq)
+      one_record = λ q q' tq tq' hq hq' i. k.one_record q q' (dead-live g r q inside tq).0 (dead-live g r q' inside tq').0
+          (sym (hid q) ∙ hq)
           (sym (hid q') ∙ hq') (sym (dead-block g r q) ∙ i ∙ dead-block g r q');
       sole = λ c t. let u = rw (v.alone c) at t in
-          hm c (λ i. absurd (let w = rw i at u in omega (arith, w, count-most (held_by s.tables b) (alone g b) s.handles (alone-holds g b), last.none)))
+          hm c (λ i. absurd (let w = rw i at u in omega
+          (arith, w, count-most (held_by s.tables b) (alone g b) s.handles (alone-holds g b), last.none)))
           ∙ k.sole c u;
       capped = λ c. elim (eqb_tells c b) [
         | inl i ↦ rw i.1 (omega (arith, holders-le-users (reading next) b, none))

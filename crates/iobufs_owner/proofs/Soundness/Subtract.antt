@@ -14,7 +14,8 @@ afterwards-by : (P : Option Pending → Type 0) (r n : ℕ) → (n ≡ 1 → P (
 afterwards-by P r n some none = elim (eqb_tells n 1) [ inl i ↦ rw i.0 (some i.1) | inr i ↦ rw i.0 (none i.1) ]
 
 -- no call releases a block that another drop holds
-none-release : (s : State) (p r i : ℕ) (c : Option Pending) → IsSound s → call_at s p ≡ Some (Subtract r) → i < length s.calls → call_at s i ≡ c
+none-release : (s : State) (p r i : ℕ) (c : Option Pending) → IsSound s → call_at s p ≡ Some (Subtract r) → i < length s.calls
+    → call_at s i ≡ c
     → FitsCall s c → releases s.tables (record_at s.tables r).block c ≡ true → ⊥
 none-release s p r i (Some (Release q)) k at l e f t =
     let b : ℕ = (record_at s.tables r).block in
@@ -33,7 +34,8 @@ none-release s p r i (Some (Release q)) k at l e f t =
 none-release s p r i c k at l e f t = cc
 
 -- so another count for that block's record leaves each call that frees a record as it was
-pub counted-drops : (s : State) (p r n : ℕ) → IsSound s → call_at s p ≡ Some (Subtract r) → All (KeepsLetGo s.tables (counted s.tables r n)) s.calls
+pub counted-drops : (s : State) (p r n : ℕ) → IsSound s → call_at s p ≡ Some (Subtract r)
+    → All (KeepsLetGo s.tables (counted s.tables r n)) s.calls
 counted-drops s p r n k at =
     All-from_get_or (KeepsLetGo s.tables (counted s.tables r n)) s.calls None
     (λ i l q e live. ap (λ (m : ℕ). nat_eq m 0)
@@ -41,7 +43,8 @@ counted-drops s p r n k at =
     (rw e (eq-eqb (record_at s.tables r).block (record_at s.tables q).block (ap (λ (m : ℕ). (record_at s.tables m).block) (sym same)))))))
 
 -- it is the last holder's drop that goes on, and its record counts none then
-pub gone-after : (g : Tables) (r : ℕ) → r < length g.records → (record_at g r).count ≡ 1 → has_let_go (counted g r ((record_at g r).count - 1)) r ≡ true
+pub gone-after : (g : Tables) (r : ℕ) → r < length g.records → (record_at g r).count ≡ 1
+    → has_let_go (counted g r ((record_at g r).count - 1)) r ≡ true
 gone-after g r inside one = eq-eqb (record_at (counted g r ((record_at g r).count - 1)) r).count 0
     (counted-same g r ((record_at g r).count - 1) inside ∙ omega (arith, one))
 
@@ -63,10 +66,12 @@ sound-subtracted s p r k at =
     let bb = counted-block g r (n - 1) r in
     let inside = live-inside g.records r f.0 in
     let dr : (c : ℕ) → users (reading next) c + cond (c == b) 1 0 ≡ users (reading s) c + cond (drops_by g' c y) 1 0 = λ c.
-    let m = rw (at, bb) at (count-set (drops_by g' c) s.calls p y None lp) in omega (arith, users-as s c, users-as next c, m, v.held c, v.drops c) in
+    let m = rw (at, bb) at (count-set (drops_by g' c) s.calls p y None lp) in omega
+    (arith, users-as s c, users-as next c, m, v.held c, v.drops c) in
     let hm : (c : ℕ) → holders (reading next) c + cond (c == b) 1 0 ≡ holders (reading s) c = λ c.
     let still = afterwards-by (λ y. still_by g' c y ≡ false) r n (λ one. rw (gone-after g r inside one) refl) (λ _. refl) in
-    let m = rw (at, bb, still) at (count-set (still_by g' c) s.calls p y None lp) in omega (arith, holders-as s c, holders-as next c, m, v.held c, v.still c) in
+    let m = rw (at, bb, still) at (count-set (still_by g' c) s.calls p y None lp) in omega
+    (arith, holders-as s c, holders-as next c, m, v.held c, v.still c) in
     let others : (c : ℕ) → c ≢ b → users (reading next) c ≡ users (reading s) c = λ c ne.
     let drops = afterwards-by (λ y. drops_by g' c y ≡ false) r n (λ _. ne_eqb c (record_at g' r).block (λ i. ne (i ∙ bb))) (λ _. refl) in
     let e = rw (ne_eqb c b ne, drops) at (dr c) in omega (arith, e) in
@@ -76,7 +81,8 @@ sound-subtracted s p r k at =
     let one = count-some (still_by s.tables b) s.calls p None lp (rw at (eq-eqb b b refl)) in
     let some : 0 < users (reading next) b = elim (eqb_tells n 1) [
       | inl i ↦ (let here = count-some (drops_by g' b) next.calls p None (rw length-set lp)
-          (rw (get_or-set_same s.calls p y None lp, i.0) (eq-eqb b (record_at g' r).block (sym bb))) in omega (arith, users-as next b, here))
+          (rw (get_or-set_same s.calls p y None lp, i.0) (eq-eqb b (record_at g' r).block (sym bb))) in omega
+          (arith, users-as next b, here))
       | inr i ↦ (let ne = i.1 in omega (arith, least, holders-le-users (reading s) b, h, one, is, ne))
     ] in
     let none = count-none (releases g b) None s.calls (λ i l t. none-release s p r i (call_at s i) k at l refl (k.calls_fit i None l) t) in
@@ -91,7 +97,8 @@ sound-subtracted s p r k at =
       count-change (readies q) s.calls p y None false false lp (ap (readies q) at)
           (afterwards-by (λ y. readies q y ≡ false) r n (λ _. refl) (λ _. refl)),
     ) in
-    let same : (c : ℕ) → c ≢ b → holders (reading next) c ≡ holders (reading s) c = λ c ne. (let t = rw (ne_eqb c b ne) at (hm c) in omega (arith, t)) in
+    let same : (c : ℕ) → c ≢ b → holders (reading next) c ≡ holders
+    (reading s) c = λ c ne. (let t = rw (ne_eqb c b ne) at (hm c) in omega (arith, t)) in
     let fewer : holders (reading next) b + 1 ≡ holders (reading s) b = (let t = rw (eq-eqb b b refl) at (hm b) in omega (arith, t)) in
     record {
       size = rw (length-set, length-set) k.size;
@@ -103,7 +110,8 @@ sound-subtracted s p r k at =
         alone = rw (gone-after g r inside one) (ap (λ c. holders (reading next) c) bb ∙ omega (arith, one, is, fewer));
       }) (λ _. tt)) (λ i _ lo. call-kept next (call_at s i) k e (gone i None lo) (λ q _ t. counted-live g r (n - 1) q ∙ t) (λ q _ _. hid q)
           (λ _ _ _ a. a) (λ q j. same (record_at g q).block
-          (λ w. none-release s p r i (call_at s i) k at lo refl (k.calls_fit i None lo) (rw j (eq-eqb b (record_at g q).block (sym w)))))) k.calls_fit;
+          (λ w. none-release s p r i (call_at s i) k at lo refl (k.calls_fit i None lo)
+          (rw j (eq-eqb b (record_at g q).block (sym w)))))) k.calls_fit;
       one_release = λ c. afterwards-by (λ y. tally (releases g' c) (set s.calls p y) ≤ 1) r n
           (λ _. let m = count-set (releases g' c) s.calls p (Some (Release r)) None lp in elim (eqb_tells c b) [
             | inl i ↦ rw i.1 (let m = rw (i.1, bb, eq-eqb b b refl) at m in omega (arith, m, v.releases b, none))
@@ -122,7 +130,8 @@ sound-subtracted s p r k at =
                   ∙ sym (same (record_at g q).block (λ j. i.1 (k.one_record q r lq f.0 (sym (hid q) ∙ z) f.1 j)))
                   ∙ ap (λ c. holders (reading next) c) (sym (counted-block g r (n - 1) q))
             ];
-            fresh = λ z. counted-other g r (n - 1) q (λ i. absurd (let u = rw i at (sym (hid q) ∙ z) in omega (arith, u, f.1))) ∙ cq.fresh (sym (hid q) ∙ z);
+            fresh = λ z. counted-other g r (n - 1) q (λ i. absurd (let u = rw i at (sym (hid q) ∙ z) in omega (arith, u, f.1)))
+                ∙ cq.fresh (sym (hid q) ∙ z);
             used = subst (λ c. 0 < users (reading next) c) (sym (counted-block g r (n - 1) q))
                 (elim (eqb_tells (record_at g q).block b) [ inl i ↦ rw i.1 some | inr i ↦ rw (others (record_at g q).block i.1) cq.used ]);
             undescribed = λ z. subst (λ c. tally (describes g' c) s.handles ≡ 0) (sym (counted-block g r (n - 1) q))

@@ -41,7 +41,13 @@ share-shown s p h r x b part z y d at l fit o bl sh pr =
           let ov : owner_of g' v ≡ owner_of g v = owner-kept g g' s.calls v e
           (record { block = d; log = pr'.log; tail = pr'.tail; says = pr'.says }) in record {
             view = u;
-            shares = record { at = rw i.1 (get_or-set_same s.handles h (Some u) None l); view = sh'.view; order = sh'.order; within = sh'.within };
+            shares = record {
+              at = rw i.1 (get_or-set_same s.handles h
+                  (Some u) None l);
+              view = sh'.view;
+              order = sh'.order;
+              within = sh'.within;
+            };
             promised = record {
               log = pr'.log;
               tail = pr'.tail;
@@ -52,8 +58,10 @@ share-shown s p h r x b part z y d at l fit o bl sh pr =
           })
       | inr i ↦ record {
         view = y;
-        shares = shares-kept s (shown s p h r x) part y (λ a. get_or-set_other s.handles h part.handle (Some (by_record x r)) None i.1 ∙ a) sh;
-        promised = promised-kept g g' y z d e (owner-kept g g' s.calls y e (rw sh.at at (fit part.handle None (at-some s.handles part.handle y sh.at)))) pr;
+        shares = shares-kept s (shown s p h r x) part y
+            (λ a. get_or-set_other s.handles h part.handle (Some (by_record x r)) None i.1 ∙ a) sh;
+        promised = promised-kept g g' y z d e (owner-kept g g' s.calls y e
+            (rw sh.at at (fit part.handle None (at-some s.handles part.handle y sh.at)))) pr;
       }
     ]
 
@@ -82,7 +90,8 @@ call-shown s p h r i x b (Some (Add part q)) at w word l fit o bl two hid n f =
           let v = ap (λ (y : Handle). y.word) yx in let yw = f.word in cc)
       | inr j ↦ record {
         view = f.view;
-        shares = shares-kept s (shown s p h r x) part f.view (λ a. get_or-set_other s.handles h part.handle (Some (by_record x r)) None j.1 ∙ a) f.shares;
+        shares = shares-kept s (shown s p h r x) part f.view
+            (λ a. get_or-set_other s.handles h part.handle (Some (by_record x r)) None j.1 ∙ a) f.shares;
         word = f.word;
       }
     ]
@@ -121,7 +130,8 @@ sound-shown s p r w part x k atp at word =
     let held : (c : ℕ) → tally (held_by g' c) (set s.handles h (Some y)) ≡ tally (held_by g c) s.handles = λ c. let n =
     rw (at, ox, oy) at (count-set (held_by g' c) s.handles h (Some y) None l) in omega (arith, n, v.held c) in
     let hm : (c : ℕ) → holders (reading next) c ≡ holders (reading s) c = λ c. let n =
-    rw atp at (count-set (still_by g' c) s.calls p None None lp) in omega (arith, holders-as s c, holders-as next c, n, held c, v.still c) in
+    rw atp at (count-set (still_by g' c) s.calls p None None lp) in omega
+    (arith, holders-as s c, holders-as next c, n, held c, v.still c) in
     let um : (c : ℕ) → users (reading next) c ≡ users (reading s) c = λ c. let n =
     rw atp at (count-set (drops_by g' c) s.calls p None None lp) in omega (arith, users-as s c, users-as next c, n, held c, v.drops c) in
     let hid : (q : ℕ) → hidden (set s.calls p None) q + cond (q == r) 1 0 ≡ hidden s.calls q = λ q. let c =
@@ -132,10 +142,12 @@ sound-shown s p r w part x k atp at word =
     let mine : hidden (set s.calls p None) r ≡ 0 = (let z = rw (eq-eqb r r refl) at (hid r) in let m = me.one_maker in omega (arith, z)) in
     let dm : (c : ℕ) → tally (describes g' c) (set s.handles h (Some y)) + cond (c == b) 1 0 ≡ tally (describes g c) s.handles = λ c.
     let n = count-change (describes g' c) s.handles h (Some y) None (c == b) false l
-    (ap (describes g' c) at ∙ describes-described g' c x w word ∙ ap (is_block c) ox) (describes-counted g' c y r refl) in omega (arith, n, v.describes c) in
+    (ap (describes g' c) at ∙ describes-described g' c x w word ∙ ap (is_block c) ox) (describes-counted g' c y r refl) in omega
+    (arith, n, v.describes c) in
     let am : (c : ℕ) → tally (alone g' c) (set s.handles h (Some y)) + cond (c == b) 1 0 ≡ tally (alone g c) s.handles = λ c.
     let n = count-change (alone g' c) s.handles h (Some y) None (c == b) false l
-    (ap (alone g' c) at ∙ alone-described g' c x w word ∙ ap (is_block c) ox) (alone-shared g' c y r refl view) in omega (arith, n, v.alone c) in
+    (ap (alone g' c) at ∙ alone-described g' c x w word ∙ ap (is_block c) ox) (alone-shared g' c y r refl view) in omega
+    (arith, n, v.alone c) in
     let some : 0 < tally (describes g b) s.handles = (let z = rw (eq-eqb b b refl) at (dm b) in omega (arith, z)) in
     let here : (record_at g' r).block ≡ b = counted-block g r 1 r ∙ f.same in
     let gone : tally (describes g' b) (set s.handles h (Some y)) ≡ 0 =
@@ -149,7 +161,8 @@ sound-shown s p r w part x k atp at word =
       live = counted-live g r 1 r ∙ f.live;
       known = rw (counted-block g r 1 r) me.known;
       shown = mine;
-      lies = rw (counted-block g r 1 r, f.same) (lies-still (block_at g f.block) (record x { word = Descriptor w }) (Counted r) x.kind pr.says.lies);
+      lies = rw (counted-block g r 1 r, f.same) (lies-still (block_at g f.block) (record x { word = Descriptor w })
+          (Counted r) x.kind pr.says.lies);
       native = λ m. absurd (let q = sym view ∙ m in cc);
     }) (λ i _ li. fit-on (set s.calls p None) (get_or s.handles i None) e
     (λ z q _ _ f. (counted-live g r 1 q ∙ f.live, (let n = less q in let m = f.shown in omega arith))) (k.fit i None li)))
@@ -169,7 +182,8 @@ sound-shown s p r w part x k atp at word =
       | inl i ↦ rw i.1 (record {
         known = rw (counted-block g r 1 r) me.known;
         one_maker = omega arith;
-        counts = λ z. counted-same g r 1 (live-inside g.records r f.live) ∙ sym one ∙ sym (hm b) ∙ ap (λ c. holders (reading next) c) (sym here);
+        counts = λ z. counted-same g r 1 (live-inside g.records r f.live) ∙ sym one ∙ sym (hm b)
+            ∙ ap (λ c. holders (reading next) c) (sym here);
         fresh = λ z. absurd (omega arith);
         used = rw (counted-block g r 1 r, um) me.used;
         undescribed = λ z. subst (λ c. tally (describes g' c) (set s.handles h (Some y)) ≡ 0) (sym here) gone;
@@ -206,7 +220,8 @@ pub set-get : {X : Type 0} (xs : List X) (i : ℕ) (v d : X) → v ≡ get_or xs
 set-get xs i v d e = rw e (set-get_or xs i d)
 
 -- a count that is 2 stays so, written as 1 and as one more
-twice : (g : Tables) (r : ℕ) → r < length g.records → (record_at g r).count ≡ 2 → counted (counted g r 1) r ((record_at (counted g r 1) r).count + 1) ≡ g
+twice : (g : Tables) (r : ℕ) → r < length g.records → (record_at g r).count ≡ 2
+    → counted (counted g r 1) r ((record_at (counted g r 1) r).count + 1) ≡ g
 twice g r l two =
     let e = set-get g.records r (record { count = 2; block = (record_at g r).block; live = (record_at g r).live }) no_record
     (ap (λ (n : ℕ). record { count = n; block = (record_at g r).block; live = (record_at g r).live }) (sym two)) in
@@ -214,7 +229,8 @@ twice g r l two =
 
 -- a clone or slice whose view has the loaded descriptor still puts its record there and makes one more view by it, where
 -- there were fewer than 2^32 handles: the machine stays sound
-pub sound-won : (s : State) (p r w : ℕ) (k : Share) (x : Handle) → IsSound s → call_at s p ≡ Some (Ready k w r) → handle_at s k.handle ≡ Some x
+pub sound-won : (s : State) (p r w : ℕ) (k : Share) (x : Handle) → IsSound s → call_at s p ≡ Some (Ready k w r)
+    → handle_at s k.handle ≡ Some x
     → x.word ≡ Descriptor w → length s.handles < 2 ^ 32
     → IsSound (with_handle (called (edited s k.handle (by_record x r)) p None) (part x k.lo k.hi (Counted r)))
 sound-won s p r w part' x k at atx xw few =

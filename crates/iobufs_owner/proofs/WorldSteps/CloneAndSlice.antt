@@ -38,8 +38,10 @@ race-as {s} {t} {reply} p k w r memory i a y = elim a.promised.now' [
         never,
         omega arith,
         made-taken (called u p None) (part a.view k.lo k.hi (Counted r))
-            (called-in u p None (unchanged-in s s k.handle a.view (by_record a.view r) refl a.shares.at (rw (o (by_record a.view r) refl) refl)))
-            (reads-part s.tables s.tables a.view k.lo k.hi (Counted r) (o (part a.view k.lo k.hi (Counted r)) refl)) (rw (a.shares.at, e, eq-eqb w w refl) at y),
+            (called-in u p None (unchanged-in s s k.handle a.view (by_record a.view r) refl a.shares.at
+            (rw (o (by_record a.view r) refl) refl)))
+            (reads-part s.tables s.tables a.view k.lo k.hi (Counted r) (o (part a.view k.lo k.hi (Counted r)) refl))
+            (rw (a.shares.at, e, eq-eqb w w refl) at y),
       ))))
   | inr (winner, e) ↦
       inr (inl (
@@ -78,7 +80,8 @@ add-as {s} p k r memory false i a e y =
 
 -- the step that lowers the count, of a drop in a sound machine, is one of a drop with two steps left that has not let go
 pub subtract-as : {s t : State} {reply : Reply} (p r : ℕ) (memory : Bool) → IsSound s → call_at s p ≡ Some (Subtract r)
-    → IsAnswered s (gone_on s p (Subtract r) memory) reply t → Goes (reading s) p (Dropping (record_at s.tables r).block false 2) memory reply (reading t)
+    → IsAnswered s (gone_on s p (Subtract r) memory) reply t
+    → Goes (reading s) p (Dropping (record_at s.tables r).block false 2) memory reply (reading t)
 unfolding Goes
 subtract-as {s} p r memory i at y =
     let f = letting-go s p r i at in
@@ -113,7 +116,8 @@ pub begun-word : {s t : State} {reply : Reply} (p h lo hi : ℕ) (x : Handle) (w
     → ShareIs (reading s) p h lo hi (read_held s.tables x) reply (reading t)
 begun-word {s} p h lo hi x Empty k at e y =
     let n = owner-empty s.tables x e in
-    let z = made-taken s (part x lo hi Empty) refl (reads-part s.tables s.tables x lo hi Empty (owner-empty s.tables (part x lo hi Empty) refl ∙ sym n)) y in
+    let z = made-taken s (part x lo hi Empty) refl
+    (reads-part s.tables s.tables x lo hi Empty (owner-empty s.tables (part x lo hi Empty) refl ∙ sym n)) y in
     rw n (rw n at z)
 begun-word {s} p h lo hi x (Descriptor w) k at e y = rw (described-at s h x w k at e).says.owner (goes-within 3 (omega arith) (omega arith)
     (reply-taken refl (called-in s p (Some (Loaded (record { handle = h; lo = lo; hi = hi }) w)) refl) y))

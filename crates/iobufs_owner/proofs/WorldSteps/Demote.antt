@@ -5,7 +5,8 @@ use Rattle.iobufs_owner.proofs.WorldSteps.Taken.{same-taken, reply-taken, replac
 use Rattle.iobufs_owner.proofs.Soundness.{may-tells, owner-demoted, set-get}
 
 -- a handle that is read as the one before it leaves the world as it was
-pub unchanged-in : (s u : State) (h : ℕ) (x y : Handle) → reading u ≡ reading s → handle_at s h ≡ Some x → read_held u.tables y ≡ read_held s.tables x
+pub unchanged-in : (s u : State) (h : ℕ) (x y : Handle) → reading u ≡ reading s → handle_at s h ≡ Some x
+    → read_held u.tables y ≡ read_held s.tables x
     → reading (edited u h y) ≡ reading s
 unchanged-in s u h x y r at e =
     let own = set-get (map (read_handle s.tables) s.handles) h (Some (read_held s.tables x)) None

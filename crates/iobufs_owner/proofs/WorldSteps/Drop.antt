@@ -21,7 +21,8 @@ drop-viewed {s} p h r false e i = goes-within 2 (omega arith) (omega arith)
 gone : {s t : State} {reply : Reply} (h : ℕ) (x : Handle) (w : Word) → IsSound s → handle_at s h ≡ Some x → x.word ≡ w
     → IsAnswered s (done (replaced (short.freed_with s x w) h None)) reply t
     → (reply ≡ Done) × (reading t ≡ held_gone (free_of (reading s) (owner_of s.tables x)) h)
-gone {s} h x w k at e i = reply-taken (freed-entries s h x None w) (replaced-in (short.freed_with s x w) h None (freed-in s h x w k at e) refl) i
+gone {s} h x w k at e i = reply-taken (freed-entries s h x None w)
+    (replaced-in (short.freed_with s x w) h None (freed-in s h x w k at e) refl) i
 
 -- the first step of a drop has the effect that users see
 pub drop-word : {s t : State} {reply : Reply} (p h : ℕ) (x : Handle) (w : Word) → IsSound s → handle_at s h ≡ Some x → x.word ≡ w

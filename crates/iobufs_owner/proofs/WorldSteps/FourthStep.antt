@@ -23,7 +23,8 @@ after-less n (Refused why) f = grind (arith)
 after-less n reply f = omega arith
 
 -- one step more, towards the end
-one-more : (o : Option Unfinished) (c : Unfinished) (n : ℕ) → n ≤ taken_of o → IsShort o → IsLess o c → (n + 1 ≤ taken_of (Some c)) × (left_of c ≤ 3)
+one-more : (o : Option Unfinished) (c : Unfinished) (n : ℕ) → n ≤ taken_of o → IsShort o → IsLess o c
+    → (n + 1 ≤ taken_of (Some c)) × (left_of c ≤ 3)
 one-more None c n t s l = let e = taken-left c in (omega (arith, e, t, l), l)
 one-more (Some d) c n t s l = let e = taken-left c in let f = taken-left d in (omega (arith, e, f, t, s, l), omega (arith, s, l))
 
@@ -41,12 +42,14 @@ own w next p n reply j (inr (inl g)) =
     let f = taken-left g.call in
     let d = b.0 in
     let some = g.some in
-    rw (g.calls, get_or-set_same w.calls p (Some g.call) None g.thread, a) (record { taken = d; few = omega (arith, d, f, some); short = b.1 })
+    rw (g.calls, get_or-set_same w.calls p (Some g.call) None g.thread, a)
+    (record { taken = d; few = omega (arith, d, f, some); short = b.1 })
 own w next p n reply j (inr (inr g)) =
     rw (g.calls, get_or-set_same w.calls p None None g.thread, g.none n) (record { taken = omega arith; few = omega arith; short = tt })
 
 -- that of another thread
-others : (w next : World) (p q : ℕ) (c : Option Unfinished) (reply : Reply) → p ≢ q → Changes w q c reply next → going_at next p ≡ going_at w p
+others : (w next : World) (p q : ℕ) (c : Option Unfinished) (reply : Reply) → p ≢ q → Changes w q c reply next
+    → going_at next p ≡ going_at w p
 others w next p q c reply d (inl (e, f)) = ap (λ (cs : List (Option Unfinished)). get_or cs p None) e
 others w next p q c reply d (inr (inl g)) = rw g.calls (get_or-set_other w.calls q p (Some g.call) None d)
 others w next p q c reply d (inr (inr g)) = rw g.calls (get_or-set_other w.calls q p None None d)
@@ -69,7 +72,8 @@ pub near-start : (s : State) (p : ℕ) → IsNear (going_at (reading s) p) (take
 near-start s p = near-from s p (taken_of (going_at (reading s) p)) (omega arith)
 
 -- a step leaves its thread's call with fewer than four steps taken, and no more than the call that is unfinished then has taken at most
-pub counts-taken : (s : State) (next : World) (step : Step) (reply : Reply) → Steps (reading s) step reply next → CountsTaken (reading s) step reply next
+pub counts-taken : (s : State) (next : World) (step : Step) (reply : Reply) → Steps (reading s) step reply next
+    → CountsTaken (reading s) step reply next
 counts-taken s next step reply m = λ n l.
     let r = own (reading s) next step.thread n reply (near-from s step.thread n l) (told (reading s) next step reply m).0 in
     (r.few, r.taken)

@@ -21,11 +21,16 @@ pub freed-in : (s : State) (h : ℕ) (x : Handle) (w : Word) → IsSound s → h
 freed-in s h x Empty k at w = rw (owner-empty s.tables x w) refl
 freed-in s h x (Descriptor v) k at w =
     let d = described-at s h x v k at w in
-    rw (d.says.owner, recovered-is s h x v d.block k at w d.says.owner, freed-more s.tables s.freed_blocks d.block k.blocks d.says.known) refl
+    rw (
+      d.says.owner,
+      recovered-is s h x v d.block k at w d.says.owner,
+      freed-more s.tables s.freed_blocks d.block k.blocks d.says.known,
+    ) refl
 freed-in s h x (Counted r) k at w = rw (owner-counted s.tables x r w) (both-in s r k (counted-at s h x r k at w).live)
 
 -- a handle that lets go adds no entry
-pub freed-entries : (s : State) (h : ℕ) (x : Handle) (o : Option Handle) (w : Word) → entries (replaced (short.freed_with s x w) h o) ≡ entries s
+pub freed-entries : (s : State) (h : ℕ) (x : Handle) (o : Option Handle) (w : Word)
+    → entries (replaced (short.freed_with s x w) h o) ≡ entries s
 freed-entries s h x o Empty = simp length-set
 freed-entries s h x o (Descriptor v) = simp length-set
 freed-entries s h x o (Counted r) = simp length-set
@@ -56,14 +61,17 @@ freeze-word {s} {t} {reply} h x memory (Descriptor v) k l w i =
     either-taken (nat_lt (x.cap - x.len) (2 ^ s.tables.tail_bits)) (λ e i.
     let y : Handle = frozen x (Descriptor (retailed s.tables v (x.cap - x.len))) in
     let o = owner-redescribed s.tables x y v (retailed s.tables v (x.cap - x.len)) w refl
-    (base-frozen s.tables x v d.block d.log d.tail l.kind_is (within s h x k l.at l.kind_is) d.says (ltb-true (x.cap - x.len) (2 ^ s.tables.tail_bits) e)) in
+    (base-frozen s.tables x v d.block d.log d.tail l.kind_is (within s h x k l.at l.kind_is) d.says
+    (ltb-true (x.cap - x.len) (2 ^ s.tables.tail_bits) e)) in
     inr (inr (edit-taken h y (rw o refl) i))) (λ _ i. either-taken memory (λ m i.
     let y : Handle = frozen x (Counted (next_record s)) in
     let z : read_handle (recorded s.tables 1 (owned_by s.tables x)) (Some y) ≡ Some (record (read_held s.tables x) { kind = View }) =
     rw (promoted-owner s.tables 1 d.block x y d.says.owner refl) refl in
-    let q : NoRoom (reading s) reply (reading t) ⊎ ((reply ≡ Done) × (reading t ≡ held_set (reading s) h (record (read_held s.tables x) { kind = View }))) =
+    let q : NoRoom (reading s) reply (reading t) ⊎
+    ((reply ≡ Done) × (reading t ≡ held_set (reading s) h (record (read_held s.tables x) { kind = View }))) =
     grown-taken (replaced-in (promoted s x 1) h (Some y) (recorded-in s 1 (owned_by s.tables x) k) z) i in elim q
     [ inl a ↦ inr (inl (record { some = some; granted = m; no_room = a })) | inr a ↦ inr (inr a) ])
     (λ m i. inl (record { some = some; denied = m; refuses = same-taken i })) i) i
 freeze-word {s} h x memory (Counted r) k l w i =
-    inr (inr (edit-taken h (frozen x (Counted r)) (rw (owner-counted s.tables (frozen x (Counted r)) r refl, owner-counted s.tables x r w) refl) i))
+    inr (inr (edit-taken h (frozen x (Counted r)) (rw
+    (owner-counted s.tables (frozen x (Counted r)) r refl, owner-counted s.tables x r w) refl) i))

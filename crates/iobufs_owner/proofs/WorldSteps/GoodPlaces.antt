@@ -49,7 +49,8 @@ none-taken (b ∷ bs) base size a =
 all-apart : (bs : List Block) (base size : ℕ) → is_taken bs base size ≡ false → All (λ b. ApartFrom b base size) bs
 all-apart [] base size e = λ k d l. absurd (omega (arith, l))
 all-apart (b ∷ bs) base size e =
-    All-cons (λ b. ApartFrom b base size) b bs (grind (arith, nat_tests, e)) (all-apart bs base size (or_parts _ (is_taken bs base size) e).1)
+    All-cons (λ b. ApartFrom b base size) b bs (grind (arith, nat_tests, e))
+    (all-apart bs base size (or_parts _ (is_taken bs base size) e).1)
 
 -- the test passes at a good place
 pub good-yes : (bs : List Block) (base size align : ℕ) → IsGoodPlace bs base size align → is_good_place bs base size align ≡ true

@@ -61,7 +61,14 @@ small : {s u : State} {reply : Reply} {block : Bool} → is_room reply ≡ false
     → length u.tables.records ≤ length s.tables.records + 1 → length u.tables.blocks ≡ length s.tables.blocks → KeepsLogs s u
     → IsModest s block (record { reply = reply; state = u })
 small n h r b g =
-    record { answers = λ e. (let z = sym n ∙ ap is_room e in cc); handles = omega (arith, h); records = r; blocks = omega (arith, b); logs = g }
+    record {
+      answers = λ e. (let z = sym n ∙ ap is_room e in cc);
+      handles = omega (arith, h);
+      records = r;
+      blocks = omega
+          (arith, b);
+      logs = g;
+    }
 
 -- nothing but calls changes, or nothing at all
 calls : {s : State} {block : Bool} {reply : Reply} (cs : List (Option Pending)) → is_room reply ≡ false
@@ -76,12 +83,20 @@ made : {s : State} {block : Bool} (u : State) (x : Handle) → u.freed_blocks �
     → length u.handles ≡ length s.handles → length u.tables.records ≤ length s.tables.records + 1
     → length u.tables.blocks ≤ length s.tables.blocks + cond block 1 0 → IsModest s block (change.made u x)
 made {s} u x e f h r b =
-    record { answers = λ e. absurd (cc); handles = rw length-append (omega (arith, h)); records = r; blocks = b; logs = rw (e, f) (logs-same s) }
+    record {
+      answers = λ e. absurd (cc);
+      handles = rw length-append (omega (arith, h));
+      records = r;
+      blocks = b;
+      logs = rw (e, f)
+          (logs-same s);
+    }
 
 -- ---- calls that end with their first step
 
 -- a new block where one may be, if memory is granted
-granted : {s : State} {o : Outcome} (v memory : Bool) → IsModest s true o → IsModest s true (cond v (cond memory o (refused s Memory)) (refused s BadPlace))
+granted : {s : State} {o : Outcome} (v memory : Bool) → IsModest s true o
+    → IsModest s true (cond v (cond memory o (refused s Memory)) (refused s BadPlace))
 granted v memory m = either v (either memory m (refuses Memory refl)) (refuses BadPlace refl)
 
 edited : {s : State} (h : ℕ) (x : Handle) → IsModest s false (change.done (change.edited s h x))
@@ -91,17 +106,20 @@ edited {s} h x = small refl (length-set _ _ _) (omega arith) refl (logs-same s)
 lent : {s : State} (test : Handle → Bool) (b : Bool) (o : Option Handle) (f : Handle → Outcome) → ((x : Handle) → IsModest s false (f x))
     → IsModest s false (change.on_lent s (asked test b o) f)
 lent test b None f m = refuses _ refl
-lent {s} test b (Some x) f m = elim (test x) as (λ v. IsModest s false (change.on_lent s (cond v (cond b (Err Borrowed) (Ok x)) (Err WrongKind)) f)) [
-  | true ↦ elim b as (λ v. IsModest s false (change.on_lent s (cond v (Err Borrowed) (Ok x)) f)) [ true ↦ refuses Borrowed refl | false ↦ m x ]
-  | false ↦ refuses WrongKind refl
-]
+lent {s} test b (Some x) f m = elim (test x) as (λ v. IsModest s false
+    (change.on_lent s (cond v (cond b (Err Borrowed) (Ok x)) (Err WrongKind)) f)) [
+      | true ↦ elim b as (λ v. IsModest s false (change.on_lent s (cond v (Err Borrowed) (Ok x)) f))
+          [ true ↦ refuses Borrowed refl | false ↦ m x ]
+      | false ↦ refuses WrongKind refl
+    ]
 
 lent-alone : {s : State} (test : Handle → Bool) (h : ℕ) (f : Handle → Outcome) → ((x : Handle) → IsModest s false (f x))
     → IsModest s false (change.on_lent s (asked test (is_lent h s.calls) (handle_at s h)) f)
 lent-alone {s} test h f m = lent test (is_lent h s.calls) (handle_at s h) f m
 
 -- freeing the block of a handle takes no entry out of a table, and adds none
-freed : {s : State} (h : ℕ) (x : Handle) (o : Option Handle) (w : Word) → IsModest s false (change.done (change.replaced (short.freed_with s x w) h o))
+freed : {s : State} (h : ℕ) (x : Handle) (o : Option Handle) (w : Word)
+    → IsModest s false (change.done (change.replaced (short.freed_with s x w) h o))
 freed {s} h x o Empty = small refl (length-set _ _ _) (omega arith) refl (logs-same s)
 freed {s} h x o (Descriptor w) = small refl (length-set _ _ _) (omega arith) refl (logs-block s (recovered s.tables x w))
 freed {s} h x o (Counted r) = small refl (length-set _ _ _) (rw length-set (omega arith)) refl (logs-both s r)
@@ -146,7 +164,8 @@ drop-by h p x (Descriptor w) = freed p x None (Descriptor w)
 
 race-modest : {s : State} (p : ℕ) (k : Share) (w r : ℕ) (x : Handle) (word : Word) → IsModest s false (long.race_by s p k w r x word)
 race-modest {s} p k w r x (Counted winner) = small refl refl (rw length-set (omega arith)) refl (logs-record s r)
-race-modest p k w r x (Descriptor now) = either (nat_eq now w) (made _ _ refl refl (length-set _ _ _) (omega arith) (omega arith)) (calls _ refl)
+race-modest p k w r x (Descriptor now) = either (nat_eq now w) (made _ _ refl refl (length-set _ _ _) (omega arith) (omega arith))
+    (calls _ refl)
 race-modest p k w r x Empty = calls _ refl
 
 -- ---- a step
@@ -156,7 +175,8 @@ goes-modest {s} p (Loaded k w) memory = either memory (small refl refl (rw lengt
 goes-modest {s} p (Ready k w r) memory = race-modest p k w r (long.borrowed s k) (long.borrowed s k).word
 goes-modest {s} p (Add k r) memory = either (nat_lt s.ceiling (record_at s.tables r).count) (calls _ refl)
     (made _ _ refl refl refl (rw length-set (omega arith)) (omega arith))
-goes-modest {s} p (Subtract r) memory = either (nat_eq (record_at s.tables r).count 1) (small refl refl (rw length-set (omega arith)) refl (logs-same s))
+goes-modest {s} p (Subtract r) memory = either (nat_eq (record_at s.tables r).count 1)
+    (small refl refl (rw length-set (omega arith)) refl (logs-same s))
     (small refl refl (rw length-set (omega arith)) refl (logs-same s))
 goes-modest {s} p (Release r) memory = small refl refl (rw length-set (omega arith)) refl (logs-both s r)
 
@@ -167,18 +187,23 @@ begun-modest {s} p (New base size align) memory = granted _ memory (either (shor
 begun-modest p (External base size) memory =
     granted _ memory (made _ _ refl refl refl (rw length-append (omega arith)) (rw length-append (omega arith)))
 begun-modest {s} p (Static len) memory = made s _ refl refl refl (omega arith) (omega arith)
-begun-modest p (Put h n) memory = lent-alone (λ x. same_kind x.kind Mut) h _ (λ x. either (nat_lt (x.cap - x.len) n) (refuses OutOfRange refl) (edited h _))
+begun-modest p (Put h n) memory = lent-alone (λ x. same_kind x.kind Mut) h _
+    (λ x. either (nat_lt (x.cap - x.len) n) (refuses OutOfRange refl) (edited h _))
 begun-modest p (Advance h n) memory = lent-alone (λ x. true) h _ (λ x. either (nat_lt x.len n) (refuses OutOfRange refl) (edited h _))
-begun-modest p (Freeze h) memory = lent-alone (λ x. same_kind x.kind Mut) h _ (λ x. either (nat_eq x.len 0) (freed h x _ x.word) (freeze-by h memory x x.word))
+begun-modest p (Freeze h) memory = lent-alone (λ x. same_kind x.kind Mut) h _
+    (λ x. either (nat_eq x.len 0) (freed h x _ x.word) (freeze-by h memory x x.word))
 begun-modest p (TryIntoMut h) memory = lent-alone (λ x. same_kind x.kind View) h _ (λ x. recover-by h x x.word)
-begun-modest {s} p (SplitTo h at) memory = lent-alone (λ x. same_kind x.kind View) h _ (λ x. either (nat_lt x.len at) (refuses OutOfRange refl)
+begun-modest {s} p (SplitTo h at) memory = lent-alone (λ x. same_kind x.kind View) h _
+    (λ x. either (nat_lt x.len at) (refuses OutOfRange refl)
     (either (nat_eq at 0) (made s _ refl refl refl (omega arith) (omega arith))
-    (either (nat_eq at x.len) (made (change.edited s h (change.detached_handle 0)) _ refl refl (length-set _ _ _) (omega arith) (omega arith))
+    (either (nat_eq at x.len) (made (change.edited s h (change.detached_handle 0)) _ refl refl (length-set _ _ _) (omega arith)
+    (omega arith))
     (split-by h at memory x x.word))))
 begun-modest {s} p (IsUnique h) memory = lent-alone (λ x. not (lending.is_empty x.word)) h _ (λ x. calls s.calls refl)
 begun-modest p (Demote h) memory = lent-alone (λ x. same_kind x.kind View && not (lending.is_empty x.word)) h _ (λ x. demote-by h x x.word)
 begun-modest {s} p (Clone h) memory = lent (λ x. same_kind x.kind View) false (handle_at s h) _ (λ x. share-by p _ x x.word)
-begun-modest {s} p (Slice h lo hi) memory = lent (λ x. same_kind x.kind View) false (handle_at s h) _ (λ x. either _ (refuses OutOfRange refl)
+begun-modest {s} p (Slice h lo hi) memory = lent (λ x. same_kind x.kind View) false (handle_at s h) _
+    (λ x. either _ (refuses OutOfRange refl)
     (either (nat_eq lo hi) (made s _ refl refl refl (omega arith) (omega arith)) (share-by p _ x x.word)))
 begun-modest p (Drop h) memory = lent-alone (λ x. true) h _ (λ x. drop-by p h x x.word)
 

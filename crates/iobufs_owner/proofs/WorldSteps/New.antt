@@ -7,7 +7,8 @@ use Rattle.iobufs_owner.proofs.WorldSteps.GoodPlaces.{good-is}
 
 -- one block more isn't freed
 block-in : {s : State} {g : Tables} (b : Block) → IsSound s → IsGoodPlace s.tables.blocks b.base b.size b.align → Keeps s.tables g
-    → All (KeepsLetGo s.tables g) s.calls → g.blocks ≡ s.tables.blocks ++ b ∷ [] → reading (record s { tables = g }) ≡ block_more (reading s) b
+    → All (KeepsLetGo s.tables g) s.calls → g.blocks ≡ s.tables.blocks ++ b ∷ []
+    → reading (record s { tables = g }) ≡ block_more (reading s) b
 block-in {s} {g} b k good e a n = rw (
   handles-kept s.tables g s.calls s.handles e k.fit,
   calls-read-kept s g s.calls e a k.calls_fit,
@@ -23,14 +24,16 @@ pub recorded-made : {s t : State} {reply : Reply} (b : Block) (x : Handle) → I
     ⊎ Makes (block_more (reading s) b) (record (read_held s.tables x) { block = Some (length s.tables.blocks) }) reply (reading t)
 recorded-made {s} b x k good w i =
     let n : ℕ = length s.tables.blocks in
-    let o = owner-counted (both s.tables b) x (length s.tables.records) w ∙ ap (λ (v : Record). Some v.block) (recorded-new (grown s.tables b) 1 n) in
+    let o = owner-counted (both s.tables b) x (length s.tables.records) w
+    ∙ ap (λ (v : Record). Some v.block) (recorded-new (grown s.tables b) 1 n) in
     made-taken (with_record (with_block s b) 1 n) x
     (block-in b k good (both-keeps s.tables b) (λ i d l q j t. recorded-let_go (grown s.tables b) 1 n q t) refl) (rw o refl) i
 
 -- a new native block is placed where users see it
 pub new-placed : {s t : State} {reply : Reply} (base size align : ℕ) → IsSound s → IsGoodPlace s.tables.blocks base size align
     → (v : Bool) → short.fits_in s.tables size (log_of align) 0 ≡ v
-    → IsAnswered s (cond v (described_of s (made_block base size align false) (word_of s.tables.align_bits s.tables.tail_bits size (log_of align) 0))
+    → IsAnswered s (cond v (described_of s (made_block base size align false)
+    (word_of s.tables.align_bits s.tables.tail_bits size (log_of align) 0))
     (recorded_of s (made_block base size align false) (first_handle (made_block base size align false) (Counted (next_record s))))) reply t
     → NoRoom (reading s) reply (reading t) ⊎ Makes (block_more (reading s) (native_block base size align))
     (record { kind = Mut; block = Some (length s.tables.blocks); place = base; len = 0 }) reply (reading t)
@@ -43,10 +46,14 @@ new-placed {s} base size align k good true f i =
 new-placed base size align k good false f i = recorded-made (made_block base size align false) _ k good refl i
 
 -- a block that a word describes is placed so
-pub described-placed : (s : State) (base size align w : ℕ) → HasRoom s.tables.align_bits s.tables.tail_bits s.tables.size_bits size (log_of align) 0
+pub described-placed : (s : State) (base size align w : ℕ)
+    → HasRoom s.tables.align_bits s.tables.tail_bits s.tables.size_bits size (log_of align) 0
     → w ≡ word_of s.tables.align_bits s.tables.tail_bits size (log_of align) 0
     → described_of s (made_block base size align false) w ≡ short.placed s base size align
-described-placed s base size align w room is = rw (is, fits-true s.tables.align_bits s.tables.tail_bits s.tables.size_bits size (log_of align) 0 room) refl
+described-placed s base size align w room is = rw (
+  is,
+  fits-true s.tables.align_bits s.tables.tail_bits s.tables.size_bits size (log_of align) 0 room,
+) refl
 
 -- a new block where one may be, if memory is granted; what is made is o, and P says so in the world
 pub granted : {s t : State} {P : Type 0} {o : Outcome} {reply : Reply} (base size align : ℕ) (memory v : Bool)

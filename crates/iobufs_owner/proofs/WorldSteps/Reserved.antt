@@ -9,7 +9,8 @@ record HasBoth (m : Seen) (made steps : ℕ) : Type 0 where
   few : RoomFor limit m.state made steps steps
 
 -- no table is full where there is room
-wants-none : (m : Seen) (t : State) (block : Bool) → length t.handles ≤ length m.state.handles + 1 → length t.tables.records ≤ length m.state.tables.records + 1
+wants-none : (m : Seen) (t : State) (block : Bool) → length t.handles ≤ length m.state.handles + 1
+    → length t.tables.records ≤ length m.state.tables.records + 1
     → length t.tables.blocks ≤ length m.state.tables.blocks + cond block 1 0 → HasBoth m (cond block 1 0) 1 → WantsRoom m t → ⊥
 wants-none m t block h v b r (inl (grows, full)) = not-full r.memory.handles r.few.handles (omega arith) full
 wants-none m t block h v b r (inr (inl (grows, full))) =
@@ -18,7 +19,8 @@ wants-none m t block h v b r (inr (inl (grows, full))) =
 wants-none m t block h v b r (inr (inr (grows, full))) = not-full r.memory.records r.few.records (omega arith) full
 
 -- a step of a machine with room for its block and for one step isn't refused for want of room
-pub finds : (m : Seen) (step : Step) (reply : Reply) (next : Seen) → Moves m step reply next → RoomFor m.room m.state (new_blocks step.act) 1 1
+pub finds : (m : Seen) (step : Step) (reply : Reply) (next : Seen) → Moves m step reply next
+    → RoomFor m.room m.state (new_blocks step.act) 1 1
     → RoomFor limit m.state (new_blocks step.act) 1 1 → reply ≢ Refused Room
 finds m step reply next taken memory few =
     let n = modest m.state step in
@@ -49,7 +51,8 @@ room-on r room s t a b k n (m, h, v) more few few' i = record {
 }
 
 both-on : (m t : Seen) (a b k n : ℕ) → KeepsRoom m.room t.room
-    → (0 < b → (0 < a) × (length t.state.tables.blocks + b ≤ length m.state.tables.blocks + a)) → length t.state.handles + n ≤ length m.state.handles + k
+    → (0 < b → (0 < a) × (length t.state.tables.blocks + b ≤ length m.state.tables.blocks + a))
+    → length t.state.handles + n ≤ length m.state.handles + k
     → length t.state.tables.records + n ≤ length m.state.tables.records + k → HasBoth m a k → HasBoth t b n
 both-on m t a b k n keep more few few' i = record {
   memory = room-on m.room t.room m.state t.state a b k n keep more few few' i.memory;
@@ -64,7 +67,8 @@ moves-left m step reply next b n taken room i =
     let e = blocks-made step.act in
     elim taken [
       | inl c ↦ both-on m next _ b _ n (rw room (omega arith, omega arith, omega arith))
-          (λ p. (omega (arith, p), rw c.2 (omega (arith, e, a.blocks)))) (rw c.2 (omega (arith, a.handles))) (rw c.2 (omega (arith, a.records))) i
+          (λ p. (omega (arith, p), rw c.2 (omega (arith, e, a.blocks)))) (rw c.2 (omega (arith, a.handles)))
+          (rw c.2 (omega (arith, a.records))) i
       | inr c ↦ both-on m next _ b _ n (rw room (omega arith, omega arith, omega arith))
           (λ p. (omega (arith, p), rw c.2 (omega arith))) (rw c.2 (omega arith)) (rw c.2 (omega arith)) i
     ]
@@ -76,15 +80,20 @@ find-each m (step ∷ steps) (reply ∷ replies) next (grown, mid, same, more, o
     let a = new_blocks step.act in
     let b = blocks_of steps in
     let g : HasBoth grown (a + b) (length steps + 1) =
-    both-on m grown (a + b) (a + b) (length (step ∷ steps)) _ more (λ p. (p, rw same (omega arith))) (rw same (omega arith)) (rw same (omega arith)) i in
+    both-on m grown (a + b) (a + b) (length (step ∷ steps)) _ more (λ p. (p, rw same (omega arith))) (rw same (omega arith))
+    (rw same (omega arith)) i in
     let f : HasBoth grown a 1 =
-    both-on grown grown (a + b) a _ 1 (omega arith, omega arith, omega arith) (λ p. (omega (arith, p), omega arith)) (omega arith) (omega arith) g in
-    (finds grown step reply mid one.moves f.memory f.few, find-each mid steps replies next others (moves-left grown step reply mid b _ one.moves one.room g))
+    both-on grown grown (a + b) a _ 1 (omega arith, omega arith, omega arith) (λ p. (omega (arith, p), omega arith)) (omega arith)
+    (omega arith) g in (
+      finds grown step reply mid one.moves f.memory f.few,
+      find-each mid steps replies next others (moves-left grown step reply mid b _ one.moves one.room g),
+    )
 find-each m steps replies next r i = tt
 
 -- no step of a run in which tables may grow is refused for want of room, where the machine has room for its blocks and steps
 pub find : (m : Seen) (steps : List Step) (replies : List Reply) (next : Seen) → GrowingRuns m steps replies next
-    → RoomFor m.room m.state (blocks_of steps) (length steps) (length steps) → RoomFor limit m.state (blocks_of steps) (length steps) (length steps)
+    → RoomFor m.room m.state (blocks_of steps) (length steps) (length steps)
+    → RoomFor limit m.state (blocks_of steps) (length steps) (length steps)
     → All (λ reply. reply ≢ Refused Room) replies
 find m steps replies next r memory few =
     All-from_recursion (λ reply. reply ≢ Refused Room) replies (find-each m steps replies next r (record { memory = memory; few = few }))

@@ -10,13 +10,17 @@ inside p (x ∷ xs) zero n t = omega arith
 inside p (x ∷ xs) (suc i) n t = let l = inside p xs i n t in omega (arith, l)
 
 -- where one counts and another place passes, the other doesn't
-others-fail : {X : Type 0} (p : Option X → Bool) (xs : List (Option X)) (h k : ℕ) → p None ≡ false → p (get_or xs h None) ≡ true → tally p xs ≤ 1
+others-fail : {X : Type 0} (p : Option X → Bool) (xs : List (Option X)) (h k : ℕ) → p None ≡ false → p (get_or xs h None) ≡ true
+    → tally p xs ≤ 1
     → k ≢ h → p (get_or xs k None) ≡ false
 others-fail p xs h k n t few d =
-    false_from_ne_true (p (get_or xs k None)) (λ u. omega (arith, few, count-two p xs k h None d (inside p xs k n u) (inside p xs h n t) u t))
+    false_from_ne_true (p (get_or xs k None)) (λ u. omega
+    (arith, few, count-two p xs k h None d (inside p xs k n u) (inside p xs h n t) u t))
 
-none-pass : {X : Type 0} (p : Option X → Bool) (xs : List (Option X)) (k : ℕ) → p None ≡ false → tally p xs ≡ 0 → p (get_or xs k None) ≡ false
-none-pass p xs k n z = false_from_ne_true (p (get_or xs k None)) (λ u. (let one = count-some p xs k None (inside p xs k n u) u in omega (arith, one, z)))
+none-pass : {X : Type 0} (p : Option X → Bool) (xs : List (Option X)) (k : ℕ) → p None ≡ false → tally p xs ≡ 0
+    → p (get_or xs k None) ≡ false
+none-pass p xs k n z = false_from_ne_true (p (get_or xs k None))
+    (λ u. (let one = count-some p xs k None (inside p xs k n u) u in omega (arith, one, z)))
 
 none-counted : {X : Type 0} (p : Option X → Bool) (xs : List (Option X)) → ((k : ℕ) → p (get_or xs k None) ≡ false) → tally p xs ≡ 0
 none-counted p xs f = count-none p None xs (λ i l t. let z = sym (f i) ∙ t in cc)
@@ -45,7 +49,8 @@ unique-begun w next p h b memory v x reply (y, at', (c, own, e, g)) at f q =
     rw n (cc)
 
 unique-acts : (w next : World) (p h b : ℕ) (memory v : Bool) (x : LiveHandle) (o : Option Unfinished) (reply : Reply)
-    → ActsAt w p (Begin (IsUnique h) memory) o reply next → held_at w h ≡ Some x → x.block ≡ Some b → reply ≡ Unique v → v ≡ nat_eq (holders w b) 1
+    → ActsAt w p (Begin (IsUnique h) memory) o reply next → held_at w h ≡ Some x → x.block ≡ Some b → reply ≡ Unique v
+    → v ≡ nat_eq (holders w b) 1
 unique-acts w next p h b memory v x None reply m at block q = unique-begun w next p h b memory v x reply m at block q
 unique-acts w next p h b memory v x (Some c) reply m at block q = absurd m
 
@@ -71,5 +76,9 @@ tells-unique w next step reply m = λ h b memory v x act q at block.
             handles = λ k d. others-fail (holds b) w.handles h k refl t (omega (arith, one, some)) d;
             drops = λ p. none-pass (still_holds b) w.calls p refl (omega (arith, one, some));
           },
-      λ s. e ∙ eq-eqb (holders w b) 1 (omega (arith, one-counted (holds b) w.handles h refl t s.handles, none-counted (still_holds b) w.calls s.drops)),
+      λ s. e ∙ eq-eqb (holders w b) 1 (omega (
+        arith,
+        one-counted (holds b) w.handles h refl t s.handles,
+        none-counted (still_holds b) w.calls s.drops,
+      )),
     )

@@ -28,21 +28,25 @@ split-made : {s t : State} {reply : Reply} (u : State) (h at : ℕ) (x : Handle)
     → IsAnswered s (short.split_with u h at x w) reply t → NoRoom (reading s) reply (reading t)
     ⊎ Makes (held_set (reading s) h (part_of (read_held s.tables x) at x.len)) (part_of (read_held s.tables x) 0 at) reply (reading t)
 split-made {s} u h at x w r ob of i = made-taken (edited u h (part x at x.len w)) (part x 0 at w)
-    (replaced-in u h (Some (part x at x.len w)) r (ap Some (reads-part s.tables u.tables x at x.len w ob))) (reads-part s.tables u.tables x 0 at w of) i
+    (replaced-in u h (Some (part x at x.len w)) r (ap Some (reads-part s.tables u.tables x at x.len w ob)))
+    (reads-part s.tables u.tables x 0 at w of) i
 
-split-described : {s t : State} {reply : Reply} (h at v : ℕ) (x : Handle) (memory : Bool) → IsSound s → Lends s h View x → x.word ≡ Descriptor v
+split-described : {s t : State} {reply : Reply} (h at v : ℕ) (x : Handle) (memory : Bool) → IsSound s → Lends s h View x
+    → x.word ≡ Descriptor v
     → IsAnswered s (short.split_by s h at memory x (Descriptor v)) reply t → Splits s h at x memory (owner_of s.tables x) reply (reading t)
 split-described {s} h at v x true k l w i =
     let o = (described-at s h x v k l.at w).says.owner in
     let w' : Word = Counted (length s.tables.records) in
-    inr (split-made (promoted s x 2) h at x w' (recorded-in s 2 (owned_by s.tables x) k) (promoted-owner s.tables 2 _ x (part x at x.len w') o refl)
+    inr (split-made (promoted s x 2) h at x w' (recorded-in s 2 (owned_by s.tables x) k)
+    (promoted-owner s.tables 2 _ x (part x at x.len w') o refl)
     (promoted-owner s.tables 2 _ x (part x 0 at w') o refl) i)
 split-described {s} h at v x false k l w i =
     inl (record { some = rw (described-at s h x v k l.at w).says.owner refl; denied = refl; refuses = same-taken i })
 
 split-counted : {s t : State} {reply : Reply} (h at r : ℕ) (x : Handle) (memory : Bool) (u : Bool) → IsSound s → Lends s h View x
     → x.word ≡ Counted r → nat_lt s.ceiling (record_at s.tables r).count ≡ u
-    → IsAnswered s (cond u (refused s Ceiling) (short.split_with (with_count s r ((record_at s.tables r).count + 1)) h at x (Counted r))) reply t
+    → IsAnswered s (cond u (refused s Ceiling) (short.split_with (with_count s r ((record_at s.tables r).count + 1)) h at x
+    (Counted r))) reply t
     → SplitsOr s h at x memory (Some (record_at s.tables r).block) reply (reading t)
 split-counted {s} h at r x memory true k l w e i =
     let c = counted-at s h x r k l.at w in
@@ -67,7 +71,8 @@ split-word {s} {t} {reply} h at x memory Empty k l w i =
     subst (λ (o : Option ℕ). SplitsOr s h at x memory o reply (reading t)) (sym n) (room-or-made _ _ _ m)
 split-word {s} {t} {reply} h at x memory (Descriptor v) k l w i =
     let d = described-at s h x v k l.at w in
-    let one = alone-at s h x d.block k l.at (alone-described s.tables d.block x v w ∙ ap (is_block d.block) d.says.owner ∙ eq-eqb d.block d.block refl) in
+    let one = alone-at s h x d.block k l.at (alone-described s.tables d.block x v w ∙ ap (is_block d.block) d.says.owner
+    ∙ eq-eqb d.block d.block refl) in
     let c = k.size.ceiling in
     subst (λ (o : Option ℕ). SplitsOr s h at x memory o reply (reading t)) (sym d.says.owner)
     (rw (le-ltb s.ceiling (holders (reading s) d.block) (omega (arith, one, c)))
@@ -82,7 +87,8 @@ pub split-by : {s t : State} {reply : Reply} (h at : ℕ) (x : Handle) (memory u
     (cond z (made (edited s h (change.detached_handle 0)) x) (short.split_by s h at memory x x.word)))) reply t
     → MatchOption (cond u (Some OutOfRange) (cond v None (cond z None (cause_if (is_over (reading s) (owner_of s.tables x)) Ceiling))))
     (MatchBool v (NoRoom (reading s) reply (reading t) ⊎ Makes (reading s) (world.detached 0) reply (reading t))
-    (MatchBool z (NoRoom (reading s) reply (reading t) ⊎ Makes (held_set (reading s) h (world.detached 0)) (read_held s.tables x) reply (reading t))
+    (MatchBool z (NoRoom (reading s) reply (reading t)
+    ⊎ Makes (held_set (reading s) h (world.detached 0)) (read_held s.tables x) reply (reading t))
     (Splits s h at x memory (owner_of s.tables x) reply (reading t)))) (λ why. Refuses (reading s) why reply (reading t))
 split-by h at x memory true v z k l i = same-taken i
 split-by {s} h at x memory false true z k l i = made-taken s (change.detached_handle 0) refl (reads-detached s.tables 0) i

@@ -12,7 +12,8 @@ pub replaced-in : {w : World} {z : Option LiveHandle} (s : State) (h : ℕ) (o :
 replaced-in s h o r e = rw (← r, ← e, map-set (read_handle s.tables) s.handles h o) refl
 
 -- another call of a thread is, read, that in the world
-pub called-in : {w : World} (s : State) (p : ℕ) (c : Option Pending) → reading s ≡ w → reading (called s p c) ≡ call_set w p (read_call s.tables c)
+pub called-in : {w : World} (s : State) (p : ℕ) (c : Option Pending) → reading s ≡ w
+    → reading (called s p c) ≡ call_set w p (read_call s.tables c)
 called-in s p c r = rw (← r, map-set (read_call s.tables) s.calls p c) refl
 
 kept-in : {s : State} {g : Tables} → IsSound s → Keeps s.tables g → All (KeepsLetGo s.tables g) s.calls → g.blocks ≡ s.tables.blocks
@@ -24,7 +25,8 @@ pub recorded-in : (s : State) (n b : ℕ) → IsSound s → reading (with_record
 recorded-in s n b k = kept-in k (recorded-keeps s.tables n b) (λ i d l q j t. recorded-let_go s.tables n b q t) refl
 
 -- users don't see another count of a record, where each drop has let go as before
-pub counted-in : (s : State) (r n : ℕ) → IsSound s → All (KeepsLetGo s.tables (counted s.tables r n)) s.calls → reading (with_count s r n) ≡ reading s
+pub counted-in : (s : State) (r n : ℕ) → IsSound s → All (KeepsLetGo s.tables (counted s.tables r n)) s.calls
+    → reading (with_count s r n) ≡ reading s
 counted-in s r n k a = kept-in k (counted-keeps s.tables r n) a refl
 
 -- users don't see that a record is dead
@@ -59,13 +61,15 @@ pub goes-within : {w next : World} {p most : ℕ} {call : ℕ → Unfinished} {r
 goes-within left some few goes = record { left = left; some = some; few = few; goes = goes }
 
 -- a change that may add one
-pub grown-taken : {s u t : State} {w : World} {answer reply : Reply} → reading u ≡ w → IsAnswered s (record { reply = answer; state = u }) reply t
+pub grown-taken : {s u t : State} {w : World} {answer reply : Reply} → reading u ≡ w
+    → IsAnswered s (record { reply = answer; state = u }) reply t
     → NoRoom (reading s) reply (reading t) ⊎ ((reply ≡ answer) × (reading t ≡ w))
 grown-taken r (inl (e, f)) = inr (e, ap reading f ∙ r)
 grown-taken r (inr l) = inl (l.refused, ap reading l.same)
 
 -- one handle more than u has
-pub made-taken : {s t : State} {w : World} {y : LiveHandle} {reply : Reply} (u : State) (x : Handle) → reading u ≡ w → read_held u.tables x ≡ y
+pub made-taken : {s t : State} {w : World} {y : LiveHandle} {reply : Reply} (u : State) (x : Handle) → reading u ≡ w
+    → read_held u.tables x ≡ y
     → IsAnswered s (made u x) reply t → NoRoom (reading s) reply (reading t) ⊎ Makes w y reply (reading t)
 made-taken u x r e (inl (i, f)) =
     let n = map-append (read_handle u.tables) u.handles (Some x ∷ []) in
@@ -92,8 +96,10 @@ either-taken true f g i = f refl i
 either-taken false f g i = g refl i
 
 -- where a cause stands against a step by a test, the step is refused by it or has the outcome that it has else
-pub by-cause : {P : Type 0} {s t : State} {b : Outcome} {reply : Reply} (why : Refusal) (v : Bool) → (v ≡ false → IsAnswered s b reply t → P)
-    → IsAnswered s (cond v (change.refused s why) b) reply t → MatchOption (cause_if v why) P (λ why. Refuses (reading s) why reply (reading t))
+pub by-cause : {P : Type 0} {s t : State} {b : Outcome} {reply : Reply} (why : Refusal) (v : Bool)
+    → (v ≡ false → IsAnswered s b reply t → P)
+    → IsAnswered s (cond v (change.refused s why) b) reply t
+    → MatchOption (cause_if v why) P (λ why. Refuses (reading s) why reply (reading t))
 by-cause why true g i = same-taken i
 by-cause why false g i = g refl i
 
@@ -111,7 +117,8 @@ seen s t h x P reply None at m = (read_held s.tables x, held-reads s h ∙ ap (r
 seen s t h x P reply (Some why) at m = m
 
 -- users see a call that is refused by its cause, or else what it does with the handle that they see under the number
-pub had : (s t : State) (h : ℕ) (r : Result Handle Refusal) (f : Handle → Outcome) (q : Result LiveHandle Refusal) (against : LiveHandle → Option Refusal)
+pub had : (s t : State) (h : ℕ) (r : Result Handle Refusal) (f : Handle → Outcome) (q : Result LiveHandle Refusal)
+    (against : LiveHandle → Option Refusal)
     (P : LiveHandle → Type 0) (reply : Reply) → q ≡ read_lent s.tables r → IsAnswered s (change.on_lent s r f) reply t
     → ((x : Handle) → r ≡ Ok x → IsAnswered s (f x) reply t → (handle_at s h ≡ Some x)
     × MatchOption (against (read_held s.tables x)) (P (read_held s.tables x)) (λ why. Refuses (reading s) why reply (reading t)))
@@ -122,7 +129,8 @@ had s t h (Ok x) f q against P reply e i g =
     rw e (seen s t h x P reply (against (read_held s.tables x)) m.0 m.1)
 
 -- users see such a call of a handle that it has to have alone, of one kind
-pub had-alone : {s t : State} {f : Handle → Outcome} {reply : Reply} (against : LiveHandle → Option Refusal) (P : LiveHandle → Type 0) (h : ℕ) (kind : Kind)
+pub had-alone : {s t : State} {f : Handle → Outcome} {reply : Reply} (against : LiveHandle → Option Refusal) (P : LiveHandle → Type 0)
+    (h : ℕ) (kind : Kind)
     → IsAnswered s (change.on_lent s (lend_of s h kind) f) reply t
     → ((x : Handle) → Lends s h kind x → IsAnswered s (f x) reply t
     → MatchOption (against (read_held s.tables x)) (P (read_held s.tables x)) (λ why. Refuses (reading s) why reply (reading t)))

@@ -25,8 +25,10 @@ recover-word {s} h x Empty k l w i =
 recover-word {s} {t} {reply} h x (Descriptor v) k l w i =
     let d = described-at s h x v k l.at w in
     let y : Handle = thawed x (x.len + tail_in s.tables v) (Descriptor (retailed s.tables v 0)) in
-    let o = owner-redescribed s.tables x y v (retailed s.tables v 0) w refl (base-thawed s.tables x v d.block d.log d.tail l.kind_is d.says) in
-    let one = alone-at s h x d.block k l.at (alone-described s.tables d.block x v w ∙ ap (is_block d.block) d.says.owner ∙ eq-eqb d.block d.block refl) in
+    let o = owner-redescribed s.tables x y v (retailed s.tables v 0) w refl
+    (base-thawed s.tables x v d.block d.log d.tail l.kind_is d.says) in
+    let one = alone-at s h x d.block k l.at (alone-described s.tables d.block x v w ∙ ap (is_block d.block) d.says.owner
+    ∙ eq-eqb d.block d.block refl) in
     let q = edit-taken {z = record (read_held s.tables x) { kind = Mut }} h y (rw o refl) i in
     subst (λ (o : Option ℕ). Recovers s h x o reply (reading t)) (sym d.says.owner) (inl ((d.says.native, one), q.0, q.1))
 recover-word {s} {t} {reply} h x (Counted r) k l w i =
@@ -43,7 +45,8 @@ recover-word {s} {t} {reply} h x (Counted r) k l w i =
 
 -- ---- IsUnique
 
-is-unique-counted : (s : State) (h r : ℕ) (x : Handle) (kind : Kind) → IsSound s → handle_at s h ≡ Some x → x.word ≡ Counted r → x.kind ≡ kind
+is-unique-counted : (s : State) (h r : ℕ) (x : Handle) (kind : Kind) → IsSound s → handle_at s h ≡ Some x → x.word ≡ Counted r
+    → x.kind ≡ kind
     → is_unique s.tables (record x { kind = kind }) (Counted r) ≡ nat_eq (holders (reading s) (record_at s.tables r).block) 1
 is-unique-counted s h r x View k at w e =
     let c = counted-at s h x r k at w in
@@ -55,17 +58,20 @@ is-unique-counted s h r x Mut k at w e =
     sym (eq-eqb (holders (reading s) (record_at s.tables r).block) 1 one)
 
 -- a handle that has a block is unique exactly where that has one holder
-pub unique-word : (s : State) (h : ℕ) (x : Handle) (w : Word) → IsSound s → handle_at s h ≡ Some x → x.word ≡ w → not (is_empty w) ≡ true → (b : ℕ)
+pub unique-word : (s : State) (h : ℕ) (x : Handle) (w : Word) → IsSound s → handle_at s h ≡ Some x → x.word ≡ w → not (is_empty w) ≡ true
+    → (b : ℕ)
     × (owner_of s.tables x ≡ Some b) × (is_unique s.tables x w ≡ nat_eq (holders (reading s) b) 1)
 unique-word s h x Empty k at w some = absurd (cc)
 unique-word s h x (Descriptor v) k at w some =
     let d = described-at s h x v k at w in
-    let one = alone-at s h x d.block k at (alone-described s.tables d.block x v w ∙ ap (is_block d.block) d.says.owner ∙ eq-eqb d.block d.block refl) in
+    let one = alone-at s h x d.block k at (alone-described s.tables d.block x v w ∙ ap (is_block d.block) d.says.owner
+    ∙ eq-eqb d.block d.block refl) in
     (d.block, d.says.owner, sym (eq-eqb (holders (reading s) d.block) 1 one))
 unique-word s h x (Counted r) k at w some =
     ((record_at s.tables r).block, owner-counted s.tables x r w, is-unique-counted s h r x x.kind k at w refl)
 
 -- the question for uniqueness leaves the state
 pub unique-state : (s : State) (h : ℕ) → s ≡ (short.unique_of s h).state
-unique-state s h = elim (lending.lend_owning_of s h) as (λ r. s ≡ (on_lent s r (λ x. record { reply = Unique (is_unique s.tables x x.word); state = s })).state)
+unique-state s h = elim (lending.lend_owning_of s h) as
+    (λ r. s ≡ (on_lent s r (λ x. record { reply = Unique (is_unique s.tables x x.word); state = s })).state)
     [ Err why ↦ refl | Ok x ↦ refl ]

@@ -48,7 +48,8 @@ choose : (P Q R : Type 0) (v : Bool) → MatchBool v P Q → (P → R) → (Q �
 choose P Q R true m f g = f m
 choose P Q R false m f g = g m
 
-kept : {w next : World} {p : ℕ} {o : Option Unfinished} {why : Refusal} {reply : Reply} → world.Refuses w why reply next → Changes w p o reply next
+kept : {w next : World} {p : ℕ} {o : Option Unfinished} {why : Refusal} {reply : Reply} → world.Refuses w why reply next
+    → Changes w p o reply next
 kept (e, f) = inl (ap (λ (w : World). w.calls) f, λ z. (let q = sym e ∙ z in absurd (cc)))
 
 -- denied memory, or a full table
@@ -58,7 +59,8 @@ beside {memory} {why} r b =
     record { calls = kept r; beside = λ y f. (let q : why ≡ y = (let z = sym r.0 ∙ f in cc) in subst (IsBeside memory) q b) }
 
 -- the calls stay
-stays : {w u next : World} {p : ℕ} {o : Option Unfinished} {memory : Bool} {answer reply : Reply} → (reply ≡ answer) × (next ≡ u) → u.calls ≡ w.calls
+stays : {w u next : World} {p : ℕ} {o : Option Unfinished} {memory : Bool} {answer reply : Reply} → (reply ≡ answer) × (next ≡ u)
+    → u.calls ≡ w.calls
     → is_plain answer ≡ true → IsTold w p o memory reply next
 stays (e, f) c plain = record {
   calls = inl (ap (λ (w : World). w.calls) f ∙ c, λ z. absurd (let q = sym plain ∙ ap is_plain (sym e ∙ z) in cc));
@@ -119,7 +121,8 @@ drop-told : {w next : World} {p : ℕ} {memory : Bool} {reply : Reply} (h : ℕ)
     ⊎ GoesOnWithin (world.held_gone w h) p (Dropping b false) 2 reply next) → IsTold w p None memory reply next
 drop-told h None l r = stays r refl refl
 drop-told h (Some b) l (inl (one, e, f)) = stays (e, f) refl refl
-drop-told {w} h (Some b) l (inr g) = let few = g.few in goes-on (world.held_gone w h) (Dropping b false g.left) l g.goes refl g.some (omega (arith, few))
+drop-told {w} h (Some b) l (inr g) = let few = g.few in goes-on (world.held_gone w h) (Dropping b false g.left) l g.goes refl g.some
+    (omega (arith, few))
 
 begun-told : {w next : World} {p : ℕ} {reply : Reply} (call : Call) (memory : Bool) → p < length w.calls → Begins w p call memory reply next
     → IsTold w p None memory reply next
@@ -201,8 +204,10 @@ told-of : (w next : World) (p : ℕ) (act : Act) (o : Option Unfinished) (cause 
 told-of w next p act o None reply l c m = let t = acts-told act o l m in (t.calls, t.beside)
 told-of w next p act o (Some why) reply l c m = (refused-calls w next p act o why reply l c m, m.0)
 
-told-by : (w next : World) (p : ℕ) (act : Act) (o : Option Unfinished) (v : Bool) (reply : Reply) → going_at w p ≡ o → nat_lt p (length w.calls) ≡ v
-    → MatchOption (cond v (cause_at w act o) (Some Idle)) (ActsAt w p act o reply next) (λ why. (reply ≡ Refused why) × (next ≡ refused_at w p act o))
+told-by : (w next : World) (p : ℕ) (act : Act) (o : Option Unfinished) (v : Bool) (reply : Reply) → going_at w p ≡ o
+    → nat_lt p (length w.calls) ≡ v
+    → MatchOption (cond v (cause_at w act o) (Some Idle)) (ActsAt w p act o reply next)
+    (λ why. (reply ≡ Refused why) × (next ≡ refused_at w p act o))
     → Changes w p o reply next × IsCaused (may_take act) (cond v (cause_at w act o) (Some Idle)) reply
 told-by w next p act o true reply g e m = told-of w next p act o (cause_at w act o) reply (ltb-true p (length w.calls) e) refl m
 told-by w next p act o false reply g e m =
@@ -214,4 +219,5 @@ told-by w next p act o false reply g e m =
 -- memory or a full table.
 pub told : (w next : World) (step : Step) (reply : Reply) → Steps w step reply next
     → Changes w step.thread (going_at w step.thread) reply next × IsCaused (may_take step.act) (cause_of w step) reply
-told w next step reply m = told-by w next step.thread step.act (going_at w step.thread) (nat_lt step.thread (length w.calls)) reply refl refl m
+told w next step reply m = told-by w next step.thread step.act (going_at w step.thread)
+    (nat_lt step.thread (length w.calls)) reply refl refl m

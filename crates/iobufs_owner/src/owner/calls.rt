@@ -1,4 +1,5 @@
-//! The threads' unfinished calls, and for each handle how many of them borrow it. So a step looks at no other thread's call.
+//! The threads' unfinished calls, and for each handle how many of them borrow it. So a step looks at no other thread's
+//! call.
 ghost use Rattle.std.specs.Prelude.{◌≡◌, ℕ, ◌+◌, ◌^◌, ◌<◌, ◌≤◌, length, slice_index, slice_set, replicate, if◌then◌else◌, IfOk, IfSome, IsOk, OnErr, OnOk, None};
 ghost use Rattle.iobufs_owner.specs.Lending as lending;
 ghost use Rattle.iobufs_owner.specs.Lending.{is_lent, lends};
@@ -41,7 +42,8 @@ fn borrowed(call: Option<Pending>) -> Option<usize>
 // The handle has a borrower less.
 fn uncount(borrowers: &mut Vec<usize>, handle: Option<usize>)
     requires { IfSome handle (λ h. 0 < slice_index borrowers.old.items h) }
-    ensures counts { (k : ℕ) → slice_index borrowers.new.items k + (if lends k handle then 1 else 0) ≡ slice_index borrowers.old.items k }
+    ensures counts { (k : ℕ) → slice_index borrowers.new.items k +
+        (if lends k handle then 1 else 0) ≡ slice_index borrowers.old.items k }
     ensures len { length borrowers.new.items ≡ length borrowers.old.items }
 {
     if let Some(h) = handle {
@@ -53,7 +55,8 @@ fn uncount(borrowers: &mut Vec<usize>, handle: Option<usize>)
 fn count(borrowers: &mut Vec<usize>, handle: Option<usize>)
     requires counted { IfSome handle (λ h. h < length borrowers.old.items) }
     requires fits { IfSome handle (λ h. slice_index borrowers.old.items h + 1 < 2 ^ 64) }
-    ensures counts { (k : ℕ) → slice_index borrowers.new.items k ≡ slice_index borrowers.old.items k + (if lends k handle then 1 else 0) }
+    ensures counts { (k : ℕ) → slice_index borrowers.new.items k ≡ slice_index borrowers.old.items k +
+        (if lends k handle then 1 else 0) }
     ensures len { length borrowers.new.items ≡ length borrowers.old.items }
 {
     if let Some(h) = handle {

@@ -49,7 +49,8 @@ impl Machine {
     fn freeze_nothing(&mut self, h: usize, x: Handle) -> Reply
         requires { Lends self.old.state h Mut x }
         ensures reply { result ≡ Done }
-        ensures state { self.new.state ≡ edited (short.freed_with self.old.state x x.word) h (change.detached_handle 0) }
+        ensures state { self.new.state ≡ edited (short.freed_with self.old.state x x.word) h
+            (change.detached_handle 0) }
         ensures room { self.new.room ≡ self.old.room }
     {
         match x.word {
@@ -94,7 +95,8 @@ impl Machine {
         Reply::Done
     }
 
-    /// A writable handle with a descriptor becomes a view: its tail goes into the word where it fits, else a record takes
+    /// A writable handle with a descriptor becomes a view: its tail goes into the word where it fits, else a record
+    /// takes
     /// the word's place.
     fn freeze_described(
         &mut self,

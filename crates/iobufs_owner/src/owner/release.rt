@@ -146,7 +146,8 @@ impl Machine {
         requires lent { Lends self.old.state h x.kind x }
         requires word { x.word ≡ Descriptor word }
         requires rest { IsLoose rest }
-        ensures state { self.new.state ≡ replaced (block_freed self.old.state (recovered self.old.state.tables x word)) h rest }
+        ensures state { self.new.state ≡ replaced
+            (block_freed self.old.state (recovered self.old.state.tables x word)) h rest }
         ensures room { self.new.room ≡ self.old.room }
     {
         let freed = self.recovered(x, word);

@@ -71,11 +71,13 @@ fn grown<T: Copy, B: Copy>(
     ensures items { IfOk result (λ larger. IfSome larger.0 (λ new. new.items ≡ table.now.items)) }
     ensures items_beside { IfOk result (λ larger. IfSome larger.1 (λ new. new.items ≡ beside.now.items)) }
     ensures room { IfOk result (λ larger. IfSome larger.0 (λ new. length table.now.items + more ≤ vec_capacity new)) }
-    ensures room_beside { IfOk result (λ larger. IfSome larger.1 (λ new. length table.now.items + more ≤ vec_capacity new)) }
+    ensures room_beside { IfOk result (λ larger. IfSome larger.1
+        (λ new. length table.now.items + more ≤ vec_capacity new)) }
     ensures more { IfOk result (λ larger. IfSome larger.0 (λ new. vec_capacity table.now < vec_capacity new)) }
     ensures more_beside { IfOk result (λ larger. IfSome larger.1 (λ new. vec_capacity beside.now < vec_capacity new)) }
     ensures enough { IfOk result (λ larger. larger.0 ≡ None → length table.now.items + more ≤ vec_capacity table.now) }
-    ensures enough_beside { IfOk result (λ larger. larger.1 ≡ None → length table.now.items + more ≤ vec_capacity beside.now) }
+    ensures enough_beside { IfOk result (λ larger. larger.1 ≡ None
+        → length table.now.items + more ≤ vec_capacity beside.now) }
     ensures full { OnErr result (
         (vec_capacity table.now < length table.now.items + more) ⊎ (vec_capacity beside.now < length table.now.items + more)) }
 {

@@ -35,7 +35,8 @@ pub(super) fn room_for_record(records: &Vec<Record>, freed: &Vec<usize>) -> Resu
     ensures room { OnOk result (vec_len records.now < vec_capacity records.now) }
     ensures few { OnOk result (length records.now.items < 2 ^ 32) }
     ensures freed_room { OnOk result (length records.now.items + 1 ≤ vec_capacity freed.now) }
-    ensures full { OnErr result (IsFull (min (vec_capacity records.now) (vec_capacity freed.now)) (length records.now.items)) }
+    ensures full { OnErr result (IsFull (min (vec_capacity records.now) (vec_capacity freed.now))
+        (length records.now.items)) }
 {
     room_for_one(records)?;
     if records.len() < freed.capacity() {
@@ -50,7 +51,8 @@ pub(super) fn room_for_block(blocks: &Vec<Block>, freed: &Vec<Freed>) -> Result<
     ensures room { OnOk result (vec_len blocks.now < vec_capacity blocks.now) }
     ensures few { OnOk result (length blocks.now.items < 2 ^ 32) }
     ensures freed_room { OnOk result (length blocks.now.items + 1 ≤ vec_capacity freed.now) }
-    ensures full { OnErr result (IsFull (min (vec_capacity blocks.now) (vec_capacity freed.now)) (length blocks.now.items)) }
+    ensures full { OnErr result (IsFull (min (vec_capacity blocks.now) (vec_capacity freed.now))
+        (length blocks.now.items)) }
 {
     room_for_one(blocks)?;
     if blocks.len() < freed.capacity() {

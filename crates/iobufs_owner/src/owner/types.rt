@@ -82,7 +82,8 @@ pub enum Pending {
     Add(Share, usize),
     /// A drop subtracts its holder from the record of this number.
     Subtract(usize),
-    /// A drop frees the record of this number and its block. A count of 0 says that it has let go; a count of 1 is its own.
+    /// A drop frees the record of this number and its block. A count of 0 says that it has let go; a count of 1 is its
+    /// own.
     Release(usize),
 }
 
@@ -118,7 +119,8 @@ pub enum Call {
     SplitTo(usize, u64),
     /// Tests whether a handle alone holds its block.
     IsUnique(usize),
-    /// Turns the record of a view that alone holds a native block into a descriptor, if the block fits a word; the record
+    /// Turns the record of a view that alone holds a native block into a descriptor, if the block fits a word; the
+    /// record
     /// is freed.
     Demote(usize),
     /// Clones a view, in several steps if it has a block.

@@ -11,7 +11,8 @@ pub returns-clause-sum : goal.returns-clause-sum
 returns-clause-sum c = λ log is.
     let f = c.args.self.now in
     let z = zeros-of c.args.align log c.ranges.align.fits is in
-    let room : HasRoom f.align_bits f.tail_bits f.size_bits c.args.size log c.args.tail = rw z at (c.has_room.ensures.0 c.if-not-has_room.false) in
+    let room : HasRoom f.align_bits f.tail_bits f.size_bits c.args.size log c.args.tail = rw z at
+    (c.has_room.ensures.0 c.if-not-has_room.false) in
     (room, rw (c.from.ensures, z) (pack-is f.align_bits f.tail_bits f.size_bits c.args.size log c.args.tail f.in_a_word room))
 
 pub returns-clause-word : goal.returns-clause-word
@@ -19,7 +20,8 @@ returns-clause-word c =
     let f = c.args.self.now in
     let log = c.requires.0 in
     let z = zeros-of c.args.align log c.ranges.align.fits c.requires.1 in
-    let room : HasRoom f.align_bits f.tail_bits f.size_bits c.args.size log c.args.tail = rw z at (c.has_room.ensures.0 c.if-not-has_room.false) in
+    let room : HasRoom f.align_bits f.tail_bits f.size_bits c.args.size log c.args.tail = rw z at
+    (c.has_room.ensures.0 c.if-not-has_room.false) in
     record {
       size = c.args.size;
       log = log;

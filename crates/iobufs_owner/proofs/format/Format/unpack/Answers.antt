@@ -33,4 +33,5 @@ returns-clause-tail c =
     let w = c.requires in
     let e2 = one_shl f.tail_bits 64 (omega arith) in
     rw (e2, w.is) (unpack-tail f.align_bits f.tail_bits w.size w.log w.tail w.room.log_fits w.room.tail_fits
-    ∙ sym (word-tail f.align_bits f.tail_bits f.size_bits (word_of f.align_bits f.tail_bits w.size w.log w.tail) w.size w.log w.tail w.room refl))
+    ∙ sym (word-tail f.align_bits f.tail_bits f.size_bits
+    (word_of f.align_bits f.tail_bits w.size w.log w.tail) w.size w.log w.tail w.room refl))

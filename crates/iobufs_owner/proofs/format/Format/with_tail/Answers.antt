@@ -11,7 +11,8 @@ pub returns-clause-sum : goal.returns-clause-sum
 returns-clause-sum c = λ size log old room is.
     let u = c.unpack-fields.ensures.inverse size log old room is in
     let p = c.pack.ensures.sum log u.1 in
-    some-iff _ _ _ _ (rw u.0 at p) (λ h. h.tail_fits) (λ t. record { some = room.some; log_fits = room.log_fits; tail_fits = t; size_fits = room.size_fits })
+    some-iff _ _ _ _ (rw u.0 at p) (λ h. h.tail_fits)
+    (λ t. record { some = room.some; log_fits = room.log_fits; tail_fits = t; size_fits = room.size_fits })
 
 pub returns-clause-same : goal.returns-clause-same
 returns-clause-same c =

@@ -17,5 +17,6 @@ invariant_of-self c =
     let q = rw (← c.self.view_is) at c.requires in
     let e = rw (← c.self.view_is) at c.record-record.ensures in
     rw c.set.ensures (still c.self.invariant refl (length-set _ _ _) refl refl c.push_reserved.ensures.capacity refl
-    (rw (e, c.push_reserved.ensures.items, c.part.ensures) (sound-added-call _ c.args.thread c.args.r c.args.range c.args.x c.self.invariant.sound
+    (rw (e, c.push_reserved.ensures.items, c.part.ensures)
+    (sound-added-call _ c.args.thread c.args.r c.args.range c.args.x c.self.invariant.sound
     q.call q.at q.low (omega (arith, c.in_ok-room_for_handle.ensures.few)))))

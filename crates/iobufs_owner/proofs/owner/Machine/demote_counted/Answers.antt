@@ -23,7 +23,8 @@ overflow_sub-tail-2 c =
 
 pub pack-requires : goal.pack-requires
 pack-requires c =
-    rw (c.block-block.ensures, c.record-record.ensures) (demoting (now c.self.invariant c.self.view_is) c.requires.lent c.requires.word).power
+    rw (c.block-block.ensures, c.record-record.ensures)
+    (demoting (now c.self.invariant c.self.view_is) c.requires.lent c.requires.word).power
 
 pub returns-in_default : goal.returns-in_default
 returns-in_default c =
@@ -55,7 +56,8 @@ invariant_of-self c =
     let e1 = rw (← c.self.view_is) at c.record-record.ensures in
     still c.self.invariant refl (length-set _ _ _) refl c.push_reserved.ensures.capacity refl refl
     (rw (c.push_reserved.ensures.items, e1, (packed c).1)
-    (sound-demoted _ c.args.h c.args.r c.args.x c.self.invariant.sound (rw (← c.self.view_is) at c.requires.lent) c.requires.word (packed c).0))
+    (sound-demoted _ c.args.h c.args.r c.args.x c.self.invariant.sound (rw (← c.self.view_is) at c.requires.lent) c.requires.word
+    (packed c).0))
 
 pub returns : goal.returns
 returns c =

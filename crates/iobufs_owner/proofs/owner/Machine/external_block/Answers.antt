@@ -6,7 +6,8 @@ pub returns-then-not-is_good_place : goal.returns-then-not-is_good_place
 returns-then-not-is_good_place c = rw (good-no _ _ _ _ (c.is_good_place.ensures.no c.if-not-is_good_place.true)) (refl, refl, refl)
 
 pub returns-then-not-memory : goal.returns-then-not-memory
-returns-then-not-memory c = rw (good-yes _ _ _ _ (c.is_good_place.ensures.yes c.if-not-is_good_place.false), c.if-not-memory.true) (refl, refl, refl)
+returns-then-not-memory c = rw (good-yes _ _ _ _ (c.is_good_place.ensures.yes c.if-not-is_good_place.false), c.if-not-memory.true)
+    (refl, refl, refl)
 
 pub returns : goal.returns
 returns c =

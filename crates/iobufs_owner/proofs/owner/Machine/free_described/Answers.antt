@@ -3,7 +3,8 @@ use Rattle.iobufs_owner.proofs.Soundness.{described-ends, sound-freed_described}
 use Rattle.iobufs_owner.proofs.owner.Machine.free_described.Goals as goal
 
 pub recovered-freed-requires : goal.recovered-freed-requires
-recovered-freed-requires c = described-at _ c.args.h c.args.x c.args.word (now c.self.invariant c.self.view_is) c.requires.lent.at c.requires.word
+recovered-freed-requires c = described-at _ c.args.h c.args.x c.args.word
+    (now c.self.invariant c.self.view_is) c.requires.lent.at c.requires.word
 
 pub push_reserved-requires : goal.push_reserved-requires
 push_reserved-requires c =

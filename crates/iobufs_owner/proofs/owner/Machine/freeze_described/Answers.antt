@@ -9,4 +9,5 @@ pub invariant_of-self : goal.invariant_of-self
 invariant_of-self c =
     let q = c.in-Some.ensures.same in
     edit c.self.invariant refl (rw (c.frozen.ensures, q.1)
-    (sound-frozen_described _ c.args.h c.args.x c.args.word c.self.invariant.sound (rw (← c.self.view_is) at c.requires.lent) c.requires.word q.0))
+    (sound-frozen_described _ c.args.h c.args.x c.args.word c.self.invariant.sound
+    (rw (← c.self.view_is) at c.requires.lent) c.requires.word q.0))

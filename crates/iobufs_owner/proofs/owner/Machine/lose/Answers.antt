@@ -11,5 +11,6 @@ invariant_of-self c =
     let q = rw (← c.self.view_is) at c.requires in
     let e = rw (← c.self.view_is) at c.record-record.ensures in
     rw c.set.ensures (still c.self.invariant refl (length-set _ _ _) refl c.push_reserved.ensures.capacity refl refl
-    (rw (e, c.push_reserved.ensures.items) (sound-lost _ c.args.thread c.args.r c.args.word c.args.winner c.args.range c.args.x c.self.invariant.sound
+    (rw (e, c.push_reserved.ensures.items)
+    (sound-lost _ c.args.thread c.args.r c.args.word c.args.winner c.args.range c.args.x c.self.invariant.sound
     q.call q.at c.requires.word)))

@@ -6,7 +6,8 @@ pub returns-then-not-is_good_place : goal.returns-then-not-is_good_place
 returns-then-not-is_good_place c = rw (good-no _ _ _ _ (c.is_good_place.ensures.no c.if-not-is_good_place.true)) (refl, refl, refl)
 
 pub returns-then-not-memory : goal.returns-then-not-memory
-returns-then-not-memory c = rw (good-yes _ _ _ _ (c.is_good_place.ensures.yes c.if-not-is_good_place.false), c.if-not-memory.true) (refl, refl, refl)
+returns-then-not-memory c = rw (good-yes _ _ _ _ (c.is_good_place.ensures.yes c.if-not-is_good_place.false), c.if-not-memory.true)
+    (refl, refl, refl)
 
 pub returns-in-Some : goal.returns-in-Some
 returns-in-Some c =
@@ -16,7 +17,8 @@ returns-in-Some c =
     let b = made_block c.args.base c.args.size c.args.align false in
     rw (good-yes _ _ _ _ good, c.if-not-memory.false)
     (subst (λ (o : Outcome). Took c.args.self.now o c.add_described.result c.add_described.new.self)
-    (subst (λ (s : State). described_of s b c.in-Some.word ≡ placed s c.args.base c.args.size c.args.align) (ap (λ (m : Seen). m.state) c.self.view_is) e)
+    (subst (λ (s : State). described_of s b c.in-Some.word ≡ placed s c.args.base c.args.size c.args.align)
+    (ap (λ (m : Seen). m.state) c.self.view_is) e)
     c.add_described.ensures)
 
 pub returns-in-None : goal.returns-in-None

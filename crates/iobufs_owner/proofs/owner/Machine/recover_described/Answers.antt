@@ -17,4 +17,5 @@ pub invariant_of-self : goal.invariant_of-self
 invariant_of-self c =
     let e = same-some c.with_tail.result _ _ _ c.unwrap-whole.ensures c.with_tail.ensures.same in
     edit c.self.invariant refl (rw (e, c.unpack-tail.ensures.tail)
-    (sound-thawed_described _ c.args.h c.args.x c.args.word c.self.invariant.sound (rw (← c.self.view_is) at c.requires.lent) c.requires.word))
+    (sound-thawed_described _ c.args.h c.args.x c.args.word c.self.invariant.sound
+    (rw (← c.self.view_is) at c.requires.lent) c.requires.word))

@@ -35,7 +35,8 @@ returns-clause-run c =
 pub returns-clause-ends : goal.returns-clause-ends
 returns-clause-ends c =
     let r : GrowingRuns c.args.self.now c.args.steps.now c.loop-step.replies.items c.loop-step.self = grind (arith, common_steps) in
-    λ p. ends-in-four _ c.loop-step.self.state p _ c.args.steps.now c.loop-step.replies.items (runs-of _ _ _ _ r) (near-start c.args.self.now.state p)
+    λ p. ends-in-four _ c.loop-step.self.state p _ c.args.steps.now c.loop-step.replies.items (runs-of _ _ _ _ r)
+    (near-start c.args.self.now.state p)
 
 pub returns-clause-within : goal.returns-clause-within
 returns-clause-within c =

@@ -12,6 +12,7 @@ pub invariant_of-self : goal.invariant_of-self
 invariant_of-self c =
     let e = rw (← c.self.view_is) at c.record-record.ensures in
     still c.self.invariant refl (length-set _ _ _) refl refl c.push_reserved.ensures.capacity refl
-    (rw (e, c.push_reserved.ensures.items, c.part.ensures, c.part-2.ensures) (sound-split_counted _ c.args.h c.args.r c.args.at c.args.x c.self.invariant.sound
+    (rw (e, c.push_reserved.ensures.items, c.part.ensures, c.part-2.ensures)
+    (sound-split_counted _ c.args.h c.args.r c.args.at c.args.x c.self.invariant.sound
     (rw (← c.self.view_is) at c.requires.lent) c.requires.word c.requires.within (rw e at c.if-record-self.false)
     (omega (arith, c.in_ok-room_for_handle.ensures.few))))

@@ -6,7 +6,8 @@ use Rattle.iobufs_owner.proofs.owner.calls.Calls.is_lent.Goals as goal
 pub returns-then-h-len : goal.returns-then-h-len
 returns-then-h-len c =
     let bs = c.self.inside.borrowers.items in
-    rw (← c.self.view_is) (lent-counted bs _ c.args.h _ c.self.invariant (get_or_read_under bs c.args.h c.len.result _ 0 c.index.ensures c.if-h-len.true
+    rw (← c.self.view_is) (lent-counted bs _ c.args.h _ c.self.invariant
+    (get_or_read_under bs c.args.h c.len.result _ 0 c.index.ensures c.if-h-len.true
     (omega (arith, c.len.ensures))))
 
 pub returns-else-h-len : goal.returns-else-h-len
