@@ -161,3 +161,13 @@ pub fn serve<R: Read + Drop, W: Write, E: Write>(
     let (ended, _) = session(alloc, args, &mut input, output, errors);
     status(&ended)
 }
+
+#[test]
+fn sessions_in_memory(rt: HostRuntime) {
+    let (ended, printed) = in_memory(rt.alloc(), Half::Buffers, b"bytes 0 61\nshow 0\nshew 0\n");
+    assert!(rt; matches!(ended, Err(Stop::BadCommand(3))));
+    assert!(rt; printed.as_slice() == b"ok\nview 61\n".as_slice());
+    let (ended, printed) = in_memory(rt.alloc(), Half::Machine, b"machine\nok\n");
+    assert!(rt; matches!(ended, Err(Stop::BadCommand(1))));
+    assert!(rt; printed.is_empty());
+}

@@ -1,4 +1,4 @@
-// The owner machine: each of its eight tables is reserved once. `tests/sessions/machines.owner` has the steps that want
+// The owner machine: each of its seven tables is reserved once. `tests/sessions/machines.owner` has the steps that want
 // capacity.
 use crate::word::{Ended, end, mark};
 use iobufs_core::codec::BufError;
