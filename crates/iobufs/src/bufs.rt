@@ -175,20 +175,6 @@ impl IoBufs {
         }
     }
 
-    // Drops bytes, if there are so many. In `try_advance`, its locals would cost each call.
-    #[inline(never)]
-    fn try_drop(&mut self, n: usize) -> bool
-        ensures answer { result ≡ nat_le n (text_len self.old) }
-        ensures rest { IsTrue result → self.new ≡ text_advanced self.old n }
-        ensures unchanged { IsFalse result → self.new ≡ self.old }
-    {
-        if n > self.len() {
-            return false;
-        }
-        self.pieces.advance(n);
-        true
-    }
-
     /// Takes the first `at` bytes as `split_to` does, if there are so many (own); otherwise nothing changes.
     pub fn try_split_to(&mut self, alloc: Global, at: usize) -> Option<Result<IoBufs, BufError>>
         ensures short { result ≡ None ↔ (text_len self.old < at) }

@@ -4,7 +4,7 @@ ghost use Rattle.iobufs.specs.Inside.Several.{views, IsPieced};
 ghost use Rattle.iobufs_core.specs.Part.{part_frozen, part_put};
 ghost use Rattle.iobufs_core.specs.View.{View, IsFreelyShared, default_view, static_mark};
 ghost use Rattle.std.specs.Option.{option_copied};
-ghost use Rattle.std.specs.Prelude.{◌≡◌, List, ◌+◌, ◌*◌, ◌<◌, ◌≤◌, ◌^◌, ◌++◌, [], ◌∷◌, OnOk, OnErr, IfOk, IfErr, IsOk, IsOkUnless, MatchResult, length, slice_get, take, drop, map, Err, ℕ, MatchOption};
+ghost use Rattle.std.specs.Prelude.{◌≡◌, List, ◌+◌, ◌*◌, ◌<◌, ◌≤◌, ◌^◌, ◌++◌, [], ◌∷◌, OnOk, OnErr, IfOk, IfErr, IsOk, IsOkUnless, MatchResult, IsTrue, IsFalse, nat_le, length, slice_get, take, drop, map, Err, ℕ, MatchOption};
 
 use super::row::{Row, put_reserved, split_inside};
 use super::search::Located;
@@ -296,6 +296,35 @@ impl Pieces {
                 }
             }
         }
+    }
+
+    /// As `advance`, if there are so many bytes. Else nothing changes.
+    #[inline(always)]
+    pub(super) fn try_advance(&mut self, n: usize) -> bool
+        ensures answer { result ≡ nat_le n (length (pieces_bytes self.old)) }
+        ensures left { IsTrue result → self.new ≡ advanced_pieces self.old n }
+        ensures same { IsFalse result → self.new ≡ self.old }
+        ensures pieces { IsPieces self.old }
+    {
+        match &mut self.form {
+            Form::One(piece) => piece.try_advance(n),
+            Form::Many(row) => row.shorten_several(n) || self.advance_if_inside(n),
+        }
+    }
+
+    // In `try_advance`, its locals would cost each call.
+    #[inline(never)]
+    fn advance_if_inside(&mut self, n: usize) -> bool
+        ensures answer { result ≡ nat_le n (length (pieces_bytes self.old)) }
+        ensures left { IsTrue result → self.new ≡ advanced_pieces self.old n }
+        ensures same { IsFalse result → self.new ≡ self.old }
+        ensures pieces { IsPieces self.old }
+    {
+        if n > self.len() {
+            return false;
+        }
+        self.advance(n);
+        true
     }
 
     // Drops bytes of a single chunk, or the first of several and what else goes. In `advance`, its locals would cost each

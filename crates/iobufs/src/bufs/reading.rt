@@ -46,10 +46,7 @@ impl Buf for IoBufs {
 
     #[inline(always)]
     fn try_advance(&mut self, n: usize) -> bool {
-        match &mut self.pieces.form {
-            Form::One(piece) => piece.try_advance(n),
-            Form::Many(row) => row.shorten_several(n) || self.try_drop(n),
-        }
+        self.pieces.try_advance(n)
     }
 
     fn copy_to_slice(&mut self, dst: &mut [u8]) {

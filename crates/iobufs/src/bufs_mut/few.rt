@@ -201,17 +201,6 @@ fn add_some(alloc: Global, row: &mut NewRow, part: &mut IoBufMut) -> Result<(), 
     Ok(())
 }
 
-// Acts as `put_slice`, without a call for no bytes.
-#[inline(always)]
-fn put_some(whole: &mut IoBufMut, src: &[u8])
-    requires { length src.now ≤ whole.old.spare }
-    ensures { whole.new ≡ part_put whole.old src.now }
-{
-    if !src.is_empty() {
-        whole.put_slice(src);
-    }
-}
-
 impl Few {
     pub(super) fn of_two(alloc: Global, first: IoBufMut, second: IoBufMut) -> Few
         requires { part_capacity first + part_capacity second < 2 ^ 64 }
@@ -514,7 +503,7 @@ impl Few {
         Ok(IoBufs::from_row(row.finish()))
     }
 
-    /// All bytes in one buffer, without spare capacity: in the first one, if it suits them.
+    /// All bytes in one buffer, without spare capacity.
     #[tactic(auto, using(crate::proofs::Parts::Coalesced::coalescing))]
     pub(super) fn coalesce(&mut self, alloc: Global) -> Result<IoBufMut, BufError>
         ensures ok { IfOk result (λ part. part ≡ record { filled = parts_filled self.old; spare = 0 }) }
@@ -522,18 +511,6 @@ impl Few {
         ensures good_layout { length (parts_filled self.old) < 2 ^ 63 → IsOkUnless result BufError.Memory }
         ensures nothing { length (parts_filled self.old) ≡ 0 → IsOk result }
     {
-        let len = self.len();
-        if len <= isize::MAX as usize && self.first.suits(len) {
-            let mut whole = mem::replace(&mut self.first, IoBufMut::default(alloc));
-            whole.put_slice(self.second.as_ref());
-            whole.put_slice(self.third.as_ref());
-            whole.drop_spare();
-            return Ok(whole);
-        }
-        let mut whole = IoBufMut::with_capacity_from(alloc, len, &mut self.second)?;
-        whole.put_slice(self.first.as_ref());
-        whole.put_slice(self.second.as_ref());
-        put_some(&mut whole, self.third.as_ref());
-        Ok(whole)
+        IoBufMut::coalesced(alloc, &mut self.first, &mut self.second, &self.third)
     }
 }

@@ -1,5 +1,5 @@
 // A buffer of fixed capacity, to be written.
-ghost use Rattle.std.specs.Prelude.{◌≡◌, ◌+◌, ◌-◌, ◌<◌, ◌≤◌, ◌==◌, [], ◌∷◌, length, drop, replicate, vec_len, vec_capacity, false, IfOk, IsOk, IsOkUnless, IsTrue, IsFalse, MatchResult, nat_le, ◌↔◌, Some, codes, ◌++◌};
+ghost use Rattle.std.specs.Prelude.{◌≡◌, ◌+◌, ◌-◌, ◌<◌, ◌≤◌, ◌==◌, [], ◌∷◌, length, drop, replicate, vec_len, vec_capacity, false, IfOk, OnErr, Err, ◌^◌, IsOk, IsOkUnless, IsTrue, IsFalse, MatchResult, nat_le, ◌↔◌, Some, codes, ◌++◌};
 ghost use Rattle.std.specs.Align.{IsLayout};
 ghost use Rattle.iobufs_core.specs.Part.{empty_part, is_bad_layout as bad_layout, part_capacity, part_copied, part_drained, part_overwritten, part_put, part_with_len, part_truncated};
 ghost use Rattle.std.specs.Borrow.{Lends, Array, sem, u8 as byte};
@@ -15,6 +15,7 @@ use bytes::{Bytes, BytesMut};
 use std::alloc::{Global, Layout};
 use std::fmt;
 use std::marker::Model;
+use std::mem;
 use std::sync::Arc;
 
 /// A writable buffer of one block (`IoBufMut`): filled bytes, then spare capacity. The capacity is fixed when the
@@ -237,9 +238,8 @@ impl IoBufMut {
         Ok(IoBufMut::from_shell(Some(shell), storage, 0, limit))
     }
 
-    /// Acts as `with_capacity`, and takes over what a drained buffer keeps beside its storage, if there is any (own).
-    /// Fails as `with_capacity`.
-    pub fn with_capacity_from(
+    // Acts as `with_capacity`, and takes over the shell of a buffer that is freed later.
+    fn with_capacity_from(
         alloc: Global,
         n: usize,
         spent: &mut IoBufMut,
@@ -261,6 +261,50 @@ impl IoBufMut {
             Some(shell) => Ok(IoBufMut::from_shell(Some(shell), block, 0, n)),
             None => IoBufMut::with_shell(block, n),
         }
+    }
+
+    /// Returns the bytes of three buffers in one, without spare capacity (own, for layers). They go to the storage of the
+    /// first if they fill half of it or it has at most 4 KiB. Otherwise they are copied. Fails as `with_capacity`.
+    #[tactic(auto, using(crate::proofs::LayoutLaws::bad_layout_one))]
+    pub fn coalesced(
+        alloc: Global,
+        first: &mut IoBufMut,
+        second: &mut IoBufMut,
+        third: &IoBufMut,
+    ) -> Result<IoBufMut, BufError>
+        requires { length first.old.filled + length second.old.filled + length third.now.filled < 2 ^ 64 }
+        ensures ok { IfOk result (λ b. b ≡ record { filled = first.old.filled ++ second.old.filled ++ third.now.filled; spare = 0 }) }
+        ensures bad_layout { 2 ^ 63 ≤ length first.old.filled + length second.old.filled + length third.now.filled
+            → result ≡ Err BufError.BadLayout }
+        ensures good_layout { length first.old.filled + length second.old.filled + length third.now.filled < 2 ^ 63
+            → IsOkUnless result BufError.Memory }
+        ensures nothing { length first.old.filled + length second.old.filled + length third.now.filled ≡ 0 → IsOk result }
+        ensures unchanged { OnErr result (first.new ≡ first.old) }
+        ensures capacity { part_capacity first.new ≤ part_capacity first.old }
+        ensures same { second.new ≡ second.old }
+    {
+        let len = first.len() + second.len() + third.len();
+        if len <= isize::MAX as usize && first.suits(len) {
+            let mut whole = mem::replace(first, IoBufMut::default(alloc));
+            whole.put_slice(second.as_ref());
+            whole.put_slice(third.as_ref());
+            whole.limit = whole.storage.len();
+            return Ok(whole);
+        }
+        let mut whole = IoBufMut::with_capacity_from(alloc, len, second)?;
+        whole.put_slice(first.as_ref());
+        whole.put_slice(second.as_ref());
+        if !third.is_empty() {
+            whole.put_slice(third.as_ref());
+        }
+        Ok(whole)
+    }
+
+    // Whether `n` bytes fit, and fill half of the storage, or it has at most 4 KiB.
+    fn suits(&self, n: usize) -> bool
+        ensures { IsTrue result → n ≤ part_capacity self.now }
+    {
+        n <= self.capacity() && self.storage.capacity() / 2 <= n.max(1 << 11)
     }
 
     pub(super) fn from_shell(
@@ -345,20 +389,6 @@ impl IoBufMut {
         ensures { self.new ≡ part_put self.old src.now }
     {
         self.storage.extend_from_slice(src).unwrap();
-    }
-
-    /// Returns whether `n` bytes fit, and are at least half of the storage, or it has at most 4 KiB (own).
-    pub fn suits(&self, n: usize) -> bool
-        ensures { IsTrue result → n ≤ part_capacity self.now }
-    {
-        n <= self.capacity() && self.storage.capacity() / 2 <= n.max(1 << 11)
-    }
-
-    /// Keeps the bytes, and no spare capacity (own). The storage stays as it is: see `suits`.
-    pub fn drop_spare(&mut self)
-        ensures { self.new ≡ record { filled = self.old.filled; spare = 0 } }
-    {
-        self.limit = self.storage.len();
     }
 
     /// Keeps at most the first `n` bytes, and the capacity (`IoBufMut::truncate`).
