@@ -250,7 +250,8 @@ impl File<'_> {
         }
         if has_body && !is_marked && !is_for_c {
             let at = self.code[from].at;
-            self.edits.push(Edit { from: at, to: at, rust: "#[inline] ".to_owned() });
+            let rust = if self.text(i + 1) == "main" { "pub " } else { "#[inline] " };
+            self.edits.push(Edit { from: at, to: at, rust: rust.to_owned() });
         }
     }
 

@@ -13,7 +13,8 @@
 //! | the derive of `thiserror::Error` | impls of `Display` and `Error` after the last line |
 //! | `crate::`, `iobufs_core::` and the other proved crates | a module of `crate::proved` |
 //! | `std::`, `bytes::`, `hex::`, `memchr::` | the modules of `crate::kit` that have their signatures |
-//! | a function with a body | `#[inline]`, since rustc inlines no other function across crates |
+//! | `fn main` of a program | `pub fn main`, which the binary calls |
+//! | another function with a body | `#[inline]`, since rustc inlines no other function across crates |
 //!
 //! A comment directly above what goes as an item goes with it. Whatever else isn't Rust is refused.
 mod item;
