@@ -1,6 +1,6 @@
 //! The rules, by the word that begins what isn't Rust.
-use crate::lexer::Kind;
-use crate::{Edit, Fault, File};
+use super::lexer::Kind;
+use super::{Edit, Fault, File};
 
 /// Attributes that Rust has, too.
 const KEPT: [&str; 4] = ["inline", "cold", "repr", "unsafe"];

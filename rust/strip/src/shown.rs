@@ -1,5 +1,5 @@
 //! What `derive(thiserror::Error)` stands for: `Display` of what `#[error(..)]` says, and `Error`.
-use crate::{Fault, File};
+use super::{Fault, File};
 
 impl File<'_> {
     /// Writes the impls of the item after its derive list, which ends before this token.
