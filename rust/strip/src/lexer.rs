@@ -1,16 +1,12 @@
 //! The tokens of a source.
 
-/// What a token is. Space between tokens is none.
 #[derive(Clone, Copy, Debug, PartialEq, Eq)]
 pub enum Kind {
     Comment,
-    /// A string, byte string, raw string, character or byte.
-    Literal,
-    Lifetime,
     /// A name, keyword or number.
     Word,
-    /// A single other character.
-    Mark,
+    /// A literal in quotes, a lifetime, or a single other character.
+    Other,
 }
 
 /// A token, and the byte at which it begins.
@@ -52,13 +48,11 @@ fn token(rest: &str, first: char) -> Option<(Kind, usize)> {
         return Some((Kind::Comment, block_comment(rest)?));
     }
     if let Some(len) = literal(rest) {
-        return Some((Kind::Literal, len?));
-    }
-    if first == '\'' {
-        return Some((Kind::Lifetime, 1 + word(&rest[1..])));
+        return Some((Kind::Other, len?));
     }
     Some(match word(rest) {
-        0 => (Kind::Mark, first.len_utf8()),
+        0 if first == '\'' => (Kind::Other, 1 + word(&rest[1..])),
+        0 => (Kind::Other, first.len_utf8()),
         len => (Kind::Word, len),
     })
 }
@@ -69,40 +63,30 @@ fn word(text: &str) -> usize {
 
 // The length of a block comment, which may contain others.
 fn block_comment(rest: &str) -> Option<usize> {
-    let (mut at, mut depth) = (0, 0);
-    loop {
-        if rest[at..].starts_with("/*") {
-            (at, depth) = (at + 2, depth + 1);
-        } else if rest[at..].starts_with("*/") {
-            (at, depth) = (at + 2, depth - 1);
-        } else {
-            at += rest[at..].chars().next()?.len_utf8();
-        }
-        if depth == 0 {
-            return Some(at);
-        }
+    let (mut at, mut depth) = (2, 1);
+    while depth > 0 {
+        let (open, close) = (rest[at..].find("/*"), rest[at..].find("*/")?);
+        let is_open = open.is_some_and(|open| open < close);
+        at += 2 + if is_open { open? } else { close };
+        depth = if is_open { depth + 1 } else { depth - 1 };
     }
+    Some(at)
 }
 
 // The length of a literal that begins `rest`: `Some(None)` if it has no end.
 fn literal(rest: &str) -> Option<Option<usize>> {
-    let body = rest.trim_start_matches(['b', 'c']);
+    let body = rest.strip_prefix(['b', 'c']).unwrap_or(rest);
     let prefix = rest.len() - body.len();
-    if prefix > 1 {
-        return None;
+    let raw = body.strip_prefix('r').map(|raw| raw.trim_start_matches('#')).filter(|raw| raw.starts_with('"'));
+    if let Some(raw) = raw {
+        let start = rest.len() - raw.len() + 1;
+        let close = format!("\"{}", "#".repeat(start - prefix - 2));
+        return Some(rest[start..].find(&close).map(|n| start + n + close.len()));
     }
-    let hashes = body.strip_prefix('r').map(|raw| raw.len() - raw.trim_start_matches('#').len());
-    if let Some(hashes) = hashes.filter(|n| body[1 + n..].starts_with('"')) {
-        let start = 2 + hashes;
-        let close = format!("\"{}", "#".repeat(hashes));
-        return Some(body[start..].find(&close).map(|n| prefix + start + n + close.len()));
-    }
-    if body.starts_with('"') {
-        return Some(quoted(body, '"').map(|n| prefix + n));
-    }
-    let mut chars = body.strip_prefix('\'')?.chars();
-    let is_char = chars.next()? == '\\' || chars.next()? == '\'';
-    is_char.then(|| quoted(body, '\'').map(|n| prefix + n))
+    let mut chars = body.chars();
+    let quote = chars.next().filter(|c| ['"', '\''].contains(c))?;
+    let is_lifetime = quote == '\'' && chars.next()? != '\\' && chars.next()? != '\'';
+    (!is_lifetime).then(|| quoted(body, quote).map(|n| prefix + n))
 }
 
 // The length of what two of these quotes enclose, with both.

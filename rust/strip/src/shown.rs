@@ -1,24 +1,18 @@
 //! What `derive(thiserror::Error)` stands for: `Display` of what `#[error(..)]` says, and `Error`.
-use crate::{Fault, File};
+use super::{Fault, File};
 
 impl File<'_> {
     /// Writes the impls of the item after its derive list, which ends before this token.
-    pub(crate) fn show(&mut self, i: usize) -> Result<(), Fault> {
+    pub(super) fn show(&mut self, i: usize) -> Result<(), Fault> {
         let (said, i) = self.said(i);
-        let name = i + 2;
-        if self.text(i) != "pub" || !["enum", "struct"].contains(&self.text(i + 1)) {
-            return self.fault(i, "an error that isn't public");
-        }
-        let has_parameter = self.text(name + 1) == "<";
-        let open = name + if has_parameter { 4 } else { 1 };
-        if self.text(open) != "{" {
-            return self.fault(name, "an error of a form that isn't known");
-        }
-        let name = self.text(name);
-        let (of, debug) = match has_parameter {
-            true => (format!("<{}>", self.text(i + 4)), format!("<{}: std::fmt::Debug>", self.text(i + 4))),
-            false => Default::default(),
+        let (name, parameter) = (self.text(i + 2), self.text(i + 4));
+        let (open, of, debug) = match self.text(i + 3) {
+            "<" => (i + 6, format!("<{parameter}>"), format!("<{parameter}: std::fmt::Debug>")),
+            _ => (i + 3, String::new(), String::new()),
         };
+        if !(self.has(i, "pub enum") || self.has(i, "pub struct")) || self.text(open) != "{" {
+            return self.fault(i, "an error of a form that isn't known");
+        }
         let body = match said {
             Some(said) => format!("        write!(f, {})\n", fields(said)),
             None => format!("        match self {{\n{}        }}\n", self.arms(name, open)?),
@@ -33,10 +27,8 @@ impl File<'_> {
 
     // The literal in `#[error(..)]`, if that begins here, and the token after it.
     fn said(&self, i: usize) -> (Option<&str>, usize) {
-        match self.has(i, &["#", "[", "error", "("]) {
-            true => (Some(self.text(i + 4)), i + 7),
-            false => (None, i),
-        }
+        let is_said = self.has(i, "# [ error (");
+        (is_said.then(|| self.text(i + 4)), if is_said { i + 7 } else { i })
     }
 
     // An arm for each variant.
@@ -46,15 +38,14 @@ impl File<'_> {
             let (Some(said), variant) = self.said(i) else {
                 return self.fault(i, "a variant that `#[error(..)]` says nothing of");
             };
-            let has_value = self.text(variant + 1) == "(";
-            let value = match (has_value, said.contains("{0}")) {
-                (false, _) => "",
-                (true, false) => "(_)",
-                (true, true) => "(value)",
-            };
+            i = variant + 1;
+            let mut value = "";
+            if self.text(i) == "(" {
+                value = if said.contains("{0}") { "(value)" } else { "(_)" };
+                i = self.after(i)?;
+            }
             let said = said.replace("{0}", "{value}");
             arms += &format!("            {name}::{}{value} => write!(f, {said}),\n", self.text(variant));
-            i = if has_value { self.after(variant + 1)? } else { variant + 1 };
             i += usize::from(self.text(i) == ",");
         }
         Ok(arms)

@@ -65,8 +65,8 @@ const LEFT: [(&str, &str); 28] = [
         "#[derive(Clone, Debug)]\nstruct S;\n\nstruct T;\n",
     ),
     (
-        "mod a;\nuse std::marker::Model;\nuse std::marker::{Model, Send};\n",
-        "mod a;\n\nuse crate::kit::std::marker::Send;\n",
+        "mod a;\nuse thiserror::Error;\nuse std::marker::{Model, Send};\n",
+        "mod a;\n\nuse crate::kit::std::marker::{Model, Send};\n",
     ),
     (
         "use crate::a;\nuse two::b;\nuse std::{fmt, mem};\nuse three::c;\n",
