@@ -1,15 +1,13 @@
 //! The rules, by the word that begins what isn't Rust.
-use super::lexer::Kind;
 use super::{Fault, File};
+use std::mem;
 
 /// Attributes that Rust has, too.
 const KEPT: [&str; 4] = ["inline", "cold", "repr", "unsafe"];
-/// Names in a derive list that Rust hasn't.
+/// Names in a derive list that Rust hasn't, or doesn't need.
 const DERIVED: [&str; 3] = ["Drop", "Error", "thiserror::Error"];
 /// Crates of the kit.
 const KIT: [&str; 4] = ["std", "bytes", "hex", "memchr"];
-/// Words that a type has before another word.
-const IN_TYPES: [&str; 6] = ["dyn", "impl", "mut", "const", "for", "where"];
 
 impl File<'_> {
     /// Changes what begins at this token, and returns the token after what it has looked at.
@@ -20,7 +18,7 @@ impl File<'_> {
             "requires" | "ensures" => self.fault(i, "a clause that no function's head has"),
             "#" => self.attribute(i),
             "impl" => self.implementation(i),
-            "fn" if self.code.get(i + 1).is_some_and(|it| it.kind == Kind::Word) => self.function(i),
+            "fn" if self.code.get(i + 1).is_some_and(|it| it.is_word()) => self.function(i),
             "use" if self.has(i + 1, "thiserror : : Error ;") => {
                 self.replace(i, i + 6, "");
                 Ok(i + 6)
@@ -36,23 +34,21 @@ impl File<'_> {
     // Drops what begins at `from`, and is ghost at `i`.
     fn ghost(&mut self, from: usize, i: usize) -> Result<usize, Fault> {
         let end = self.after_ghost(i)?;
-        if self.text(i + 1) == "use" {
-            self.replace(from, end, "");
-        } else {
-            self.drop_item(from, end);
+        match self.text(i + 1) {
+            "use" => self.replace(from, end, ""),
+            _ => self.drop_item(from, end),
         }
         Ok(end)
     }
 
-    // The token after `ghost use ..;`, `ghost name = { .. };`, `ghost name: { .. };`, `ghost name: { .. } = { .. };`, or such a
-    // field.
+    // The token after `ghost use ..;`, `ghost name = { .. };`, `ghost name: { .. };`, `ghost name: { .. } = { .. };`, or a field.
     fn after_ghost(&self, i: usize) -> Result<usize, Fault> {
         let mut end = i + 2;
         if self.text(i + 1) == "use" {
             end += self.code[end..].iter().position(|it| it.text == ";").unwrap_or(0);
         }
-        for mark in [":", "="] {
-            if self.text(end) == mark && self.text(end + 1) == "{" {
+        for mark in [": {", "= {"] {
+            if self.has(end, mark) {
                 end = self.after(end + 1)?;
             }
         }
@@ -68,7 +64,7 @@ impl File<'_> {
         let end = self.after(open)?;
         match self.text(open + 1) {
             "tactic" | "error" => self.replace(i, end, ""),
-            "derive" => self.derive(i, end)?,
+            "derive" => self.derive(i, end),
             name if KEPT.contains(&name) => self.is_marked |= name == "inline",
             _ => return self.fault(open + 1, "an attribute that isn't known"),
         }
@@ -76,26 +72,25 @@ impl File<'_> {
     }
 
     // Drops names from `#[derive(..)]`.
-    fn derive(&mut self, i: usize, end: usize) -> Result<(), Fault> {
+    fn derive(&mut self, i: usize, end: usize) {
         let names: String = self.code[i + 4..end - 2].iter().map(|it| it.text).collect();
-        let (gone, kept): (Vec<_>, Vec<_>) =
-            names.split(',').filter(|it| !it.is_empty()).partition(|it| DERIVED.contains(it));
-        if kept.is_empty() {
-            self.replace(i, end, "");
-        } else if !gone.is_empty() {
-            self.replace(i + 4, end - 2, &kept.join(", "));
+        let kept: Vec<_> = names.split(',').filter(|it| !it.is_empty() && !DERIVED.contains(it)).collect();
+        match kept.len() {
+            0 => self.replace(i, end, ""),
+            n if n < names.split(',').count() => self.replace(i + 4, end - 2, &kept.join(", ")),
+            _ => {}
         }
-        if gone.iter().any(|it| it.ends_with("Error")) { self.show(end) } else { Ok(()) }
     }
 
     // `impl Model for T`, which has ghost items alone, and `impl Drop for T`, which drops the fields.
     fn implementation(&mut self, i: usize) -> Result<usize, Fault> {
         let name = if self.text(i + 1) == "<" { self.after(i + 1)? } else { i + 1 };
-        if !["Model", "Drop"].contains(&self.text(name)) || self.text(name + 1) != "for" {
+        if !(self.has(name, "Model for") || self.has(name, "Drop for")) {
             return Ok(i + 1);
         }
-        let mut at = name + 1 + self.code[name..].iter().position(|it| it.text == "{").unwrap_or(0);
-        let end = self.after(at - 1)?;
+        let open = name + self.code[name..].iter().position(|it| it.text == "{").unwrap_or(0);
+        let end = self.after(open)?;
+        let mut at = open + 1;
         while self.text(at) == "ghost" {
             at = self.after_ghost(at)?;
         }
@@ -120,16 +115,18 @@ impl File<'_> {
         if is_trivial { at + 5 } else { 0 }
     }
 
-    // A function's head.
+    // A function's head: its clauses, and what marks it.
     fn function(&mut self, i: usize) -> Result<usize, Fault> {
         let open = if self.text(i + 2) == "<" { self.after(i + 2)? } else { i + 2 };
         let result = self.after(open)?;
-        let clauses = self.after_result(result)?;
+        let mut at = result;
+        while !matches!(self.text(at), "{" | ";" | "requires" | "ensures" | "") {
+            at = if matches!(self.text(at), "(" | "[") { self.after(at)? } else { at + 1 };
+        }
         self.write_to(i + 2, open, result);
-        for n in open..clauses {
+        for n in open..at {
             self.path(n);
         }
-        let mut at = clauses;
         while matches!(self.text(at), "requires" | "ensures") {
             at = self.clause(at)?;
         }
@@ -140,22 +137,6 @@ impl File<'_> {
         Ok(at)
     }
 
-    // The first clause, or the body.
-    fn after_result(&self, result: usize) -> Result<usize, Fault> {
-        let is_word = |n: usize| self.code[n].kind == Kind::Word;
-        let mut i = result;
-        while i < self.code.len() && !matches!(self.text(i), "{" | ";" | "requires" | "ensures" | "where") {
-            let follows = is_word(i - 1) && !IN_TYPES.contains(&self.text(i - 1));
-            if is_word(i) && (follows || self.text(i - 1) == ")" || self.text(i - 1) == ">" && self.text(i - 2) != "-")
-            {
-                return self.fault(i, "a clause that isn't known");
-            }
-            i = if matches!(self.text(i), "(" | "[") { self.after(i)? } else { i + 1 };
-        }
-        let ends = |n: &usize| matches!(self.text(*n), "{" | ";" | "requires" | "ensures");
-        (i..self.code.len()).find(ends).map_or_else(|| self.fault(result, "a function without an end"), Ok)
-    }
-
     // `ensures* name { .. }`.
     fn clause(&mut self, i: usize) -> Result<usize, Fault> {
         let name = i + 1 + usize::from(self.text(i + 1) == "*");
@@ -164,24 +145,21 @@ impl File<'_> {
             return self.fault(i, "a clause without braces");
         }
         let end = self.after(open)?;
-        let (from, to) = (self.code[i].at, self.code[end - 1].end());
-        let said = if self.text(i) == "requires" { commented(&self.source[from..to]) } else { String::new() };
-        self.put(from, to, &said);
+        let said = &self.source[self.code[i].at..self.code[end - 1].end()];
+        self.replace(i, end, &if self.text(i) == "requires" { commented(said) } else { String::new() });
         Ok(end)
     }
 
     // Marks a function that isn't marked, and isn't for C.
     fn mark(&mut self, i: usize, has_body: bool) {
         let at = self.code[i].at;
-        let line = self.source[..at].rfind('\n').map_or(0, |end| end + 1);
-        let head = self.source[line..at].trim_start();
+        let head = self.source[..at].rsplit('\n').next().map_or("", str::trim_start);
         if head.ends_with("final ") {
-            self.put(at - "final ".len(), at, "");
+            self.edits.push((at - "final ".len(), at, String::new()));
         }
-        let is_marked = std::mem::take(&mut self.is_marked);
-        if has_body && !is_marked && !head.contains("extern") {
+        if !mem::take(&mut self.is_marked) && has_body && !head.contains("extern") {
             let mark = if self.text(i + 1) == "main" { "pub " } else { "#[inline] " };
-            self.put(at - head.len(), at - head.len(), mark);
+            self.edits.push((at - head.len(), at - head.len(), mark.to_owned()));
         }
     }
 
@@ -210,9 +188,6 @@ impl File<'_> {
 
 // Each line as a comment.
 fn commented(text: &str) -> String {
-    let lines = text.split('\n').map(|line| {
-        let said = line.trim_start();
-        format!("{}// {said}", &line[..line.len() - said.len()])
-    });
-    lines.collect::<Vec<_>>().join("\n")
+    let lines = text.split('\n').map(|line| line.split_at(line.len() - line.trim_start().len()));
+    lines.map(|(space, said)| format!("{space}// {said}")).collect::<Vec<_>>().join("\n")
 }

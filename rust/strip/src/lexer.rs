@@ -1,18 +1,9 @@
 //! The tokens of a source.
 
-#[derive(Clone, Copy, Debug, PartialEq, Eq)]
-pub enum Kind {
-    Comment,
-    /// A name, keyword or number.
-    Word,
-    /// A literal in quotes, a lifetime, or a single other character.
-    Other,
-}
-
-/// A token, and the byte at which it begins.
-#[derive(Clone, Copy, Debug)]
+/// A word (a name, keyword or number), a literal in quotes, a lifetime, a comment, or a single other character.
+#[derive(Clone, Copy)]
 pub struct Token<'a> {
-    pub kind: Kind,
+    /// The byte at which it begins.
     pub at: usize,
     pub text: &'a str,
 }
@@ -21,39 +12,55 @@ impl Token<'_> {
     pub fn end(&self) -> usize {
         self.at + self.text.len()
     }
+
+    pub fn is_comment(&self) -> bool {
+        self.text.starts_with("//") || self.text.starts_with("/*")
+    }
+
+    pub fn is_word(&self) -> bool {
+        word(self.text) == self.text.len()
+    }
 }
 
 /// Returns the tokens in order, or the byte at which a literal or comment begins that has no end.
 pub fn tokens(source: &str) -> Result<Vec<Token<'_>>, usize> {
     let mut found = Vec::new();
-    let mut at = 0;
-    while let Some(first) = source[at..].chars().next() {
-        if first.is_whitespace() {
-            at += first.len_utf8();
-            continue;
-        }
-        let (kind, len) = token(&source[at..], first).ok_or(at)?;
-        found.push(Token { kind, at, text: &source[at..at + len] });
-        at += len;
+    let mut rest = source.trim_start();
+    while !rest.is_empty() {
+        let at = source.len() - rest.len();
+        let (text, others) = rest.split_at(length(rest).ok_or(at)?);
+        found.push(Token { at, text });
+        rest = others.trim_start();
     }
     Ok(found)
 }
 
-// The kind and length of the token that begins `rest`, unless it has no end.
-fn token(rest: &str, first: char) -> Option<(Kind, usize)> {
+// The length of the token that begins `rest`, unless it has no end.
+fn length(rest: &str) -> Option<usize> {
     if rest.starts_with("//") {
-        return Some((Kind::Comment, rest.find('\n').unwrap_or(rest.len())));
+        return Some(rest.find('\n').unwrap_or(rest.len()));
     }
     if rest.starts_with("/*") {
-        return Some((Kind::Comment, block_comment(rest)?));
+        return block_comment(rest);
     }
-    if let Some(len) = literal(rest) {
-        return Some((Kind::Other, len?));
+    let body = rest.strip_prefix(['b', 'c']).unwrap_or(rest);
+    let raw = body.strip_prefix('r').map(|raw| raw.trim_start_matches('#'));
+    if let Some(text) = raw.and_then(|raw| raw.strip_prefix('"')) {
+        let close = format!("\"{}", "#".repeat(body.len() - text.len() - 2));
+        return Some(rest.len() - text.len() + text.find(&close)? + close.len());
+    }
+    let is_char = |c: char, rest: &str| c == '\\' || rest.starts_with('\'');
+    let text = body.strip_prefix(['"', '\'']).filter(|text| {
+        let mut chars = text.chars();
+        body.starts_with('"') || chars.next().is_some_and(|c| is_char(c, chars.as_str()))
+    });
+    if let Some(text) = text {
+        return Some(rest.len() - text.len() + quoted(text, body.starts_with('"'))?);
     }
     Some(match word(rest) {
-        0 if first == '\'' => (Kind::Other, 1 + word(&rest[1..])),
-        0 => (Kind::Other, first.len_utf8()),
-        len => (Kind::Word, len),
+        0 if rest.starts_with('\'') => 1 + word(&rest[1..]),
+        0 => rest.chars().next()?.len_utf8(),
+        len => len,
     })
 }
 
@@ -73,31 +80,13 @@ fn block_comment(rest: &str) -> Option<usize> {
     Some(at)
 }
 
-// The length of a literal that begins `rest`: `Some(None)` if it has no end.
-fn literal(rest: &str) -> Option<Option<usize>> {
-    let body = rest.strip_prefix(['b', 'c']).unwrap_or(rest);
-    let prefix = rest.len() - body.len();
-    let raw = body.strip_prefix('r').map(|raw| raw.trim_start_matches('#')).filter(|raw| raw.starts_with('"'));
-    if let Some(raw) = raw {
-        let start = rest.len() - raw.len() + 1;
-        let close = format!("\"{}", "#".repeat(start - prefix - 2));
-        return Some(rest[start..].find(&close).map(|n| start + n + close.len()));
-    }
-    let mut chars = body.chars();
-    let quote = chars.next().filter(|c| ['"', '\''].contains(c))?;
-    let is_lifetime = quote == '\'' && chars.next()? != '\\' && chars.next()? != '\'';
-    (!is_lifetime).then(|| quoted(body, quote).map(|n| prefix + n))
-}
-
-// The length of what two of these quotes enclose, with both.
-fn quoted(text: &str, quote: char) -> Option<usize> {
-    let mut chars = text.char_indices().skip(1);
-    while let Some((at, c)) = chars.next() {
-        if c == '\\' {
-            chars.next();
-        } else if c == quote {
-            return Some(at + 1);
-        }
-    }
-    None
+// The length of what is before a quote and the quote.
+fn quoted(text: &str, is_string: bool) -> Option<usize> {
+    let mut is_escaped = false;
+    let end = text.find(|c| {
+        let is_end = !is_escaped && c == if is_string { '"' } else { '\'' };
+        is_escaped = !is_escaped && c == '\\';
+        is_end
+    });
+    Some(end? + 1)
 }
