@@ -12,7 +12,7 @@ pub mod prelude {
 /// The kit's std.
 pub mod std {
     pub use super::super::{host::env, io};
-    pub use ::std::{fmt, marker, mem, ops, process, ptr, str};
+    pub use ::std::{fmt, mem, ops, process, ptr, str};
 
     pub mod alloc {
         pub use super::super::super::base::{AllocError, AllocFailed, Global};
@@ -21,6 +21,13 @@ pub mod std {
 
     pub mod collections {
         pub use super::super::super::deque::VecDeque;
+    }
+
+    pub mod marker {
+        pub use ::std::marker::Send;
+
+        /// What a type has whose clauses see another value. Nothing is left of its impls.
+        pub trait Model {}
     }
 
     pub mod sync {

@@ -1,22 +1,9 @@
 //! The tokens of a source.
 
-/// What a token is. Space between tokens is none.
-#[derive(Clone, Copy, Debug, PartialEq, Eq)]
-pub enum Kind {
-    Comment,
-    /// A string, byte string, raw string, character or byte.
-    Literal,
-    Lifetime,
-    /// A name, keyword or number.
-    Word,
-    /// A single other character.
-    Mark,
-}
-
-/// A token, and the byte at which it begins.
-#[derive(Clone, Copy, Debug)]
+/// A word (a name, keyword or number), a literal in quotes, a lifetime, a comment, or a single other character.
+#[derive(Clone, Copy)]
 pub struct Token<'a> {
-    pub kind: Kind,
+    /// The byte at which it begins.
     pub at: usize,
     pub text: &'a str,
 }
@@ -25,41 +12,55 @@ impl Token<'_> {
     pub fn end(&self) -> usize {
         self.at + self.text.len()
     }
+
+    pub fn is_comment(&self) -> bool {
+        self.text.starts_with("//") || self.text.starts_with("/*")
+    }
+
+    pub fn is_word(&self) -> bool {
+        word(self.text) == self.text.len()
+    }
 }
 
 /// Returns the tokens in order, or the byte at which a literal or comment begins that has no end.
 pub fn tokens(source: &str) -> Result<Vec<Token<'_>>, usize> {
     let mut found = Vec::new();
-    let mut at = 0;
-    while let Some(first) = source[at..].chars().next() {
-        if first.is_whitespace() {
-            at += first.len_utf8();
-            continue;
-        }
-        let (kind, len) = token(&source[at..], first).ok_or(at)?;
-        found.push(Token { kind, at, text: &source[at..at + len] });
-        at += len;
+    let mut rest = source.trim_start();
+    while !rest.is_empty() {
+        let at = source.len() - rest.len();
+        let (text, others) = rest.split_at(length(rest).ok_or(at)?);
+        found.push(Token { at, text });
+        rest = others.trim_start();
     }
     Ok(found)
 }
 
-// The kind and length of the token that begins `rest`, unless it has no end.
-fn token(rest: &str, first: char) -> Option<(Kind, usize)> {
+// The length of the token that begins `rest`, unless it has no end.
+fn length(rest: &str) -> Option<usize> {
     if rest.starts_with("//") {
-        return Some((Kind::Comment, rest.find('\n').unwrap_or(rest.len())));
+        return Some(rest.find('\n').unwrap_or(rest.len()));
     }
     if rest.starts_with("/*") {
-        return Some((Kind::Comment, block_comment(rest)?));
+        return block_comment(rest);
     }
-    if let Some(len) = literal(rest) {
-        return Some((Kind::Literal, len?));
+    let body = rest.strip_prefix(['b', 'c']).unwrap_or(rest);
+    let raw = body.strip_prefix('r').map(|raw| raw.trim_start_matches('#'));
+    if let Some(text) = raw.and_then(|raw| raw.strip_prefix('"')) {
+        let close = format!("\"{}", "#".repeat(body.len() - text.len() - 2));
+        return Some(rest.len() - text.len() + text.find(&close)? + close.len());
     }
-    if first == '\'' {
-        return Some((Kind::Lifetime, 1 + word(&rest[1..])));
+    let is_char = |c: char, rest: &str| c == '\\' || rest.starts_with('\'');
+    let text = body.strip_prefix(['"', '\'']).filter(|text| {
+        let mut chars = text.chars();
+        body.starts_with('"') || chars.next().is_some_and(|c| is_char(c, chars.as_str()))
+    });
+    if let Some(text) = text {
+        return Some(rest.len() - text.len() + quoted(text, body.starts_with('"'))?);
     }
     Some(match word(rest) {
-        0 => (Kind::Mark, first.len_utf8()),
-        len => (Kind::Word, len),
+        0 if rest.starts_with('\'') => 1 + word(&rest[1..]),
+        0 => rest.chars().next()?.len_utf8(),
+        len => len,
     })
 }
 
@@ -69,51 +70,23 @@ fn word(text: &str) -> usize {
 
 // The length of a block comment, which may contain others.
 fn block_comment(rest: &str) -> Option<usize> {
-    let (mut at, mut depth) = (0, 0);
-    loop {
-        if rest[at..].starts_with("/*") {
-            (at, depth) = (at + 2, depth + 1);
-        } else if rest[at..].starts_with("*/") {
-            (at, depth) = (at + 2, depth - 1);
-        } else {
-            at += rest[at..].chars().next()?.len_utf8();
-        }
-        if depth == 0 {
-            return Some(at);
-        }
+    let (mut at, mut depth) = (2, 1);
+    while depth > 0 {
+        let (open, close) = (rest[at..].find("/*"), rest[at..].find("*/")?);
+        let is_open = open.is_some_and(|open| open < close);
+        at += 2 + if is_open { open? } else { close };
+        depth = if is_open { depth + 1 } else { depth - 1 };
     }
+    Some(at)
 }
 
-// The length of a literal that begins `rest`: `Some(None)` if it has no end.
-fn literal(rest: &str) -> Option<Option<usize>> {
-    let body = rest.trim_start_matches(['b', 'c']);
-    let prefix = rest.len() - body.len();
-    if prefix > 1 {
-        return None;
-    }
-    let hashes = body.strip_prefix('r').map(|raw| raw.len() - raw.trim_start_matches('#').len());
-    if let Some(hashes) = hashes.filter(|n| body[1 + n..].starts_with('"')) {
-        let start = 2 + hashes;
-        let close = format!("\"{}", "#".repeat(hashes));
-        return Some(body[start..].find(&close).map(|n| prefix + start + n + close.len()));
-    }
-    if body.starts_with('"') {
-        return Some(quoted(body, '"').map(|n| prefix + n));
-    }
-    let mut chars = body.strip_prefix('\'')?.chars();
-    let is_char = chars.next()? == '\\' || chars.next()? == '\'';
-    is_char.then(|| quoted(body, '\'').map(|n| prefix + n))
-}
-
-// The length of what two of these quotes enclose, with both.
-fn quoted(text: &str, quote: char) -> Option<usize> {
-    let mut chars = text.char_indices().skip(1);
-    while let Some((at, c)) = chars.next() {
-        if c == '\\' {
-            chars.next();
-        } else if c == quote {
-            return Some(at + 1);
-        }
-    }
-    None
+// The length of what is before a quote and the quote.
+fn quoted(text: &str, is_string: bool) -> Option<usize> {
+    let mut is_escaped = false;
+    let end = text.find(|c| {
+        let is_end = !is_escaped && c == if is_string { '"' } else { '\'' };
+        is_escaped = !is_escaped && c == '\\';
+        is_end
+    });
+    Some(end? + 1)
 }
