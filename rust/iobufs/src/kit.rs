@@ -36,6 +36,11 @@ pub mod std {
         pub use super::super::deque::VecDeque;
     }
 
+    pub mod marker {
+        /// What a type has whose clauses see another value. Nothing is left of its impls.
+        pub trait Model {}
+    }
+
     pub mod sync {
         pub use super::super::arc::Arc;
     }

@@ -106,6 +106,14 @@ reads! {
     IoBufsMut { chunks! { IoBufsMut } }
 }
 
+/// Takes the storage over, or copies. (`Vec::from` does so too, but before version 1.10.1 it never drops an owner.)
+pub(crate) fn vec_of(bytes: Bytes) -> Vec<u8> {
+    match bytes.try_into_mut() {
+        Ok(bytes) => bytes.into(),
+        Err(bytes) => bytes.to_vec(),
+    }
+}
+
 macro_rules! conversions {
     ($($(#[$said:meta])* $from:ty => $to:ty, $make:expr;)*) => {$(
         $(#[$said])*
@@ -121,7 +129,7 @@ conversions! {
     Bytes => IoBuf, |bytes| IoBuf(inner::IoBuf::from(kit::Bytes(bytes)));
     BytesMut => IoBuf, |bytes: BytesMut| IoBuf::from(bytes.freeze());
     /// Takes the whole storage over, if no other handle shares it; else copies.
-    Bytes => IoBufMut, |bytes| IoBufMut::from(Vec::from(bytes));
+    Bytes => IoBufMut, |bytes| IoBufMut::from(vec_of(bytes));
     /// Takes the whole storage over, if no other handle shares it; else copies, with the capacity.
     BytesMut => IoBufMut, |bytes: BytesMut| {
         let capacity = bytes.capacity();

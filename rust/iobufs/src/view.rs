@@ -4,6 +4,7 @@ use crate::IoBufMut;
 use crate::calls::{bounds, derefs, equals_bytes, gets, outside, reads, shown};
 use crate::error::{AllocError, made, shared, tried};
 use crate::proved::iobufs_core::{self as inner, codec as core};
+use crate::traits::vec_of;
 use crate::kit::{self, Clone as _, Global};
 use bytes::Bytes;
 use std::borrow::Borrow;
@@ -231,13 +232,16 @@ impl From<IoBufMut> for IoBuf {
     }
 }
 
-/// A `Vec` that the view alone keeps comes back, with the view's bytes moved to its front; other bytes are copied.
+/// Storage that the view alone keeps comes back, with the view's bytes moved to its front; other bytes are copied.
 impl From<IoBuf> for Vec<u8> {
     #[inline]
     fn from(view: IoBuf) -> Self {
         match view.try_into_mut() {
             Ok(part) => part.into(),
-            Err(view) => Bytes::from(view).into(),
+            Err(view) => match view.0.into_shared() {
+                Ok(bytes) => vec_of(bytes.0),
+                Err(view) => view.as_ref().to_vec(),
+            },
         }
     }
 }

@@ -1,5 +1,4 @@
-//! Allocations of calls for owners: no more than what they take or drop needs, also of many chunks. The library's own allocations aren't
-//! counted here.
+//! Allocations of calls for owners: no more than what they take or drop needs, also of many chunks.
 use iobufs::{Frames, IoBuf, IoBufs};
 use std::alloc::{GlobalAlloc, Layout, System};
 use std::cell::Cell;
@@ -43,7 +42,7 @@ const CHUNK: usize = 6;
 
 /// Many chunks of one owner.
 fn many() -> IoBufs {
-    let view = IoBuf::from(vec![1; CHUNK]);
+    let view = IoBuf::from_owner(vec![1; CHUNK]);
     (0..CHUNKS).map(|_| view.clone()).collect()
 }
 
@@ -75,7 +74,7 @@ fn owners_of_many_chunks() {
 
 #[test]
 fn owners_of_frames() {
-    let (mut frames, view) = (Frames::default(), IoBuf::from(vec![1; 2 * CHUNK]));
+    let (mut frames, view) = (Frames::default(), IoBuf::from_owner(vec![1; 2 * CHUNK]));
     (0..CHUNKS).for_each(|_| frames.feed(view.clone()));
     assert_eq!(allocated(|| for _ in 0..1000 { frames.next(..).unwrap().unwrap(); }), 0);
     assert_eq!((frames.owners(), frames.len()), (CHUNKS - 166, 2 * CHUNK * CHUNKS - 2000));

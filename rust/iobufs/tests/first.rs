@@ -44,7 +44,7 @@ fn debug_shows_bytes() {
     let cases: [(&dyn Debug, &str); 6] = [
         (&IoBuf::from("ab\n"), r#"b"ab\n""#),
         (&IoBuf::new(), r#"b"""#),
-        (&IoBufMut::from(b"\x00"), r#"b"\x00""#),
+        (&IoBufMut::from(b"\x00'\x01"), r#"b"\0'\x01""#),
         (&bufs, r#"b"a\"\n\xc3\xa9""#),
         (&parts, r#"b"xy""#),
         (&long, &format!("b\"{}\".. (65 bytes)", "z".repeat(64))),
@@ -52,6 +52,11 @@ fn debug_shows_bytes() {
     for (value, shown) in cases {
         assert_eq!(format!("{value:?}"), shown);
     }
+    let all: Vec<u8> = (0..=255).collect();
+    for bytes in all.chunks(64) {
+        assert_eq!(format!("{:?}", IoBuf::copy_from_slice(bytes)), format!("{:?}", bytes::Bytes::copy_from_slice(bytes)));
+    }
+    assert_eq!((format!("{bufs:x}"), format!("{parts:X}"), format!("{:X}", IoBuf::from("\u{e9}"))), ("61220ac3a9".into(), "7879".into(), "C3A9".into()));
 }
 
 #[test]

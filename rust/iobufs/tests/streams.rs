@@ -400,17 +400,68 @@ impl Drop for Grenade {
     }
 }
 
-// The drop of a body's owner may panic, after its last byte was sent. No byte is lost or written twice.
+// The drop of a body's owner may panic, after its last byte was sent. Then no further byte is sent.
 #[test]
 fn owners_that_panic() {
+    let all = b"\x08boom-end\x04last";
     for most in [1, 4, 5, 6, 100] {
         let mut to = FrameWriter::new(Narrow::new(b"", most), ..);
-        let owned = IoBufs::from([IoBuf::from_owner(Grenade(*b"boom")), IoBuf::from(b"-end")]);
-        to.put(owned).unwrap();
-        to.put(IoBuf::from_owner(Grenade(*b"bang"))).unwrap();
+        to.put(IoBufs::from([IoBuf::from_owner(Grenade(*b"boom")), IoBuf::from(b"-end")])).unwrap();
         to.put(b"last").unwrap();
-        let panics = std::iter::from_fn(|| catch_unwind(AssertUnwindSafe(|| to.send().unwrap())).err()).count();
-        assert_eq!((panics, to.is_sent()), (2, true), "by {most}");
-        assert_eq!(to.get_ref().bytes, b"\x08boom-end\x04bang\x04last", "by {most}");
+        assert!(catch_unwind(AssertUnwindSafe(|| to.send().unwrap())).is_err(), "by {most}");
+        let sent = to.get_ref().bytes.clone();
+        assert!(sent.len() >= 5 && all.starts_with(&sent), "{sent:?} by {most}");
+        to.put(b"more").unwrap();
+        let errors = [to.send(), to.send()].map(|sent| sent.unwrap_err().to_string());
+        assert_eq!(errors, ["an owner of sent bytes panicked as it was dropped"; 2].map(String::from), "by {most}");
+        assert_eq!((&to.get_ref().bytes, to.is_sent()), (&sent, false), "by {most}");
     }
+}
+
+// `try_next` reads nothing, `get_mut` gives the stream, and `Debug` says how much is held.
+#[test]
+fn frames_that_are_held() {
+    let mut from = FrameReader::new(Narrow::new(b"\x01a\x02bc\x03d", 6), ..);
+    assert_eq!(from.try_next(), Ok(None));
+    assert_eq!((from.get_ref().calls.len(), from.next().unwrap().unwrap()), (0, IoBuf::from("a")));
+    assert_eq!(format!("{:?}", FrameReader::new(&b""[..], ..)), "FrameReader { from: [], held: 0, .. }");
+    assert_eq!((from.try_next(), from.try_next()), (Ok(Some(IoBuf::from("bc"))), Ok(None)));
+    assert_eq!(from.get_mut().calls.len(), 1);
+    let mut from = FrameReader::new(&b"\x01a\x09"[..], ..=8);
+    assert_eq!(from.next().unwrap().unwrap(), "a");
+    assert_eq!(from.try_next(), Err(Error::InvalidLength(9)));
+    let mut to = FrameWriter::new(Vec::new(), ..);
+    to.put("ab").unwrap();
+    assert_eq!(format!("{to:?}"), "FrameWriter { to: [], unsent: 1, .. }");
+    to.get_mut().extend(b"before ");
+    to.send().unwrap();
+    assert_eq!(to.into_inner(), b"before \x02ab");
+}
+
+// Chunks are written where they are, as many at a time as the writer takes; what it didn't take is left.
+#[test]
+fn an_iobufs_is_written() {
+    for (most, calls) in [(1, "1 1 1 1 1 1 1 1 1"), (4, "4 4 1"), (100, "9")] {
+        let mut to = Narrow::new(b"", most);
+        let mut bufs = body();
+        bufs.write_to(&mut to).unwrap();
+        assert_eq!((&to.bytes[..], &to.calls()[..], bufs.len()), (&b"abcdefghi"[..], calls, 0), "by {most}");
+    }
+    for fault in [Fault::Interrupted, Fault::Fails, Fault::Lies] {
+        let (mut to, mut bufs) = (Narrow::with(b"", 4, 2, fault), body());
+        let told = bufs.write_to(&mut to).map_err(|error| error.to_string());
+        let wanted = match fault {
+            Fault::Interrupted => Ok(()),
+            Fault::Fails => Err("fails".to_string()),
+            _ => Err("a writer says that it took more than it was given".to_string()),
+        };
+        assert_eq!((told, bufs.is_empty()), (wanted, fault == Fault::Interrupted));
+        bufs.write_to(&mut to).unwrap();
+        assert_eq!(to.bytes, b"abcdefghi", "{fault:?}");
+    }
+    let mut bufs: IoBufs = (0..200u8).map(|i| IoBuf::from(vec![i; 2])).collect();
+    let (all, mut to) = (bufs.to_vec(), Narrow::new(b"", usize::MAX));
+    assert_eq!(bufs.write_to(&mut Narrow::new(b"", 0)).unwrap_err().kind(), ErrorKind::WriteZero);
+    bufs.write_to(&mut to).unwrap();
+    assert_eq!((to.bytes == all, to.calls.len()), (true, 4));
 }
