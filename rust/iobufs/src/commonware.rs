@@ -77,11 +77,11 @@ impl Read for IoBuf {
 pub trait EncodeExt: EncodeSize + Write {
     /// Writes the value into an `IoBufs`, without copying its views.
     fn encode_iobufs(&self) -> IoBufs {
-        let mut builder = Builder::new(self.encode_inline_size());
-        self.write_bufs(&mut builder);
-        let bufs = builder.finish();
-        assert_eq!(bufs.len(), self.encode_size(), "write_bufs() must write exactly encode_size() bytes");
-        bufs
+        let mut to = Builder::new(self.encode_inline_size());
+        self.write_bufs(&mut to);
+        let made = to.finish();
+        assert_eq!(made.len(), self.encode_size(), "write_bufs() must write exactly encode_size() bytes");
+        made
     }
 }
 

@@ -70,6 +70,7 @@ pub trait Version {
 /// The version of the crate `bytes`.
 pub enum Found {}
 
+#[allow(dead_code)]
 mod before {
     /// A destination is longer than the bytes left.
     #[derive(Clone, Copy, Debug, PartialEq, Eq)]

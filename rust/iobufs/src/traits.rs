@@ -132,10 +132,10 @@ conversions! {
     Bytes => IoBufMut, |bytes| IoBufMut::from(vec_of(bytes));
     /// Takes the whole storage over, if no other handle shares it; else copies, with the capacity.
     BytesMut => IoBufMut, |bytes: BytesMut| {
-        let capacity = bytes.capacity();
-        let mut vec = Vec::from(bytes);
-        vec.reserve_exact(capacity - capacity.min(vec.len()));
-        IoBufMut::from(vec)
+        let least = bytes.capacity();
+        let mut storage = Vec::from(bytes);
+        storage.reserve_exact(least - storage.len().min(least));
+        IoBufMut::from(storage)
     };
     BytesMut => IoBufsMut, |bytes: BytesMut| IoBufMut::from(bytes).into();
     /// Copies nothing: a `Bytes` comes back as it was, and other bytes are kept by the view.

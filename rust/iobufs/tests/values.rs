@@ -1,42 +1,45 @@
-//! Values that are written and read: worked by hand, and the original's test of a view as a value.
+//! Values that are written and read: worked by hand, and what the original's tests say of a view as a value.
+use bytes::Bytes;
 use iobufs::codec::{BufsMut, Decode, Encode, EncodeExt, EncodeSize, RangeCfg, Read, Sink, Source, Write};
 use iobufs::{Builder, Error, IoBuf, IoBufMut, IoBufs, IoBufsMut};
 use std::fmt::Debug;
 use std::ops::RangeInclusive;
 
+// A view as a value: it comes back, its bytes stay where they are in one chunk, and are copied once across chunks.
 #[test]
-fn test_iobuf_codec_roundtrip() {
-    let cfg: RangeCfg<usize> = (0..=1024).into();
+fn views_are_read_back() {
+    for body in [&b"hello world"[..], b"", &[42; 10_000]] {
+        let encoded = IoBuf::copy_from_slice(body).encode();
+        let at = encoded.as_ptr().wrapping_add(encoded.len() - body.len());
+        assert_eq!(IoBuf::decode_cfg(encoded.clone(), &(..=10_000).into()).unwrap(), *body);
+        let mut native = IoBuf::copy_from_slice(&encoded);
+        let native_at = native[native.len() - body.len()..].as_ptr();
+        let mut sources = (IoBuf::from(encoded.clone()), IoBufs::from(encoded.clone()), in_bytes(&encoded));
+        let read = [IoBuf::read_cfg(&mut sources.0, &(..).into()), IoBuf::read_cfg(&mut sources.1, &(..).into())];
+        for view in read.map(Result::unwrap) {
+            assert!(view == *body && (body.is_empty() || view.as_ptr() == at));
+        }
+        assert!(IoBuf::read_cfg(&mut sources.2, &(..).into()).unwrap() == *body && sources.2.is_empty());
+        let part = IoBuf::read_cfg(&mut native, &(..).into()).unwrap();
+        assert!(part == *body && (body.is_empty() || part.as_ptr() == native_at));
+        drop(native);
+        assert_eq!(part.try_into_mut().unwrap(), *body);
+        let bytes = Bytes::read_cfg(&mut IoBuf::from(encoded), &(..).into()).unwrap();
+        assert!(bytes == *body && (body.is_empty() || bytes.as_ptr() == at));
+    }
+    let mut short = IoBuf::from(b"\x04xy");
+    assert_eq!(IoBuf::read_cfg(&mut short, &(..).into()), Err(Error::EndOfBuffer));
+}
 
-    let original = IoBuf::from(b"hello world");
-    let encoded = original.encode();
-    let decoded = IoBuf::decode_cfg(encoded, &cfg).unwrap();
-    assert_eq!(original, decoded);
-
-    let empty = IoBuf::default();
-    let encoded = empty.encode();
-    let decoded = IoBuf::decode_cfg(encoded, &cfg).unwrap();
-    assert_eq!(empty, decoded);
-
-    let large_cfg: RangeCfg<usize> = (0..=20000).into();
-    let large = IoBuf::from(vec![42u8; 10000]);
-    let encoded = large.encode();
-    let decoded = IoBuf::decode_cfg(encoded, &large_cfg).unwrap();
-    assert_eq!(large, decoded);
-
-    let mut truncated = IoBufMut::with_capacity(3);
-    4usize.write(&mut truncated);
-    truncated.put_slice(b"xy");
-    let mut truncated = truncated.freeze();
-    assert!(matches!(IoBuf::read_cfg(&mut truncated, &cfg), Err(Error::EndOfBuffer)));
-
-    // Directly exercise the successful `read_cfg` path, not just decode helpers.
-    let mut direct = IoBufMut::with_capacity(5);
-    4usize.write(&mut direct);
-    direct.put_slice(b"wxyz");
-    let mut direct = direct.freeze();
-    let decoded = IoBuf::read_cfg(&mut direct, &cfg).unwrap();
-    assert_eq!(decoded, b"wxyz");
+// Each field of a buffer that was writable is in that buffer.
+#[test]
+fn fields_stay_where_they_are() {
+    let fields = vec![Bytes::from_static(b"abc"), Bytes::from_static(b"def")];
+    let source = IoBufMut::from(fields.encode());
+    let range = source.as_ptr_range();
+    let read: Vec<Bytes> = Vec::decode_cfg(source, &(RangeCfg::from(..), RangeCfg::from(..))).unwrap();
+    assert_eq!(read.iter().map(|it| range.contains(&it.as_ptr())).collect::<Vec<_>>(), [true; 2]);
+    assert_eq!(read, fields);
 }
 
 #[test]
