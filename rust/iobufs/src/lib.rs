@@ -70,7 +70,7 @@ pub use commonware::EncodeExt;
 pub use error::{AllocError, Error, TryGetError};
 pub use part::IoBufMut;
 pub use parts::{Builder, IoBufsMut};
-pub use streams::{FrameError, FrameReader, FrameWriter};
+pub use streams::{FrameCodec, FrameError, FrameReader, FrameWriter};
 pub use text::{Chunks, Frames, IntoIter, IoBufs, Prefix};
 pub use view::IoBuf;
 

@@ -2,16 +2,17 @@
 #![forbid(unsafe_code)]
 use crate::error::{fault, shared};
 use crate::io::write_once;
-use crate::kit::Global;
+use crate::kit::{Global, bytes as kit};
 use crate::proved::iobufs_core::codec::RangeCfg;
 use crate::proved::iobufs_frames as inner;
 use crate::proved::iobufs_frames::Head;
 use crate::text::BATCH;
 use crate::{Error, IoBuf, IoBufs, Prefix};
+use bytes::BytesMut;
 use std::collections::VecDeque;
 use std::io::{self, ErrorKind, IoSlice, Read, Write};
 use std::ops::RangeBounds;
-use std::{error, fmt};
+use std::{error, fmt, mem};
 
 /// Why no frame is taken from a reader.
 #[derive(Debug)]
@@ -54,6 +55,18 @@ impl From<inner::FrameError> for FrameError {
     }
 }
 
+impl From<Error> for FrameError {
+    fn from(error: Error) -> Self {
+        FrameError::Bad(error)
+    }
+}
+
+impl From<io::Error> for FrameError {
+    fn from(error: io::Error) -> Self {
+        FrameError::Io(error)
+    }
+}
+
 /// The reader's error as it is; `ErrorKind::UnexpectedEof` of `Cut`, `ErrorKind::InvalidData` of `Bad`.
 impl From<FrameError> for io::Error {
     fn from(error: FrameError) -> Self {
@@ -62,6 +75,49 @@ impl From<FrameError> for io::Error {
             FrameError::Cut => io::Error::new(ErrorKind::UnexpectedEof, error),
             FrameError::Bad(_) => io::Error::new(ErrorKind::InvalidData, error),
         }
+    }
+}
+
+/// Takes frames from the front of a `BytesMut`, and puts them at its end, for readers and writers that have such a buffer.
+///
+/// ```
+/// use bytes::BytesMut;
+/// let codec = iobufs::FrameCodec::new(iobufs::Prefix::U16Be, ..=1024);
+/// let mut bytes = BytesMut::new();
+/// codec.encode(&"hello".into(), &mut bytes)?;
+/// assert_eq!((&bytes[..], codec.decode(&mut bytes)?.unwrap()), (&b"\0\x05hello"[..], "hello".into()));
+/// # Ok::<(), iobufs::Error>(())
+/// ```
+#[derive(Clone, Copy, Debug, PartialEq, Eq)]
+pub struct FrameCodec {
+    prefix: inner::Prefix,
+    range: RangeCfg,
+}
+
+impl FrameCodec {
+    /// Makes a codec of frames with lengths in `range` that are written as `prefix`.
+    pub fn new(prefix: Prefix, range: impl RangeBounds<usize>) -> Self {
+        FrameCodec { prefix: prefix.inner(), range: RangeCfg::new(range) }
+    }
+
+    /// Takes the first body, which shares the storage of `src`; `None` if its frame isn't whole yet. Fails if no further bytes can
+    /// make it whole. Unless a frame is taken, `src` is unchanged.
+    pub fn decode(&self, src: &mut BytesMut) -> Result<Option<IoBuf>, Error> {
+        let mut held = inner::Received::new(Global, self.prefix);
+        *held.block_mut() = kit::BytesMut::of(mem::take(src));
+        let body = held.next(&self.range);
+        *src = mem::replace(held.block_mut(), kit::BytesMut::new(Global)).into_inner();
+        Ok(body.map_err(fault)?.map(IoBuf))
+    }
+
+    /// Appends the frame of a body, which is copied. Fails with `Error::InvalidLength` if the length is outside the range, or can't
+    /// be written as the prefix; then `dst` is unchanged.
+    pub fn encode(&self, body: &IoBufs, dst: &mut BytesMut) -> Result<(), Error> {
+        let head = self.prefix.head_within(body.len(), &self.range).ok_or(Error::InvalidLength(body.len()))?;
+        dst.reserve(head.len() + body.len());
+        dst.extend_from_slice(head.as_slice());
+        body.for_each_chunk(|chunk| dst.extend_from_slice(chunk));
+        Ok(())
     }
 }
 

@@ -121,9 +121,15 @@ pub struct BytesMut {
 
 impl BytesMut {
     #[inline]
-    fn of(block: bytes::BytesMut) -> BytesMut {
+    pub(crate) fn of(block: bytes::BytesMut) -> BytesMut {
         let len = block.len();
         BytesMut { block, len }
+    }
+
+    #[inline]
+    pub(crate) fn into_inner(mut self) -> bytes::BytesMut {
+        self.block.truncate(self.len);
+        self.block
     }
 
     /// Returns no bytes, without allocating.
@@ -230,15 +236,13 @@ impl BytesMut {
     }
 
     /// Returns the bytes, to be read.
-    pub fn freeze(mut self) -> Result<Bytes, AllocError> {
-        self.block.truncate(self.len);
-        Ok(Bytes(self.block.freeze()))
+    pub fn freeze(self) -> Result<Bytes, AllocError> {
+        Ok(Bytes(self.into_inner().freeze()))
     }
 
     /// Takes the block back as a vector.
-    pub fn into_vec(mut self) -> Result<Vec<u8>, AllocFailed<BytesMut>> {
-        self.block.truncate(self.len);
-        Ok(Vec(self.block.into()))
+    pub fn into_vec(self) -> Result<Vec<u8>, AllocFailed<BytesMut>> {
+        Ok(Vec(self.into_inner().into()))
     }
 
     /// Reads once into the space. Fails if the reader says that it read more than that.
