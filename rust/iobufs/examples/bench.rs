@@ -1,7 +1,7 @@
 //! bench [--sums] [NAME..]
 //!
-//! The workloads of one buffer, of an `IoBufs` and of an `IoBufsMut`, with the names of those in `crates/iobufs_bench`. Prints
-//! the nanoseconds an operation of each, or with `--sums` what one run of each saw, and its operations.
+//! The workloads of one buffer, of an `IoBufs` and of an `IoBufsMut`, with the names of those in `crates/iobufs_bench`.
+//! Prints the nanoseconds an operation of each, or with `--sums` what one run of each saw, and its operations.
 use iobufs::{IoBuf, IoBufMut, IoBufs, IoBufsMut};
 use std::env;
 use std::hint::black_box;
@@ -75,10 +75,7 @@ fn split_drop() -> Run {
     let whole = native(MIB);
     let mut views: Vec<IoBuf> = (0..8).map(|_| whole.clone()).collect();
     timed(8 * 1024, || {
-        views
-            .iter_mut()
-            .map(|view| (0..1024).map(|_| mark(view.split_to(1024).chunk())).sum::<u64>())
-            .sum()
+        views.iter_mut().map(|view| (0..1024).map(|_| mark(view.split_to(1024).chunk())).sum::<u64>()).sum()
     })
 }
 
@@ -97,9 +94,7 @@ fn split_keep() -> Run {
 
 fn clone_drop(view: IoBuf) -> Run {
     let _shared = view.clone();
-    timed(10_000, || {
-        (0..10_000).map(|_| black_box(&view).clone().len() as u64).sum()
-    })
+    timed(10_000, || (0..10_000).map(|_| black_box(&view).clone().len() as u64).sum())
 }
 
 fn new_share_drop() -> Run {
@@ -118,11 +113,7 @@ fn new_share_drop() -> Run {
 fn slice_drop() -> Run {
     let (view, n) = (native(1024), 10_000);
     let _shared = view.clone();
-    timed(n, || {
-        (0..n)
-            .map(|i| mark(black_box(&view).slice(i % 960..i % 960 + 64).chunk()))
-            .sum()
-    })
+    timed(n, || (0..n).map(|i| mark(black_box(&view).slice(i % 960..i % 960 + 64).chunk())).sum())
 }
 
 fn read_bytewise() -> Run {
@@ -237,9 +228,7 @@ fn coalesced(n: usize) -> Run {
 
 fn text_clone_drop(n: usize) -> Run {
     let text = text(n);
-    timed(count(n), || {
-        (0..count(n)).map(|_| mark(black_box(&text).clone().chunk())).sum()
-    })
+    timed(count(n), || (0..count(n)).map(|_| mark(black_box(&text).clone().chunk())).sum())
 }
 
 fn walk(n: usize) -> Run {
@@ -275,11 +264,7 @@ fn parts_freeze(n: usize) -> Run {
         texts.extend(rows.into_iter().map(IoBufsMut::freeze));
         0
     });
-    (
-        ns,
-        operations,
-        texts.iter().map(|text| text.len() as u64 + mark(text.chunk())).sum(),
-    )
+    (ns, operations, texts.iter().map(|text| text.len() as u64 + mark(text.chunk())).sum())
 }
 
 type Workload = (String, Box<dyn Fn() -> Run>);
@@ -292,10 +277,7 @@ fn workloads() -> Vec<Workload> {
     add("split_1m_1k_drop".into(), Box::new(split_drop));
     add("split_1m_1k_keep".into(), Box::new(split_keep));
     add("clone_drop_native".into(), Box::new(|| clone_drop(native(1024))));
-    add(
-        "clone_drop_static".into(),
-        Box::new(|| clone_drop(IoBuf::from(b"abcdefghijklmnopqrstuvwxyz"))),
-    );
+    add("clone_drop_static".into(), Box::new(|| clone_drop(IoBuf::from(b"abcdefghijklmnopqrstuvwxyz"))));
     add("new_share_drop_64".into(), Box::new(new_share_drop));
     add("slice_drop_64".into(), Box::new(slice_drop));
     add("read_view_bytewise_1m".into(), Box::new(read_bytewise));
@@ -308,10 +290,7 @@ fn workloads() -> Vec<Workload> {
             text.advance(100);
             mark(text.chunk())
         };
-        add(
-            format!("text{n}_advance100"),
-            Box::new(move || drained(n, 100, advance, 1)),
-        );
+        add(format!("text{n}_advance100"), Box::new(move || drained(n, 100, advance, 1)));
         add(
             format!("text{n}_take300"),
             Box::new(move || drained(n, 300, |text| mark(text.take_owned(300).chunk()), 0)),

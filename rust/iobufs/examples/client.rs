@@ -1,5 +1,6 @@
-//! A client of records: a codec, frames that are sent by short vectored writes and read from chunks of any size, and a journal of
-//! pages. It needs the feature `bytes`. It is a client of the original too, if these three lines replace the two that name `iobufs`:
+//! A client of records: a codec, frames that are sent by short vectored writes and read from chunks of any size, and a
+//! journal of pages. It needs the feature `bytes`. It is a client of the original too, if these three lines replace the
+//! two that name `iobufs`:
 //!
 //! 1. `use commonware_codec::{Buf, BufsMut, Decode, EncodeSize, Error, RangeCfg, Read, Write};`
 //! 2. `use commonware_runtime::iobuf::{EncodeExt, IoBuf, IoBufMut, IoBufs};`

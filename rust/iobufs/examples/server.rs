@@ -1,5 +1,5 @@
-//! Echoes frames over TCP on loopback: a server on a port of its own, and a client that sends a few frames, compares what
-//! comes back, and ends both.
+//! Echoes frames over TCP on loopback: a server on a port of its own, and a client that sends a few frames, compares
+//! what comes back, and ends both.
 use iobufs::{FrameReader, FrameWriter, IoBuf, IoBufs};
 use std::error::Error;
 use std::net::{Shutdown, TcpListener, TcpStream};

@@ -30,7 +30,10 @@ pub(crate) fn outside(lo: usize, hi: usize) -> ! {
 }
 
 /// Compares the bytes of two lists of chunks, for every chunking, without a copy.
-pub(crate) fn compare<'a>(mut ours: impl Iterator<Item = &'a [u8]>, mut theirs: impl Iterator<Item = &'a [u8]>) -> Ordering {
+pub(crate) fn compare<'a>(
+    mut ours: impl Iterator<Item = &'a [u8]>,
+    mut theirs: impl Iterator<Item = &'a [u8]>,
+) -> Ordering {
     let (mut a, mut b): (&[u8], &[u8]) = (&[], &[]);
     loop {
         if a.is_empty() {
@@ -262,7 +265,8 @@ macro_rules! reads {
             assert!(self.try_copy_to_slice(dst).is_ok(), "{}", crate::error::SHORT);
         }
 
-        /// Acts as `copy_to_slice`, if there are enough bytes; else nothing changes, and the error has both lengths (`Buf`).
+        /// Acts as `copy_to_slice`, if there are enough bytes; else nothing changes, and the error has both lengths
+        /// (`Buf`).
         #[inline(always)]
         pub fn try_copy_to_slice(&mut self, dst: &mut [u8]) -> Result<(), crate::TryGetError> {
             core::Buf::try_copy_to_slice(&mut self.0, dst).map_err(crate::error::short)
@@ -282,7 +286,8 @@ macro_rules! gets {
         }
     };
     ($($number:ty, $get:ident, $try_get:ident;)*) => {
-        /// Takes the first `n` bytes as one view: shared within a chunk, copied across chunks. Panics if there are fewer (`Buf`).
+        /// Takes the first `n` bytes as one view: shared within a chunk, copied across chunks. Panics if there are
+        /// fewer (`Buf`).
         #[inline]
         #[track_caller]
         pub fn take_owned(&mut self, n: usize) -> IoBuf {
@@ -319,7 +324,8 @@ macro_rules! gets {
                 }
             }
 
-            /// Reads the number at the front, the highest byte first; if there are fewer bytes, nothing changes (`Buf`).
+            /// Reads the number at the front, the highest byte first; if there are fewer bytes, nothing changes
+            /// (`Buf`).
             #[inline]
             pub fn $try_get(&mut self) -> Result<$number, crate::TryGetError> {
                 let mut bytes = [0; size_of::<$number>()];
@@ -331,14 +337,16 @@ macro_rules! gets {
         /// Reads the length at the front, if it is in the range (`usize::read_cfg`).
         #[inline]
         pub fn read_length(&mut self, range: impl RangeBounds<usize>) -> Result<usize, crate::Error> {
-            <usize as core::Read>::read_cfg(Global, &mut self.0, &core::RangeCfg::new(range)).map_err(crate::error::fault)
+            let range = core::RangeCfg::new(range);
+            <usize as core::Read>::read_cfg(Global, &mut self.0, &range).map_err(crate::error::fault)
         }
 
         /// Reads the bytes after a length in the range, as one view: shared within a chunk, copied across chunks
         /// (`IoBuf::read_cfg`).
         #[inline]
         pub fn read_view(&mut self, range: impl RangeBounds<usize>) -> Result<IoBuf, crate::Error> {
-            let made = <crate::proved::iobufs_core::IoBuf as core::Read>::read_cfg(Global, &mut self.0, &core::RangeCfg::new(range));
+            let range = core::RangeCfg::new(range);
+            let made = core::Read::read_cfg(Global, &mut self.0, &range);
             made.map(IoBuf).map_err(crate::error::fault)
         }
     };

@@ -1,11 +1,11 @@
-//! Values that are written and read, by traits with the names of the original's codec: `EncodeSize`, `Write`, `Read`, and
-//! what they write to and read from, `Sink`, `BufsMut` and `Source`.
+//! Values that are written and read, by traits with the names of the original's codec: `EncodeSize`, `Write`, `Read`,
+//! and what they write to and read from, `Sink`, `BufsMut` and `Source`.
 //!
-//! A number of a fixed size is written with its highest byte first, a `usize` as a length, and an `IoBuf` after its length. A `bool`
-//! is one byte, an `Option` a `bool` and then its value, an array its bytes, a `Vec` its length and its items, a `String` its length
-//! and its bytes, a tuple its fields.
-//! A view that is read shares the buffer's storage, if it is in one chunk. If one of these isn't read, the buffer is unchanged (the
-//! original has dropped the length before a view then). A value of several parts is read whole or not at all by `Read::read_whole`.
+//! A number of a fixed size is written with its highest byte first, a `usize` as a length, and an `IoBuf` after its
+//! length. A `bool` is one byte, an `Option` a `bool` and then its value, an array its bytes, a `Vec` its length and
+//! its items, a `String` its length and its bytes, a tuple its fields. A view that is read shares the buffer's storage,
+//! if it is in one chunk. If one of these isn't read, the buffer is unchanged (the original has dropped the length
+//! before a view then). A value of several parts is read whole or not at all by `Read::read_whole`.
 #![forbid(unsafe_code)]
 use crate::{Builder, Error, IoBuf, IoBufMut, IoBufs, IoBufsMut, length_size};
 use bytes::{Buf, BufMut, Bytes, BytesMut};
@@ -73,7 +73,9 @@ pub trait Source: Buf {
 
 macro_rules! reads {
     ($($buffer:ident)*) => {$(
-        reads! { $buffer, read_u8 try_get_u8 u8, read_u16 try_get_u16 u16, read_u32 try_get_u32 u32, read_u64 try_get_u64 u64 }
+        reads! {
+            $buffer, read_u8 try_get_u8 u8, read_u16 try_get_u16 u16, read_u32 try_get_u32 u32, read_u64 try_get_u64 u64
+        }
     )*};
     ($buffer:ident, $($read:ident $get:ident $number:ty),*) => {
         impl Source for $buffer {
@@ -153,11 +155,12 @@ pub trait Read: Sized {
     /// The requirements on the value.
     type Cfg;
 
-    /// Reads a value from the front. An error of a number, a length or a view leaves the buffer unchanged; a value of several parts
-    /// has then dropped those before the one that failed.
+    /// Reads a value from the front. An error of a number, a length or a view leaves the buffer unchanged; a value of
+    /// several parts has then dropped those before the one that failed.
     fn read_cfg(buf: &mut impl Source, cfg: &Self::Cfg) -> Result<Self, Error>;
 
-    /// Reads a value from the front, as `read_cfg` does, from a clone of the buffer, so an error (or a panic) leaves it unchanged.
+    /// Reads a value from the front, as `read_cfg` does, from a clone of the buffer, so an error (or a panic) leaves it
+    /// unchanged.
     ///
     fn read_whole(buf: &mut (impl Source + Clone), cfg: &Self::Cfg) -> Result<Self, Error> {
         let mut rest = buf.clone();

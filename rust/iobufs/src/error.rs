@@ -100,7 +100,8 @@ mod before {
     };
 }
 
-/// A destination is longer than the bytes left. This is `bytes::TryGetError`, which that crate has from its version 1.10 on.
+/// A destination is longer than the bytes left. This is `bytes::TryGetError`, which that crate has from its version
+/// 1.10 on.
 pub type TryGetError = <Found as Version>::Error;
 
 /// The error of a read past the end.
@@ -109,7 +110,8 @@ pub(crate) fn short(error: core::TryGetError) -> TryGetError {
     TryGetError { requested: error.requested, available: error.available }
 }
 
-/// Ends the process, as Rust's collections do if an allocation fails. Prints how many bytes were requested, if that is known.
+/// Ends the process, as Rust's collections do if an allocation fails. Prints how many bytes were requested, if that is
+/// known.
 #[cold]
 pub(crate) fn out_of_memory(bytes: Option<usize>) -> ! {
     if let Some(layout) = bytes.and_then(|n| Layout::array::<u8>(n).ok()) {
@@ -145,7 +147,11 @@ pub(crate) fn shared<T, E>(made: Result<T, E>) -> T {
 }
 
 /// Returns what a call made, unless it failed to allocate `bytes` bytes.
-pub(crate) fn tried<T, M>(made: Result<T, core::BufError>, bytes: usize, make: impl FnOnce(T) -> M) -> Result<M, AllocError> {
+pub(crate) fn tried<T, M>(
+    made: Result<T, core::BufError>,
+    bytes: usize,
+    make: impl FnOnce(T) -> M,
+) -> Result<M, AllocError> {
     made.map(make).map_err(|_| AllocError { bytes })
 }
 

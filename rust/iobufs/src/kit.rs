@@ -1,5 +1,5 @@
-//! The calls of the kit's std and `bytes` that the proved sources make: those that the program and the C library have, but `bytes`
-//! over the crate of that name.
+//! The calls of the kit's std and `bytes` that the proved sources make: those that the program and the C library have,
+//! but `bytes` over the crate of that name.
 #[allow(unsafe_code)]
 #[path = "../kit/arc.rs"]
 mod arc;

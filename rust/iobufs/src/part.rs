@@ -2,8 +2,8 @@
 use crate::IoBuf;
 use crate::calls::{derefs, equals_bytes, puts, reads, shown};
 use crate::error::{AllocError, LAYOUT, made, shared, tried};
-use crate::proved::iobufs_core::{self as inner, codec as core};
 use crate::kit::{self, Global};
+use crate::proved::iobufs_core::{self as inner, codec as core};
 use bytes::Bytes;
 use std::alloc::Layout;
 use std::mem;
@@ -89,7 +89,8 @@ impl IoBufMut {
         self.0.capacity()
     }
 
-    /// Returns the address of the first byte. The whole capacity may be written from there on; `set_len` makes that readable.
+    /// Returns the address of the first byte. The whole capacity may be written from there on; `set_len` makes that
+    /// readable.
     #[inline]
     pub fn as_mut_ptr(&mut self) -> *mut u8 {
         self.0.address()

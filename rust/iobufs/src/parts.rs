@@ -2,9 +2,9 @@
 #![forbid(unsafe_code)]
 use crate::calls::{puts, reads, shown};
 use crate::error::{LAYOUT, made, shared};
+use crate::kit::Global;
 use crate::proved::iobufs as inner;
 use crate::proved::iobufs_core::codec as core;
-use crate::kit::Global;
 use crate::{IoBuf, IoBufMut, IoBufs};
 use bytes::Bytes;
 use std::io::IoSlice;
@@ -56,7 +56,8 @@ impl IoBufsMut {
         self.0.capacity()
     }
 
-    /// Makes `n` bytes readable, the buffers filled in order. Those that were not readable are zero. Panics above the capacity.
+    /// Makes `n` bytes readable, the buffers filled in order. Those that were not readable are zero. Panics above the
+    /// capacity.
     #[track_caller]
     pub fn set_len(&mut self, n: usize) {
         assert!(self.0.try_set_len(n), "set_len past the capacity");
@@ -143,7 +144,11 @@ impl<const N: usize> From<[u8; N]> for IoBufsMut {
 impl FromIterator<IoBufMut> for IoBufsMut {
     #[track_caller]
     fn from_iter<I: IntoIterator<Item = IoBufMut>>(parts: I) -> Self {
-        IoBufsMut(made(inner::IoBufsMut::from_parts(Global, parts.into_iter().map(|part| part.0)), None, "capacity overflow"))
+        IoBufsMut(made(
+            inner::IoBufsMut::from_parts(Global, parts.into_iter().map(|part| part.0)),
+            None,
+            "capacity overflow",
+        ))
     }
 }
 

@@ -78,14 +78,16 @@ impl From<FrameError> for io::Error {
     }
 }
 
-/// Takes frames from the front of a `BytesMut`, and puts them at its end, for readers and writers that have such a buffer.
+/// Takes frames from the front of a `BytesMut`, and puts them at its end, for readers and writers that have such a
+/// buffer.
 ///
 /// ```
 /// use bytes::BytesMut;
 /// let codec = iobufs::FrameCodec::new(iobufs::Prefix::U16Be, ..=1024);
 /// let mut bytes = BytesMut::new();
 /// codec.encode(&"hello".into(), &mut bytes)?;
-/// assert_eq!((&bytes[..], codec.decode(&mut bytes)?.unwrap()), (&b"\0\x05hello"[..], "hello".into()));
+/// assert_eq!(&bytes[..], b"\0\x05hello");
+/// assert_eq!(codec.decode(&mut bytes)?.unwrap(), "hello");
 /// # Ok::<(), iobufs::Error>(())
 /// ```
 #[derive(Clone, Copy, Debug, PartialEq, Eq)]
@@ -100,8 +102,8 @@ impl FrameCodec {
         FrameCodec { prefix: prefix.inner(), range: RangeCfg::new(range) }
     }
 
-    /// Takes the first body, which shares the storage of `src`; `None` if its frame isn't whole yet. Fails if no further bytes can
-    /// make it whole. Unless a frame is taken, `src` is unchanged.
+    /// Takes the first body, which shares the storage of `src`; `None` if its frame isn't whole yet. Fails if no
+    /// further bytes can make it whole. Unless a frame is taken, `src` is unchanged.
     pub fn decode(&self, src: &mut BytesMut) -> Result<Option<IoBuf>, Error> {
         let mut held = inner::Received::new(Global, self.prefix);
         *held.block_mut() = kit::BytesMut::of(mem::take(src));
@@ -110,8 +112,8 @@ impl FrameCodec {
         Ok(body.map_err(fault)?.map(IoBuf))
     }
 
-    /// Appends the frame of a body, which is copied. Fails with `Error::InvalidLength` if the length is outside the range, or can't
-    /// be written as the prefix; then `dst` is unchanged.
+    /// Appends the frame of a body, which is copied. Fails with `Error::InvalidLength` if the length is outside the
+    /// range, or can't be written as the prefix; then `dst` is unchanged.
     pub fn encode(&self, body: &IoBufs, dst: &mut BytesMut) -> Result<(), Error> {
         let head = self.prefix.head_within(body.len(), &self.range).ok_or(Error::InvalidLength(body.len()))?;
         dst.reserve(head.len() + body.len());
@@ -121,8 +123,8 @@ impl FrameCodec {
     }
 }
 
-/// Takes frames from a reader: lengths, each followed by a body. A read fills the space of one block, and a body shares that
-/// block: it isn't copied, and keeps the whole block.
+/// Takes frames from a reader: lengths, each followed by a body. A read fills the space of one block, and a body shares
+/// that block: it isn't copied, and keeps the whole block.
 ///
 /// ```
 /// use iobufs::{FrameReader, FrameWriter};
@@ -170,8 +172,8 @@ impl<R> FrameReader<R> {
 }
 
 impl<R: Read> FrameReader<R> {
-    /// Takes the next body; `None` at the end of the input. It starts no read while a whole frame is held. After an error no
-    /// byte is lost, and `next` may be called again.
+    /// Takes the next body; `None` at the end of the input. It starts no read while a whole frame is held. After an
+    /// error no byte is lost, and `next` may be called again.
     #[allow(clippy::should_implement_trait)]
     pub fn next(&mut self) -> Result<Option<IoBuf>, FrameError> {
         Ok(self.0.next()?.map(IoBuf))
@@ -180,7 +182,10 @@ impl<R: Read> FrameReader<R> {
 
 impl<R: fmt::Debug> fmt::Debug for FrameReader<R> {
     fn fmt(&self, f: &mut fmt::Formatter<'_>) -> fmt::Result {
-        f.debug_struct("FrameReader").field("from", &self.0.from).field("held", &self.0.held.len()).finish_non_exhaustive()
+        f.debug_struct("FrameReader")
+            .field("from", &self.0.from)
+            .field("held", &self.0.held.len())
+            .finish_non_exhaustive()
     }
 }
 
@@ -240,12 +245,18 @@ impl<W> FrameWriter<W> {
 
     /// Makes a writer of frames with lengths in `range` that are written as `prefix`.
     pub fn with_prefix(to: W, prefix: Prefix, range: impl RangeBounds<usize>) -> Self {
-        FrameWriter { to, prefix: prefix.inner(), range: RangeCfg::new(range), unsent: VecDeque::new(), is_broken: false }
+        FrameWriter {
+            to,
+            prefix: prefix.inner(),
+            range: RangeCfg::new(range),
+            unsent: VecDeque::new(),
+            is_broken: false,
+        }
     }
 
-    /// Puts a frame of this body after those that aren't sent yet; nothing is written. Fails with `Error::InvalidLength` if the
-    /// length is outside the range, or can't be written as the prefix; then nothing is put. It allocates space for the list of
-    /// frames alone.
+    /// Puts a frame of this body after those that aren't sent yet; nothing is written. Fails with
+    /// `Error::InvalidLength` if the length is outside the range, or can't be written as the prefix; then nothing is
+    /// put. It allocates space for the list of frames alone.
     pub fn put(&mut self, body: impl Into<IoBufs>) -> Result<(), Error> {
         let body = body.into();
         let head = self.prefix.head_within(body.len(), &self.range).ok_or(Error::InvalidLength(body.len()))?;
@@ -291,11 +302,13 @@ impl<W> FrameWriter<W> {
 }
 
 impl<W: Write> FrameWriter<W> {
-    /// Writes what was put, by as many vectored writes as the writer needs, and flushes the writer. After an error no byte is
-    /// lost or written twice, and `send` may be called again. Fails with `ErrorKind::WriteZero` if the writer takes no byte, and
-    /// with `ErrorKind::Other` if it says that it took more than it was given: then it is given the same again.
+    /// Writes what was put, by as many vectored writes as the writer needs, and flushes the writer. After an error no
+    /// byte is lost or written twice, and `send` may be called again. Fails with `ErrorKind::WriteZero` if the writer
+    /// takes no byte, and with `ErrorKind::Other` if it says that it took more than it was given: then it is given the
+    /// same again.
     ///
-    /// If the `Drop` of a body's owner panics, its bytes were sent. Then nothing more is written, and each call returns an error.
+    /// If the `Drop` of a body's owner panics, its bytes were sent. Then nothing more is written, and each call returns
+    /// an error.
     pub fn send(&mut self) -> io::Result<()> {
         if self.is_broken {
             return Err(io::Error::other("an owner of sent bytes panicked as it was dropped"));

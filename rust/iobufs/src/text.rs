@@ -192,9 +192,9 @@ impl IoBufs {
         self.chunks().map(IoSlice::new).collect()
     }
 
-    /// Writes all bytes by as many vectored writes as the writer needs, each of up to 64 chunks, and drops them as they are taken.
-    /// After an error the bytes that weren't taken are left. Fails with `ErrorKind::WriteZero` if the writer takes no byte, and with
-    /// `ErrorKind::Other` if it says that it took more than it was given.
+    /// Writes all bytes by as many vectored writes as the writer needs, each of up to 64 chunks, and drops them as they
+    /// are taken. After an error the bytes that weren't taken are left. Fails with `ErrorKind::WriteZero` if the writer
+    /// takes no byte, and with `ErrorKind::Other` if it says that it took more than it was given.
     pub fn write_to(&mut self, to: &mut (impl Write + ?Sized)) -> io::Result<()> {
         while !self.is_empty() {
             let (chunks, count) = self.slices::<BATCH>();
@@ -280,8 +280,10 @@ macro_rules! of_one_chunk {
     )*};
 }
 
-of_one_chunk! { [] IoBufMut, [] Vec<u8>, [] Box<[u8]>, [] String, [] Bytes, [] BytesMut, [] &'static [u8], [] &'static str,
-[const N: usize] &'static [u8; N] }
+of_one_chunk! {
+    [] IoBufMut, [] Vec<u8>, [] Box<[u8]>, [] String, [] Bytes, [] BytesMut, [] &'static [u8], [] &'static str,
+    [const N: usize] &'static [u8; N]
+}
 
 /// The bytes, with a copy of several chunks.
 impl From<IoBufs> for Vec<u8> {

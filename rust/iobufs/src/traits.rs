@@ -1,4 +1,5 @@
-//! The traits of the crate `bytes`, and conversions from and to `Bytes` and `BytesMut`, which copy nothing that is shared.
+//! The traits of the crate `bytes`, and conversions from and to `Bytes` and `BytesMut`, which copy nothing that is
+//! shared.
 use crate::kit::bytes as kit;
 use crate::proved::iobufs_core as inner;
 use crate::{Builder, IoBuf, IoBufMut, IoBufs, IoBufsMut};

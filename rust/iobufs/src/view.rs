@@ -3,9 +3,9 @@
 use crate::IoBufMut;
 use crate::calls::{bounds, derefs, equals_bytes, gets, outside, reads, shown};
 use crate::error::{AllocError, made, shared, tried};
+use crate::kit::{self, Clone as _, Global};
 use crate::proved::iobufs_core::{self as inner, codec as core};
 use crate::traits::vec_of;
-use crate::kit::{self, Clone as _, Global};
 use bytes::Bytes;
 use std::borrow::Borrow;
 use std::cmp::Ordering;
@@ -35,8 +35,8 @@ impl IoBuf {
         Self::from(bytes)
     }
 
-    /// Makes a view of the bytes of `owner`, which aren't copied. They live until the last buffer made of it is dropped, on whatever
-    /// thread that is. `as_ref` is called once.
+    /// Makes a view of the bytes of `owner`, which aren't copied. They live until the last buffer made of it is
+    /// dropped, on whatever thread that is. `as_ref` is called once.
     pub fn from_owner<T: AsRef<[u8]> + Send + Sync + 'static>(owner: T) -> Self {
         Self::from(Bytes::from_owner(owner))
     }
@@ -80,7 +80,8 @@ impl IoBuf {
         }
     }
 
-    /// Returns the view of some of its bytes, in the same storage. Panics if `subset` isn't a part of what `as_ref` returns.
+    /// Returns the view of some of its bytes, in the same storage. Panics if `subset` isn't a part of what `as_ref`
+    /// returns.
     #[track_caller]
     pub fn slice_ref(&self, subset: &[u8]) -> Self {
         if subset.is_empty() {
@@ -116,8 +117,8 @@ impl IoBuf {
         *self = Self::default();
     }
 
-    /// Recovers the bytes as a buffer to write, with the spare capacity after them, if no other view shares their storage. Bytes of
-    /// an owner are not recovered.
+    /// Recovers the bytes as a buffer to write, with the spare capacity after them, if no other view shares their
+    /// storage. Bytes of an owner are not recovered.
     #[inline]
     pub fn try_into_mut(self) -> Result<IoBufMut, Self> {
         self.0.try_into_mut(Global).map(IoBufMut).map_err(IoBuf)

@@ -1,5 +1,5 @@
-//! `Buf` and `BufMut` of the crate `bytes`: each call of a buffer is compared with the same call of a slice, whose traits are that
-//! crate's, for each way that a buffer is made, and each length.
+//! `Buf` and `BufMut` of the crate `bytes`: each call of a buffer is compared with the same call of a slice, whose
+//! traits are that crate's, for each way that a buffer is made, and each length.
 use bytes::{Buf, BufMut, Bytes};
 use iobufs::{Builder, IoBuf, IoBufMut, IoBufs, IoBufsMut};
 use std::fmt::Debug;
@@ -27,7 +27,13 @@ fn pattern(n: usize) -> Vec<u8> {
 /// The result of a call, printed; an error if it panics. Panics of these tests' calls aren't printed.
 fn outcome<R: Debug>(call: impl FnOnce() -> R) -> Result<String, ()> {
     static QUIET: Once = Once::new();
-    QUIET.call_once(|| std::panic::set_hook(Box::new(|panic| if panic.location().is_none_or(|at| at.file() == file!()) { eprintln!("{panic}") })));
+    QUIET.call_once(|| {
+        std::panic::set_hook(Box::new(|panic| {
+            if panic.location().is_none_or(|at| at.file() == file!()) {
+                eprintln!("{panic}")
+            }
+        }))
+    });
     catch_unwind(AssertUnwindSafe(call)).map(|result| format!("{result:?}")).map_err(drop)
 }
 
@@ -73,7 +79,11 @@ const MAKES: [Make; 27] = [
     ("chunks of one", |bytes| Box::new(cut(bytes, 1))),
     ("chunks of three", |bytes| Box::new(cut(bytes, 3))),
     ("chunks of seven", |bytes| Box::new(cut(bytes, 7))),
-    ("chunks and empty ones", |bytes| Box::new(cut(bytes, 5).chunks().flat_map(|it| [IoBuf::copy_from_slice(it), IoBuf::default()]).collect::<IoBufs>())),
+    ("chunks and empty ones", |bytes| {
+        Box::new(
+            cut(bytes, 5).chunks().flat_map(|it| [IoBuf::copy_from_slice(it), IoBuf::default()]).collect::<IoBufs>(),
+        )
+    }),
     ("advanced chunks", |bytes| advanced(cut(&after_two(bytes), 4))),
     ("a slice of chunks", |bytes| Box::new(cut(&[b"abc", bytes, b"de"].concat(), 4).slice(3..3 + bytes.len()))),
     ("the rest of chunks", |bytes| Box::new((cut(&after_two(bytes), 4), ()).0.split_off_two())),
@@ -204,11 +214,20 @@ fn chunks_of_each_reader() {
                 let mut list = vec![IoSlice::new(b"unused"); most];
                 let filled = buf.chunks_vectored(&mut list);
                 let found: Vec<u8> = list[..filled].iter().flat_map(|slice| slice.to_vec()).collect();
-                assert!(list[filled..].iter().all(|slice| **slice == *b"unused") && list[..filled].iter().all(|slice| !slice.is_empty()));
-                assert!(bytes[at..].starts_with(&found) && (most < 100 || found == bytes[at..]), "{name}, {n} bytes from {at}");
+                assert!(
+                    list[filled..].iter().all(|slice| **slice == *b"unused")
+                        && list[..filled].iter().all(|slice| !slice.is_empty())
+                );
+                assert!(
+                    bytes[at..].starts_with(&found) && (most < 100 || found == bytes[at..]),
+                    "{name}, {n} bytes from {at}"
+                );
                 assert_eq!(filled == 0, most == 0 || at == n, "{name}, {n} bytes from {at}");
             }
-            assert!(bytes[at..].starts_with(buf.chunk()) && buf.chunk().is_empty() == (at == n), "{name}, {n} bytes from {at}");
+            assert!(
+                bytes[at..].starts_with(buf.chunk()) && buf.chunk().is_empty() == (at == n),
+                "{name}, {n} bytes from {at}"
+            );
             assert_eq!((buf.remaining(), buf.has_remaining()), (n - at, at < n), "{name}, {n} bytes from {at}");
         }
     }
@@ -265,7 +284,9 @@ const MAKES_MUT: [MakeMut; 10] = [
     }),
     ("one buffer", |n| Box::new(IoBufsMut::from(IoBufMut::with_capacity(n)))),
     ("buffers of one", |n| Box::new((0..n).map(|_| IoBufMut::with_capacity(1)).collect::<IoBufsMut>())),
-    ("buffers of three", |n| Box::new((0..n).step_by(3).map(|at| IoBufMut::with_capacity((n - at).min(3))).collect::<IoBufsMut>())),
+    ("buffers of three", |n| {
+        Box::new((0..n).step_by(3).map(|at| IoBufMut::with_capacity((n - at).min(3))).collect::<IoBufsMut>())
+    }),
     ("drained buffers", |n| {
         let mut buf: IoBufsMut = (0..=n).map(|_| IoBufMut::with_capacity(1)).collect();
         buf.put_slice(b"a");
@@ -299,7 +320,8 @@ const PUTS: &[Put] = puts! {
     put_u32(0x1234_5678); put_u32_le(0x1234_5678); put_u32_ne(0x1234_5678); put_i32(-2); put_i32_le(-2); put_i32_ne(-2);
     put_u64(WORD); put_u64_le(WORD); put_u64_ne(WORD); put_i64(-2); put_i64_le(-2); put_i64_ne(-2);
     put_u128(LONG); put_u128_le(LONG); put_u128_ne(LONG); put_i128(-2); put_i128_le(-2); put_i128_ne(-2);
-    put_uint(WORD, 0); put_uint(WORD, 3); put_uint_le(WORD, 5); put_uint_ne(WORD, 7); put_uint(WORD, 8); put_uint(WORD, 9);
+    put_uint(WORD, 0); put_uint(WORD, 3); put_uint_le(WORD, 5); put_uint_ne(WORD, 7); put_uint(WORD, 8);
+    put_uint(WORD, 9);
     put_int(-5, 1); put_int(-5, 3); put_int_le(-5, 5); put_int_ne(-5, 7); put_int_le(-5, 8); put_int_le(-5, 9);
     put_f32(1.5); put_f32_le(1.5); put_f32_ne(1.5); put_f64(-2.5); put_f64_le(-2.5); put_f64_ne(-2.5);
     put_slice(b""); put_slice(b"hello"); put_slice(&[7; 20]);
@@ -358,7 +380,11 @@ fn each_call_writes_as_of_a_slice() {
             // After a panic a part may be written, as of a slice.
             if wanted.is_ok() {
                 let left = theirs.len();
-                assert_eq!((ours.remaining_mut(), ours.has_remaining_mut()), (left, left > 0), "{call} for {n} bytes, {name}");
+                assert_eq!(
+                    (ours.remaining_mut(), ours.has_remaining_mut()),
+                    (left, left > 0),
+                    "{call} for {n} bytes, {name}"
+                );
                 assert_eq!(ours.written(), bytes[..n - left], "{call} for {n} bytes, {name}");
             }
         }
@@ -410,8 +436,8 @@ impl Buf for Source {
     }
 }
 
-// A source is never believed: bytes that don't fit aren't put, and those before a panic are. (`&mut dyn BufMut` puts by the crate's
-// own loop over `chunk_mut`.)
+// A source is never believed: bytes that don't fit aren't put, and those before a panic are. (`&mut dyn BufMut` puts by
+// the crate's own loop over `chunk_mut`.)
 #[test]
 fn sources_that_panic_or_lie() {
     type PutAll = fn(&mut dyn Written, Source);

@@ -76,6 +76,11 @@ fn owners_of_many_chunks() {
 fn owners_of_frames() {
     let (mut frames, view) = (Frames::default(), IoBuf::from_owner(vec![1; 2 * CHUNK]));
     (0..CHUNKS).for_each(|_| frames.feed(view.clone()));
-    assert_eq!(allocated(|| for _ in 0..1000 { frames.next(..).unwrap().unwrap(); }), 0);
+    assert_eq!(
+        allocated(|| for _ in 0..1000 {
+            frames.next(..).unwrap().unwrap();
+        }),
+        0
+    );
     assert_eq!((frames.owners(), frames.len()), (CHUNKS - 166, 2 * CHUNK * CHUNKS - 2000));
 }

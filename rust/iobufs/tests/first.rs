@@ -1,4 +1,5 @@
-//! The first things that a user of `Bytes` tries: conversions, comparisons, iterators, `Debug`, and values that are read back.
+//! The first things that a user of `Bytes` tries: conversions, comparisons, iterators, `Debug`, and values that are
+//! read back.
 use iobufs::codec::{Decode, Encode, EncodeExt, RangeCfg, Read};
 use iobufs::{Error, IoBuf, IoBufMut, IoBufs, IoBufsMut};
 use std::fmt::Debug;
@@ -28,8 +29,10 @@ fn buffers_equal_bytes_and_each_other() {
     let bufs: IoBufs = ["a", "b"].into_iter().collect();
     let (text, list) = (String::from("ab"), vec![b'a', b'b']);
     let (short, shorter) = (IoBuf::from("a"), IoBufs::from("a"));
-    let with_bytes = [view == "ab", view == *"ab", view == text, view == list, view == *b"ab", bufs == "ab", part == "ab"];
-    let of_bytes = ["ab" == view, *"ab" == view, text == view, list == view, *b"ab" == view, "ab" == bufs, b"ab" == part];
+    let with_bytes =
+        [view == "ab", view == *"ab", view == text, view == list, view == *b"ab", bufs == "ab", part == "ab"];
+    let of_bytes =
+        ["ab" == view, *"ab" == view, text == view, list == view, *b"ab" == view, "ab" == bufs, b"ab" == part];
     let with_each_other = [view == part, part == view, view == bufs, bufs == view, part == bufs, bufs == part];
     assert_eq!((with_bytes, of_bytes, with_each_other), ([true; 7], [true; 7], [true; 6]));
     let others = [view == "ac", view == shorter, bufs == "ba", bufs == short, part == shorter];
@@ -54,9 +57,15 @@ fn debug_shows_bytes() {
     }
     let all: Vec<u8> = (0..=255).collect();
     for bytes in all.chunks(64) {
-        assert_eq!(format!("{:?}", IoBuf::copy_from_slice(bytes)), format!("{:?}", bytes::Bytes::copy_from_slice(bytes)));
+        assert_eq!(
+            format!("{:?}", IoBuf::copy_from_slice(bytes)),
+            format!("{:?}", bytes::Bytes::copy_from_slice(bytes))
+        );
     }
-    assert_eq!((format!("{bufs:x}"), format!("{parts:X}"), format!("{:X}", IoBuf::from("\u{e9}"))), ("61220ac3a9".into(), "7879".into(), "C3A9".into()));
+    assert_eq!(
+        (format!("{bufs:x}"), format!("{parts:X}"), format!("{:X}", IoBuf::from("\u{e9}"))),
+        ("61220ac3a9".into(), "7879".into(), "C3A9".into())
+    );
 }
 
 #[test]
@@ -204,25 +213,13 @@ fn bytes_of_the_same_memory() {
 fn bytes_that_are_no_value() {
     let any = RangeCfg::from(..);
     assert_eq!(bool::decode_cfg(IoBuf::from(vec![2]), &()), Err(Error::InvalidBool));
-    assert_eq!(
-        Option::<u8>::decode_cfg(IoBuf::from(vec![2, 0]), &()),
-        Err(Error::InvalidBool)
-    );
-    assert_eq!(
-        String::decode_cfg(IoBuf::from(vec![1, 255]), &any),
-        Err(Error::Invalid("String", "not UTF-8"))
-    );
+    assert_eq!(Option::<u8>::decode_cfg(IoBuf::from(vec![2, 0]), &()), Err(Error::InvalidBool));
+    assert_eq!(String::decode_cfg(IoBuf::from(vec![1, 255]), &any), Err(Error::Invalid("String", "not UTF-8")));
     assert_eq!(
         Vec::<u8>::decode_cfg(IoBuf::from(vec![3, 1]), &(RangeCfg::from(..3), ())),
         Err(Error::InvalidLength(3))
     );
-    assert_eq!(
-        Vec::<u8>::decode_cfg(IoBuf::from(vec![3, 1]), &(any, ())),
-        Err(Error::EndOfBuffer)
-    );
-    assert_eq!(
-        <(u8, u8)>::decode_cfg(IoBuf::from(vec![1, 2, 3]), &((), ())),
-        Err(Error::ExtraData(1))
-    );
+    assert_eq!(Vec::<u8>::decode_cfg(IoBuf::from(vec![3, 1]), &(any, ())), Err(Error::EndOfBuffer));
+    assert_eq!(<(u8, u8)>::decode_cfg(IoBuf::from(vec![1, 2, 3]), &((), ())), Err(Error::ExtraData(1)));
     assert_eq!(Error::InvalidEnum(9).to_string(), "the byte 9 is no variant");
 }

@@ -1,4 +1,5 @@
-//! How much memory readers and writers of frames hold. `malloc` is counted, which the library and Rust's collections call.
+//! How much memory readers and writers of frames hold. `malloc` is counted, which the library and Rust's collections
+//! call.
 use iobufs::{FrameReader, FrameWriter, IoBuf, IoBufs};
 use std::cell::Cell;
 use std::ffi::c_void;
@@ -57,7 +58,8 @@ struct Source<'a> {
     at: usize,
     count: usize,
     most: usize,
-    /// How many bytes were read, how many of those are in bodies that were dropped or in lengths, and how many were held.
+    /// How many bytes were read, how many of those are in bodies that were dropped or in lengths, and how many were
+    /// held.
     came: usize,
     gone: &'a Cell<usize>,
     held: usize,
@@ -86,7 +88,8 @@ impl Read for Source<'_> {
     }
 }
 
-/// A name, how many frames there are, how many bytes a body has, how many bytes are read at a time, and whether bodies are kept.
+/// A name, how many frames there are, how many bytes a body has, how many bytes are read at a time, and whether bodies
+/// are kept.
 const READS: [(&str, usize, usize, usize, bool); 8] = [
     ("a byte at a time", 20_000, 64, 1, false),
     ("20,000 bytes, a byte at a time", 1, 20_000, 1, true),

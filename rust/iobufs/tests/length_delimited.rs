@@ -11,7 +11,10 @@ struct From(Turns<&'static [u8]>);
 impl Read for From {
     fn read(&mut self, to: &mut [u8]) -> io::Result<usize> {
         match self.0.pop_front() {
-            Some(Some(bytes)) => Ok({ to[..bytes.len()].copy_from_slice(bytes); bytes.len() }),
+            Some(Some(bytes)) => Ok({
+                to[..bytes.len()].copy_from_slice(bytes);
+                bytes.len()
+            }),
             Some(None) => Err(ErrorKind::WouldBlock.into()),
             None => Ok(0),
         }
@@ -57,11 +60,31 @@ type Reading = (Prefix, usize, &'static [Option<&'static [u8]>], &'static [Next]
 const READINGS: &[Reading] = &[
     (Prefix::U32Be, 99, &[], &[End]),
     (Prefix::U32Be, 99, &[Some(b"\0\0\0\x09abcdefghi")], &[Frame(ONE), End]),
-    (Prefix::U32Be, 99, &[Some(b"\0\0\0\x09abcdefghi\0\0\0\x03123\0\0\0\x0bhello world")], &[Frame(ONE), Frame(b"123"), Frame(b"hello world"), End]),
-    (Prefix::U32Be, 99, &[Some(b"\0\0\0\x09abcdefghi"), Some(b"\0\0\0\x03123"), Some(b"\0\0\0\x0bhello world")], &[Frame(ONE), Frame(b"123"), Frame(b"hello world"), End]),
+    (
+        Prefix::U32Be,
+        99,
+        &[Some(b"\0\0\0\x09abcdefghi\0\0\0\x03123\0\0\0\x0bhello world")],
+        &[Frame(ONE), Frame(b"123"), Frame(b"hello world"), End],
+    ),
+    (
+        Prefix::U32Be,
+        99,
+        &[Some(b"\0\0\0\x09abcdefghi"), Some(b"\0\0\0\x03123"), Some(b"\0\0\0\x0bhello world")],
+        &[Frame(ONE), Frame(b"123"), Frame(b"hello world"), End],
+    ),
     (Prefix::U32Be, 99, &[Some(b"\0\0"), Some(b"\0\x09abc"), Some(b"defghi")], &[Frame(ONE), End]),
-    (Prefix::U32Be, 99, &[Some(b"\0\0"), Some(b"\0\x09abc"), Some(b"defghi"), Some(b"\0\0\0\x0312"), Some(b"3\0\0\0\x0bhello world")], &[Frame(ONE), Frame(b"123"), Frame(b"hello world"), End]),
-    (Prefix::U32Be, 99, &[Some(b"\0\0"), None, Some(b"\0\x09abc"), None, Some(b"defghi"), None], &[Wait, Wait, Frame(ONE), Wait, End]),
+    (
+        Prefix::U32Be,
+        99,
+        &[Some(b"\0\0"), Some(b"\0\x09abc"), Some(b"defghi"), Some(b"\0\0\0\x0312"), Some(b"3\0\0\0\x0bhello world")],
+        &[Frame(ONE), Frame(b"123"), Frame(b"hello world"), End],
+    ),
+    (
+        Prefix::U32Be,
+        99,
+        &[Some(b"\0\0"), None, Some(b"\0\x09abc"), None, Some(b"defghi"), None],
+        &[Wait, Wait, Frame(ONE), Wait, End],
+    ),
     (Prefix::U32Be, 99, &[Some(b"\0\0"), None], &[Wait, Cut]),
     (Prefix::U32Be, 99, &[None, Some(b"\0\0"), None], &[Wait, Wait, Cut]),
     (Prefix::U32Be, 99, &[Some(b"\0\0\0\x09ab"), None, Some(b"cd"), None], &[Wait, Wait, Cut]),
@@ -100,8 +123,18 @@ const WRITINGS: &[Writing] = &[
     (Prefix::U32Be, &[&[]], &[], b"\0\0\0\0"),
     (Prefix::U32Be, &[&["abcdefghi"]], &[], b"\0\0\0\x09abcdefghi"),
     (Prefix::U32Be, &[&["abc", "def", "ghi"]], &[], b"\0\0\0\x09abcdefghi"),
-    (Prefix::U32Be, &[&["abcdefghi"], &["123"], &["hello world"]], &[], b"\0\0\0\x09abcdefghi\0\0\0\x03123\0\0\0\x0bhello world"),
-    (Prefix::U32Be, &[&["abcdefghi"], &["123"]], &[Some(2), None, Some(5), None, None], b"\0\0\0\x09abcdefghi\0\0\0\x03123"),
+    (
+        Prefix::U32Be,
+        &[&["abcdefghi"], &["123"], &["hello world"]],
+        &[],
+        b"\0\0\0\x09abcdefghi\0\0\0\x03123\0\0\0\x0bhello world",
+    ),
+    (
+        Prefix::U32Be,
+        &[&["abcdefghi"], &["123"]],
+        &[Some(2), None, Some(5), None, None],
+        b"\0\0\0\x09abcdefghi\0\0\0\x03123",
+    ),
     (Prefix::U32Le, &[&["abcdefghi"]], &[Some(1), Some(3), Some(2)], b"\x09\0\0\0abcdefghi"),
     (Prefix::U8, &[&["abcdefghi"]], &[], b"\x09abcdefghi"),
     (Prefix::U24Le, &[&["ab"]], &[None], b"\x02\0\0ab"),
@@ -127,7 +160,9 @@ fn frames_are_written() {
 
 #[test]
 fn bodies_that_are_too_long_are_not_put() {
-    for (prefix, most, len) in [(Prefix::U32Be, 5, 6), (Prefix::U8, usize::MAX, 256), (Prefix::U16Le, usize::MAX, 65536)] {
+    for (prefix, most, len) in
+        [(Prefix::U32Be, 5, 6), (Prefix::U8, usize::MAX, 256), (Prefix::U16Le, usize::MAX, 65536)]
+    {
         let mut to = FrameWriter::with_prefix(Vec::new(), prefix, ..=most);
         assert_eq!(to.put(vec![0; len]), Err(Error::InvalidLength(len)));
         assert!(to.is_sent());

@@ -32,7 +32,10 @@ fn one_value_of_an_iobufs() {
     let at = vec.as_ptr();
     let back = Vec::from(IoBufs::from(vec));
     assert_eq!((back.as_ptr(), &back[..]), (at, &b"one"[..]));
-    assert_eq!((Vec::from(text()), Bytes::from(text()), Vec::from(IoBufs::new())), (b"abcdefghi".to_vec(), "abcdefghi".into(), vec![]));
+    assert_eq!(
+        (Vec::from(text()), Bytes::from(text()), Vec::from(IoBufs::new())),
+        (b"abcdefghi".to_vec(), "abcdefghi".into(), vec![])
+    );
     let mut part = IoBufMut::from(vec![1, 2, 3]);
     let at = part.as_mut_ptr().cast_const();
     part.advance(1);
@@ -118,7 +121,11 @@ fn spare_capacity_stays_where_it_is() {
 #[test]
 fn errors_of_short_reads() {
     let mut view = IoBuf::from(b"abc");
-    let errors = [view.try_get_u32().unwrap_err(), view.try_copy_to_slice(&mut [0; 9]).unwrap_err(), text().try_copy_to_slice(&mut [0; 10]).unwrap_err()];
+    let errors = [
+        view.try_get_u32().unwrap_err(),
+        view.try_copy_to_slice(&mut [0; 9]).unwrap_err(),
+        text().try_copy_to_slice(&mut [0; 10]).unwrap_err(),
+    ];
     assert_eq!(errors.map(|error| (error.requested, error.available)), [(4, 3), (9, 3), (10, 9)]);
     assert_eq!((view.try_get_u16(), view.try_get_u8(), view.len()), (Ok(0x6162), Ok(b'c'), 0));
     assert!(catch_unwind(AssertUnwindSafe(|| view.get_u8())).is_err());

@@ -1,6 +1,6 @@
-//! What the original's tests of `IoBuf`, `IoBufMut` and their owners say (commonware-runtime 2026.10.0, `src/iobuf/buf.rs`, `owner.rs`),
-//! as far as a caller sees it: the bytes, the addresses, and who recovers which capacity. A test of an owner's word is one here of who
-//! shares its storage.
+//! What the original's tests of `IoBuf`, `IoBufMut` and their owners say (commonware-runtime 2026.10.0,
+//! `src/iobuf/buf.rs`, `owner.rs`), as far as a caller sees it: the bytes, the addresses, and who recovers which
+//! capacity. A test of an owner's word is one here of who shares its storage.
 use bytes::{Buf, BufMut, Bytes, BytesMut};
 use iobufs::{IoBuf, IoBufMut, IoBufs};
 use std::num::NonZeroUsize;
@@ -46,7 +46,13 @@ fn views_share_and_compare() {
     let long = IoBuf::from(vec![1; 1000]);
     assert_eq!(long.clone().as_ptr(), long.as_ptr());
     let (a, b) = (IoBuf::from(b"first"), IoBuf::from(b"other"));
-    assert!(a == *b"first" && a == b"first" && a == b"first"[..] && a == &b"first"[..] && a == IoBuf::copy_from_slice(b"first"));
+    assert!(
+        a == *b"first"
+            && a == b"first"
+            && a == b"first"[..]
+            && a == &b"first"[..]
+            && a == IoBuf::copy_from_slice(b"first")
+    );
     assert!(a != *b"other" && a != b"other" && a != b"other"[..] && a != b);
     let copy = IoBuf::copy_from_slice(&[5, 4, 3]);
     assert_eq!((copy.len(), copy.remaining(), copy.chunk(), copy.as_ref()), (3, 3, &[5, 4, 3][..], &[5, 4, 3][..]));
@@ -217,7 +223,8 @@ fn views_that_are_not_recovered() {
     assert_eq!(shared.try_into_mut().unwrap(), [4, 5]);
 }
 
-// The bytes and the capacity that a view of 10 bytes in a block of 16 is recovered with, after others of its views are gone.
+// The bytes and the capacity that a view of 10 bytes in a block of 16 is recovered with, after others of its views are
+// gone.
 #[test]
 fn recovery() {
     type Change = fn(IoBuf) -> IoBuf;
@@ -263,7 +270,11 @@ fn writable_of_views() {
     let mut same = IoBufMut::from(part.freeze());
     assert_eq!((same.as_mut_ptr(), &same[..], same.capacity()), (at, &b"data"[..], 9));
     let view = same.freeze();
-    let copies = [IoBufMut::from(view.clone()), IoBufMut::from(IoBuf::from(b"data")), IoBufMut::from(IoBuf::from(Bytes::from_static(b"data")))];
+    let copies = [
+        IoBufMut::from(view.clone()),
+        IoBufMut::from(IoBuf::from(b"data")),
+        IoBufMut::from(IoBuf::from(Bytes::from_static(b"data"))),
+    ];
     for mut copy in copies {
         assert_eq!((&copy[..], copy.capacity()), (&b"data"[..], 4));
         assert_ne!(copy.as_mut_ptr(), at);
@@ -325,7 +336,8 @@ fn conversions_to_views() {
     }
 }
 
-// A writable buffer takes the storage of its source over, if that is the source's alone: the bytes, the capacity, and whether it did.
+// A writable buffer takes the storage of its source over, if that is the source's alone: the bytes, the capacity, and
+// whether it did.
 #[test]
 fn conversions_to_writable() {
     /// The source, and the address of its storage; the other values are kept until the end.
@@ -371,7 +383,11 @@ fn conversions_to_writable() {
     ];
     for (i, (make, bytes, capacity, is_same)) in cases.into_iter().enumerate() {
         let (mut part, at, kept) = make();
-        assert_eq!((part.as_mut_ptr().cast_const() == at, &part[..], part.capacity()), (is_same, bytes, capacity), "{i}");
+        assert_eq!(
+            (part.as_mut_ptr().cast_const() == at, &part[..], part.capacity()),
+            (is_same, bytes, capacity),
+            "{i}"
+        );
         let before = kept.clone();
         part.put_bytes(7, capacity - bytes.len());
         part.as_mut().fill(8);
@@ -398,10 +414,17 @@ fn alignment() {
         let part = other.try_into_mut().unwrap();
         assert_eq!((part.capacity(), part.iter().all(|byte| *byte == 9)), (capacity - 1, true));
         let mut zeros = IoBufMut::zeroed_with_alignment(capacity, align(n));
-        assert_eq!((zeros.as_mut_ptr().addr() % n, &zeros[..], zeros.capacity()), (0, &vec![0; capacity][..], capacity));
+        assert_eq!(
+            (zeros.as_mut_ptr().addr() % n, &zeros[..], zeros.capacity()),
+            (0, &vec![0; capacity][..], capacity)
+        );
     }
     // Without a byte nothing is allocated, so the alignment isn't looked at.
-    for empty in [IoBufMut::with_alignment(0, align(64)), IoBufMut::zeroed_with_alignment(0, align(64)), IoBufMut::with_alignment(0, align(3))] {
+    for empty in [
+        IoBufMut::with_alignment(0, align(64)),
+        IoBufMut::zeroed_with_alignment(0, align(64)),
+        IoBufMut::with_alignment(0, align(3)),
+    ] {
         assert_eq!((empty.len(), empty.capacity()), (0, 0));
     }
 }
@@ -421,7 +444,8 @@ impl Drop for Owner {
     }
 }
 
-// Views of one storage that threads clone, slice, split and drop: an owner goes once, and a block is recovered by who is left.
+// Views of one storage that threads clone, slice, split and drop: an owner goes once, and a block is recovered by who
+// is left.
 #[test]
 fn threads_share_storage() {
     for round in 0..200 {
@@ -431,7 +455,11 @@ fn threads_share_storage() {
             for i in 0..4 {
                 let (owned, native, mut mine) = (&owned, &native, owned.clone());
                 scope.spawn(move || {
-                    let views = if i % 2 == 0 { [owned.clone(), native.clone()] } else { [owned.slice(1..), native.slice(1..31)] };
+                    let views = if i % 2 == 0 {
+                        [owned.clone(), native.clone()]
+                    } else {
+                        [owned.slice(1..), native.slice(1..31)]
+                    };
                     assert_eq!((mine.split_to(2), views[1][3]), (IoBuf::from(b"ow"), 3 + i % 2));
                     drop((Bytes::from(mine), views));
                 });

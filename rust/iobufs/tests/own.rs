@@ -13,21 +13,13 @@ fn bytes(text: &IoBufs) -> Vec<u8> {
 }
 
 fn text() -> IoBufs {
-    IoBufs::from([
-        IoBuf::from(b"abc"),
-        IoBuf::default(),
-        IoBuf::from(b"de"),
-        IoBuf::from(b"fghi"),
-    ])
+    IoBufs::from([IoBuf::from(b"abc"), IoBuf::default(), IoBuf::from(b"de"), IoBuf::from(b"fghi")])
 }
 
 #[test]
 fn texts() {
     let mut t = text();
-    assert_eq!(
-        (t.len(), t.chunk_count(), t.is_single(), t.chunk()),
-        (9, 3, false, &b"abc"[..])
-    );
+    assert_eq!((t.len(), t.chunk_count(), t.is_single(), t.chunk()), (9, 3, false, &b"abc"[..]));
     assert_eq!((t.chunk_at(1), t.chunk_at(3)), (Some(&b"de"[..]), None));
     assert_eq!(format!("{t:?}"), r#"b"abcdefghi""#);
     let same = t.clone();
@@ -101,7 +93,11 @@ fn ranges_of_lengths() {
             part.put_length(n);
             let wanted = if admitted.contains(&n) { Ok(n) } else { Err(Error::InvalidLength(n)) };
             let view = part.freeze();
-            assert_eq!([view.clone().read_length(range), IoBufs::from(view).read_length(range)], [wanted; 2], "{n} in {range:?}");
+            assert_eq!(
+                [view.clone().read_length(range), IoBufs::from(view).read_length(range)],
+                [wanted; 2],
+                "{n} in {range:?}"
+            );
         }
     }
 }
@@ -257,16 +253,9 @@ fn advance_past_the_end() {
 
 #[test]
 fn parts() {
-    let row = [
-        IoBufMut::with_capacity(4),
-        IoBufMut::default(),
-        IoBufMut::with_capacity(2),
-    ];
+    let row = [IoBufMut::with_capacity(4), IoBufMut::default(), IoBufMut::with_capacity(2)];
     let mut parts = IoBufsMut::from(row);
-    assert_eq!(
-        (parts.capacity(), parts.is_single(), parts.remaining_mut()),
-        (6, false, 6)
-    );
+    assert_eq!((parts.capacity(), parts.is_single(), parts.remaining_mut()), (6, false, 6));
     parts.put_slice(b"abc");
     parts.put_u16(0x7879);
     assert_eq!(parts.chunk(), b"abcx");
@@ -326,29 +315,78 @@ fn frames() {
     assert_eq!(frames.len(), 1);
 }
 
-// A name, the prefix, the greatest length, the chunks that are fed, the bodies with `|` after each and then the rest, and
-// why there is no further frame, if more bytes can't make one.
+// A name, the prefix, the greatest length, the chunks that are fed, the bodies with `|` after each and then the rest,
+// and why there is no further frame, if more bytes can't make one.
 type Fed = (&'static str, Prefix, usize, &'static [&'static [u8]], &'static [u8], Option<Error>);
 
 const FED: [Fed; 14] = [
     ("no chunk", Prefix::Varint, 1024, &[], b"", None),
     ("two empty frames", Prefix::Varint, 1024, &[b"\0\0"], b"||", None),
-    ("frames across chunks, and then no length", Prefix::Varint, 1024, &[b"\x02", b"ab\x03", b"c", b"de\x84", b"\x00"], b"ab|cde|\x84\x00", Some(Error::InvalidVarint)),
-    ("the same in one chunk", Prefix::Varint, 1024, &[b"\x02ab\x03cde\x84\x00"], b"ab|cde|\x84\x00", Some(Error::InvalidVarint)),
-    ("a length outside the range", Prefix::Varint, 2, &[b"\x02ab\x03cde\x84\x00"], b"ab|\x03cde\x84\x00", Some(Error::InvalidLength(3))),
+    (
+        "frames across chunks, and then no length",
+        Prefix::Varint,
+        1024,
+        &[b"\x02", b"ab\x03", b"c", b"de\x84", b"\x00"],
+        b"ab|cde|\x84\x00",
+        Some(Error::InvalidVarint),
+    ),
+    (
+        "the same in one chunk",
+        Prefix::Varint,
+        1024,
+        &[b"\x02ab\x03cde\x84\x00"],
+        b"ab|cde|\x84\x00",
+        Some(Error::InvalidVarint),
+    ),
+    (
+        "a length outside the range",
+        Prefix::Varint,
+        2,
+        &[b"\x02ab\x03cde\x84\x00"],
+        b"ab|\x03cde\x84\x00",
+        Some(Error::InvalidLength(3)),
+    ),
     ("a length that goes on", Prefix::Varint, 1024, &[b"\x02a", b"b\x84"], b"ab|\x84", None),
     ("an open frame", Prefix::Varint, 1024, &[b"\x01a\x02b"], b"a|\x02b", None),
     ("an open frame that becomes whole", Prefix::Varint, 1024, &[b"\x01a\x02b", b"c"], b"a|bc|", None),
-    ("a u16 outside the range after a frame", Prefix::U16Be, 2, &[b"\0\x02a", b"b\0\x03", b"cde"], b"ab|\0\x03cde", Some(Error::InvalidLength(3))),
+    (
+        "a u16 outside the range after a frame",
+        Prefix::U16Be,
+        2,
+        &[b"\0\x02a", b"b\0\x03", b"cde"],
+        b"ab|\0\x03cde",
+        Some(Error::InvalidLength(3)),
+    ),
     ("an open u32 after a frame", Prefix::U32Le, 1024, &[b"\x01\0\0\0a\x01\0", b"\0"], b"a|\x01\0\0", None),
-    ("a u16 outside the range after an empty frame", Prefix::U16Be, 2, &[b"\0\0\x02\x01", b"aaa"], b"|\x02\x01aaa", Some(Error::InvalidLength(513))),
-    ("a u16 outside the range, big", Prefix::U16Be, 2, &[b"\x01\x02ab"], b"\x01\x02ab", Some(Error::InvalidLength(258))),
-    ("a u16 outside the range, little", Prefix::U16Le, 2, &[b"\x01\x02ab"], b"\x01\x02ab", Some(Error::InvalidLength(513))),
+    (
+        "a u16 outside the range after an empty frame",
+        Prefix::U16Be,
+        2,
+        &[b"\0\0\x02\x01", b"aaa"],
+        b"|\x02\x01aaa",
+        Some(Error::InvalidLength(513)),
+    ),
+    (
+        "a u16 outside the range, big",
+        Prefix::U16Be,
+        2,
+        &[b"\x01\x02ab"],
+        b"\x01\x02ab",
+        Some(Error::InvalidLength(258)),
+    ),
+    (
+        "a u16 outside the range, little",
+        Prefix::U16Le,
+        2,
+        &[b"\x01\x02ab"],
+        b"\x01\x02ab",
+        Some(Error::InvalidLength(513)),
+    ),
     ("an open u16", Prefix::U16Be, 1024, &[b"\x01\x02ab"], b"\x01\x02ab", None),
 ];
 
-// Takes each frame as soon as it is whole, and compares the bodies, the number of bytes that are left, and the end: another
-// call has the same one.
+// Takes each frame as soon as it is whole, and compares the bodies, the number of bytes that are left, and the end:
+// another call has the same one.
 fn assert_fed(case: Fed, chunks: &[&[u8]]) {
     let (name, prefix, most, _, wanted, end) = case;
     let (mut frames, mut found, mut stop) = (Frames::new(prefix), Vec::new(), None);
@@ -379,7 +417,14 @@ fn frames_of_chunks() {
 #[test]
 fn frames_cut_in_every_way() {
     let cases: [Fed; 8] = [
-        ("frames, and then no length", Prefix::Varint, 1024, &[b"\x02ab\x03cde\x84\x00"], b"ab|cde|\x84\x00", Some(Error::InvalidVarint)),
+        (
+            "frames, and then no length",
+            Prefix::Varint,
+            1024,
+            &[b"\x02ab\x03cde\x84\x00"],
+            b"ab|cde|\x84\x00",
+            Some(Error::InvalidVarint),
+        ),
         ("varints", Prefix::Varint, 1024, &[b"\x02ab\x03cde"], b"ab|cde|", None),
         ("u16, big", Prefix::U16Be, 1024, &[b"\0\x02ab\0\x03cde"], b"ab|cde|", None),
         ("u16, little", Prefix::U16Le, 1024, &[b"\x02\0ab\x03\0cde"], b"ab|cde|", None),
@@ -427,11 +472,7 @@ fn threads() {
             let mut other = view.clone();
             let front = other.split_to(i % 64);
             let part = view.slice(3..60);
-            sum += [&front, &other]
-                .iter()
-                .flat_map(|view| view.as_ref())
-                .map(|byte| usize::from(*byte))
-                .sum::<usize>();
+            sum += [&front, &other].iter().flat_map(|view| view.as_ref()).map(|byte| usize::from(*byte)).sum::<usize>();
             drop(part);
         }
         sum

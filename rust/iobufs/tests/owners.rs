@@ -1,5 +1,6 @@
-//! Memory of other owners: whose bytes a buffer shows, and how long it keeps them. An owner spoils its bytes when it is dropped,
-//! and takes its name out of a list, so each step says just who lives. Each run of other foreign code may panic (`burn`).
+//! Memory of other owners: whose bytes a buffer shows, and how long it keeps them. An owner spoils its bytes when it is
+//! dropped, and takes its name out of a list, so each step says just who lives. Each run of other foreign code may
+//! panic (`burn`).
 use iobufs::codec::{BufsMut, EncodeExt, EncodeSize, Sink, Write};
 use iobufs::{Builder, Frames, IoBuf, IoBufMut, IoBufs};
 use std::cell::Cell;
@@ -31,7 +32,11 @@ fn tried<R>(nth: usize, call: impl FnOnce() -> R) -> Option<R> {
     static QUIET: Once = Once::new();
     QUIET.call_once(|| {
         let usual = take_hook();
-        set_hook(Box::new(move |panic| if !panic.payload().is::<Burnt>() { usual(panic) }));
+        set_hook(Box::new(move |panic| {
+            if !panic.payload().is::<Burnt>() {
+                usual(panic)
+            }
+        }));
     });
     FUSE.set(nth);
     let done = catch_unwind(AssertUnwindSafe(call));
@@ -274,9 +279,15 @@ fn many_owners() {
         (|mut text, n| (text.split_to(n / 3), text).1, |n| n / 3..n),
         (|mut text, n| (text.split_to(2 * n / 3), text).1, |n| 2 * n / 3..n),
         (|mut text, n| (text.truncate(n - 2), text.advance(3), text).2, |n| 3..n - 2),
-        (|mut text, _| (text.prepend(b"-".into()), text.append(b"-".into()), text.advance(1), text.clone()).3.slice(..), |n| 0..n + 1),
+        (
+            |mut text, _| {
+                (text.prepend(b"-".into()), text.append(b"-".into()), text.advance(1), text.clone()).3.slice(..)
+            },
+            |n| 0..n + 1,
+        ),
     ];
-    for (count, (call, range)) in [1, 2, 33, 64, 100, 300].into_iter().flat_map(|count| calls.map(|call| (count, call))) {
+    for (count, (call, range)) in [1, 2, 33, 64, 100, 300].into_iter().flat_map(|count| calls.map(|call| (count, call)))
+    {
         let (live, mut builder, mut bytes) = (Live::default(), Builder::new(0), Vec::new());
         for i in 0..count {
             bytes.extend([i as u8; 7]);
@@ -367,7 +378,8 @@ impl Drop for Grenade {
     }
 }
 
-/// An owner whose drop panics inside a call: the bytes are unspecified then. Each chunk's memory lives, and each owner goes in the end.
+/// An owner whose drop panics inside a call: the bytes are unspecified then. Each chunk's memory lives, and each owner
+/// goes in the end.
 #[test]
 fn an_owner_whose_drop_panics() {
     type Call = fn(&mut IoBufs);
@@ -382,7 +394,12 @@ fn an_owner_whose_drop_panics() {
         |text| text.clear(),
         |text| assert!(text.get_u64() > 0),
     ];
-    let then: [Call; 4] = [|text| text.append(b"back".into()), |text| text.prepend(b"new".into()), |text| text.advance(text.len()), |text| drop(text.clone())];
+    let then: [Call; 4] = [
+        |text| text.append(b"back".into()),
+        |text| text.prepend(b"new".into()),
+        |text| text.advance(text.len()),
+        |text| drop(text.clone()),
+    ];
     for (call, next) in calls.into_iter().flat_map(|call| then.map(|next| (call, next))) {
         let live = Live::default();
         let lent = |name, bytes| IoBuf::from_owner(Grenade(live.owner(name, bytes)));
@@ -559,7 +576,8 @@ impl World {
             6 => {
                 let (view, bytes, _) = self.views.swap_remove(i);
                 let (other, as_vec) = (view.clone(), at % 2 == 0);
-                let copy = self.tried(|_| (drop(other), if as_vec { Vec::from(view) } else { IoBufMut::from(view).to_vec() }).1);
+                let copy = self
+                    .tried(|_| (drop(other), if as_vec { Vec::from(view) } else { IoBufMut::from(view).to_vec() }).1);
                 assert!(copy.is_none_or(|copy| copy == bytes));
             }
             7 => {
@@ -730,7 +748,12 @@ impl World {
             let view = self.views.swap_remove(i);
             self.tried(|_| drop(view));
         }
-        while let Some(i) = self.texts.iter().position(|(_, bytes)| bytes.len() > 40 * self.many).or((self.texts.len() > 6).then_some(text)) {
+        while let Some(i) = self
+            .texts
+            .iter()
+            .position(|(_, bytes)| bytes.len() > 40 * self.many)
+            .or((self.texts.len() > 6).then_some(text))
+        {
             let text = self.texts.swap_remove(i);
             self.tried(|_| drop(text));
         }
@@ -770,7 +793,8 @@ impl World {
     }
 }
 
-/// `ROUNDS` are how many, 200 unless it is set. In every other round foreign code panics; in some, an `IoBufs` has over 100 owners.
+/// `ROUNDS` are how many, 200 unless it is set. In every other round foreign code panics; in some, an `IoBufs` has over
+/// 100 owners.
 #[test]
 fn random_calls() {
     let rounds = std::env::var("ROUNDS").map_or(200, |n| n.parse().unwrap());
@@ -778,7 +802,17 @@ fn random_calls() {
         let live = Live::default();
         let (frames, texts, panics) = (Frames::default(), vec![Default::default()], seed % 2 == 1);
         let (many, steps) = if seed % 50 < 2 { (200, 100) } else { (5, 300) };
-        let mut world = World { random: seed, many, panics, live: live.clone(), named: 0, views: vec![], texts, frames, fed: vec![] };
+        let mut world = World {
+            random: seed,
+            many,
+            panics,
+            live: live.clone(),
+            named: 0,
+            views: vec![],
+            texts,
+            frames,
+            fed: vec![],
+        };
         for _ in 0..steps {
             world.step();
             world.check();

@@ -57,8 +57,8 @@ fn long_texts() {
     }
 }
 
-/// Five thousand buffers with a number each, of which the first are read. Every other one, from the first on, has two bytes to
-/// spare.
+/// Five thousand buffers with a number each, of which the first are read. Every other one, from the first on, has two
+/// bytes to spare.
 fn numbered(read: u16) -> IoBufsMut {
     let numbers = (0..5000u16).map(|i| {
         let mut part = IoBufMut::with_capacity(if i % 2 == 0 { 4 } else { 2 });
@@ -109,11 +109,7 @@ fn ranges_without_bytes() {
         assert!(std::panic::catch_unwind(move || far.slice((Excluded(at), Excluded(at)))).is_err());
     }
     for far in [5001, FAR, usize::MAX] {
-        for range in [
-            (Included(0), Excluded(far)),
-            (Included(far), Unbounded),
-            (Excluded(far), Included(far)),
-        ] {
+        for range in [(Included(0), Excluded(far)), (Included(far), Unbounded), (Excluded(far), Included(far))] {
             let view = view.clone();
             assert!(std::panic::catch_unwind(move || view.slice(range)).is_err());
         }

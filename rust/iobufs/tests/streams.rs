@@ -16,8 +16,8 @@ enum Fault {
     Lies,
 }
 
-/// A stream of at most `most` bytes a call, and of a fault in its call `at`, counted from 1. It records its calls: the bytes that each
-/// moves, `x` for a fault and `|` for a flush.
+/// A stream of at most `most` bytes a call, and of a fault in its call `at`, counted from 1. It records its calls: the
+/// bytes that each moves, `x` for a fault and `|` for a flush.
 #[derive(Default)]
 struct Narrow {
     bytes: Vec<u8>,
@@ -134,7 +134,8 @@ fn frames_are_read() {
     }
 }
 
-// Each read has a fault in turn. After it the frames are those that they are without one: no byte is lost or comes twice.
+// Each read has a fault in turn. After it the frames are those that they are without one: no byte is lost or comes
+// twice.
 #[test]
 fn reads_with_faults() {
     for fault in [Fault::Interrupted, Fault::Fails, Fault::Panics, Fault::Lies] {
@@ -167,8 +168,18 @@ fn errors_of_reads() {
     type Case = (Narrow, fn(&FrameError) -> bool, &'static str, ErrorKind);
     let cases: [Case; 4] = [
         (Narrow::with(b"\x03abc", 2, 2, Fault::Fails), |it| matches!(it, FrameError::Io(_)), "fails", ErrorKind::Other),
-        (Narrow::new(b"\x09", 2), |it| matches!(it, FrameError::Bad(Error::InvalidLength(9))), "the length 9 is outside the range", ErrorKind::InvalidData),
-        (Narrow::new(b"\x80\0", 2), |it| matches!(it, FrameError::Bad(Error::InvalidVarint)), "the bytes are no varint", ErrorKind::InvalidData),
+        (
+            Narrow::new(b"\x09", 2),
+            |it| matches!(it, FrameError::Bad(Error::InvalidLength(9))),
+            "the length 9 is outside the range",
+            ErrorKind::InvalidData,
+        ),
+        (
+            Narrow::new(b"\x80\0", 2),
+            |it| matches!(it, FrameError::Bad(Error::InvalidVarint)),
+            "the bytes are no varint",
+            ErrorKind::InvalidData,
+        ),
         (Narrow::new(b"\x08", 2), |it| matches!(it, FrameError::Cut), "", ErrorKind::UnexpectedEof),
     ];
     for (stream, is, source, kind) in cases {
@@ -266,7 +277,8 @@ fn frames_are_sent() {
     assert_eq!(to.into_inner().calls(), "|");
 }
 
-// Each call has a fault in turn, the flush too. The next `send` writes the rest and flushes: no byte is lost or written twice.
+// Each call has a fault in turn, the flush too. The next `send` writes the rest and flushes: no byte is lost or written
+// twice.
 #[test]
 fn writes_with_faults() {
     let ends = |most: usize| SENT.len().div_ceil(most) + 1;
@@ -289,7 +301,11 @@ fn writes_with_faults() {
             assert_eq!(to.bytes, [SENT, b"\x04more"].concat(), "{fault:?} by {most} at {at}");
             let flushed = to.calls.iter().filter(|call| *call == "|").count();
             let again = fault == Fault::Interrupted && !of_flush;
-            assert_eq!((flushed, to.calls.last().unwrap() == "|"), (1 + usize::from(again), true), "{fault:?} by {most} at {at}");
+            assert_eq!(
+                (flushed, to.calls.last().unwrap() == "|"),
+                (1 + usize::from(again), true),
+                "{fault:?} by {most} at {at}"
+            );
         }
     }
 }
@@ -300,7 +316,10 @@ fn writes_that_lie() {
     let mut to = FrameWriter::new(Narrow::with(b"", 100, 1, Fault::Lies), ..);
     put_both(&mut to);
     let error = to.send().unwrap_err();
-    assert_eq!((error.kind(), &error.to_string()[..]), (ErrorKind::Other, "a writer says that it took more than it was given"));
+    assert_eq!(
+        (error.kind(), &error.to_string()[..]),
+        (ErrorKind::Other, "a writer says that it took more than it was given")
+    );
     assert!(!to.is_sent());
     to.send().unwrap();
     assert_eq!(to.into_inner().bytes, SENT);

@@ -28,11 +28,7 @@ fn parts() -> IoBufsMut {
 fn readers() {
     read_by_trait(IoBuf::from(b"abcdefghi"));
     read_by_trait(IoBufMut::from(b"abcdefghi"));
-    read_by_trait(IoBufs::from([
-        IoBuf::from(b"abc"),
-        IoBuf::from(b"d"),
-        IoBuf::from(b"efghi"),
-    ]));
+    read_by_trait(IoBufs::from([IoBuf::from(b"abc"), IoBuf::from(b"d"), IoBuf::from(b"efghi")]));
     let mut row = parts();
     row.put_slice(b"abcdefghi");
     read_by_trait(row);
@@ -96,7 +92,8 @@ fn what_was_written_stays() {
         buf
     }
     // SAFETY: it drops bytes.
-    let cuts: [fn(&mut IoBufMut); 3] = [|part| part.clear(), |part| part.truncate(0), |part| unsafe { part.set_len(0) }];
+    let cuts: [fn(&mut IoBufMut); 3] =
+        [|part| part.clear(), |part| part.truncate(0), |part| unsafe { part.set_len(0) }];
     for cut in cuts {
         let mut part = written(IoBufMut::with_capacity(16));
         cut(&mut part);

@@ -48,7 +48,8 @@ fn bytes_after_a_value() {
     assert_eq!(u32::decode_cfg(text.clone(), &()), Err(Error::ExtraData(1)));
     for n in 0..9 {
         let bytes = IoBuf::copy_from_slice(&[7; 9][..n]);
-        let wanted = [Err(Error::EndOfBuffer), Ok(0x0707), Err(Error::ExtraData(n.saturating_sub(2)))][n.min(3).saturating_sub(1)];
+        let wanted = [Err(Error::EndOfBuffer), Ok(0x0707), Err(Error::ExtraData(n.saturating_sub(2)))]
+            [n.min(3).saturating_sub(1)];
         assert_eq!([u16::decode_cfg(bytes.clone(), &()), u16::decode_cfg(in_bytes(&bytes), &())], [wanted; 2], "{n}");
     }
     let mut parts = IoBufsMut::from([IoBufMut::with_capacity(1), IoBufMut::with_capacity(3)]);
@@ -87,10 +88,7 @@ fn numbers_and_lengths() {
     0x0809_0a0b_0c0d_0e0fu64.write(&mut buf);
     300usize.write(&mut buf);
     assert_eq!(buf, bytes);
-    assert_eq!(
-        (7u32.encode_size(), 127usize.encode_size(), 128usize.encode_size()),
-        (4, 1, 2)
-    );
+    assert_eq!((7u32.encode_size(), 127usize.encode_size(), 128usize.encode_size()), (4, 1, 2));
 }
 
 #[test]
@@ -113,14 +111,8 @@ fn refusals_change_nothing() {
     assert_eq!(u64::read_cfg(&mut text, &()), Err(Error::EndOfBuffer));
     assert_eq!((text.len(), text.try_get_u32().unwrap_err().available), (3, 3));
     let mut text = in_bytes(b"\xac\x02");
-    assert_eq!(
-        usize::read_cfg(&mut text, &(..300).into()),
-        Err(Error::InvalidLength(300))
-    );
-    assert_eq!(
-        IoBuf::read_cfg(&mut text, &(301..).into()),
-        Err(Error::InvalidLength(300))
-    );
+    assert_eq!(usize::read_cfg(&mut text, &(..300).into()), Err(Error::InvalidLength(300)));
+    assert_eq!(IoBuf::read_cfg(&mut text, &(301..).into()), Err(Error::InvalidLength(300)));
     assert_eq!(IoBuf::read_cfg(&mut text, &(..).into()), Err(Error::EndOfBuffer));
     assert_eq!(text.len(), 2);
     let mut view = IoBuf::from(b"\x80\x00");
@@ -295,22 +287,14 @@ impl Read for Shard {
     type Cfg = RangeCfg<usize>;
 
     fn read_cfg(buf: &mut impl Source, range: &Self::Cfg) -> Result<Self, Error> {
-        Ok(Shard {
-            index: u16::read_cfg(buf, &())?,
-            body: IoBuf::read_cfg(buf, range)?,
-            last: u8::read_cfg(buf, &())?,
-        })
+        Ok(Shard { index: u16::read_cfg(buf, &())?, body: IoBuf::read_cfg(buf, range)?, last: u8::read_cfg(buf, &())? })
     }
 }
 
 #[test]
 fn a_view_is_pushed_and_shared() {
     let body = IoBuf::from(vec![5; 200]);
-    let shard = Shard {
-        index: 0x0102,
-        body,
-        last: 9,
-    };
+    let shard = Shard { index: 0x0102, body, last: 9 };
     let mut text = shard.encode_iobufs();
     assert_eq!((text.len(), text.chunk_count()), (205, 3));
     assert_eq!(text.chunk_at(1).unwrap().as_ptr(), shard.body.as_ptr());

@@ -108,8 +108,11 @@ fn frames_are_read_as_by_a_reader() {
 
 #[test]
 fn frames_are_written_as_by_a_writer() {
-    let bodies: [IoBufs; 4] = ["one".into(), ["two", "-", "three"].into_iter().collect(), "".into(), vec![7; 300].into()];
-    for (prefix, most) in [Prefix::Varint, Prefix::U16Be, Prefix::U32Le, Prefix::U24Be].into_iter().flat_map(|it| [(it, 1), (it, 1000)]) {
+    let bodies: [IoBufs; 4] =
+        ["one".into(), ["two", "-", "three"].into_iter().collect(), "".into(), vec![7; 300].into()];
+    for (prefix, most) in
+        [Prefix::Varint, Prefix::U16Be, Prefix::U32Le, Prefix::U24Be].into_iter().flat_map(|it| [(it, 1), (it, 1000)])
+    {
         let mut writer = FrameWriter::with_prefix(Vec::new(), prefix, ..=300);
         let mut framed = FramedWrite::new(Narrow::new(b"", most), FrameCodec::new(prefix, ..=300));
         for body in bodies.clone() {

@@ -1,4 +1,5 @@
-//! The kit's `bytes` over the crate `bytes`. An allocation that fails ends the process, so no call here returns an error.
+//! The kit's `bytes` over the crate `bytes`. An allocation that fails ends the process, so no call here returns an
+//! error.
 #![forbid(unsafe_code)]
 use super::base::{self, AllocError, AllocFailed, Global};
 use super::vec::Vec;
@@ -113,7 +114,8 @@ impl base::Clone for Bytes {
     }
 }
 
-/// Bytes to be written. All of `block` is readable: after the first `len` it has zeros, or bytes that were there before.
+/// Bytes to be written. All of `block` is readable: after the first `len` it has zeros, or bytes that were there
+/// before.
 pub struct BytesMut {
     block: bytes::BytesMut,
     len: usize,
@@ -182,8 +184,8 @@ impl BytesMut {
         Ok(())
     }
 
-    /// Makes space for `more` bytes without allocating, if the front of the block has it and nothing else shares the block.
-    /// Returns whether there is so much space.
+    /// Makes space for `more` bytes without allocating, if the front of the block has it and nothing else shares the
+    /// block. Returns whether there is so much space.
     pub fn try_reclaim(&mut self, more: usize) -> bool {
         self.block.truncate(self.len);
         let is_done = self.block.try_reclaim(more);
