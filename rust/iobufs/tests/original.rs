@@ -50,7 +50,7 @@ fn views_share_and_compare() {
         a == *b"first"
             && a == b"first"
             && a == b"first"[..]
-            && a == &b"first"[..]
+            && PartialEq::<&[u8]>::eq(&a, &&b"first"[..])
             && a == IoBuf::copy_from_slice(b"first")
     );
     assert!(a != *b"other" && a != b"other" && a != b"other"[..] && a != b);
