@@ -65,7 +65,8 @@ pub mod env {
     /// Returns the arguments in order. One that isn't UTF-8 is an error, whose kind is `InvalidData`.
     pub fn args(_: &HostRuntime) -> io::Result<impl Iterator<Item = String>> {
         let words = std::env::args_os().map(|word| word.into_string().map(String));
-        let words: Vec<String> = words.collect::<Result<_, _>>().map_err(|_| io::Error::from(ErrorKind::InvalidData))?;
+        let words: Vec<String> =
+            words.collect::<Result<_, _>>().map_err(|_| io::Error::from(ErrorKind::InvalidData))?;
         Ok(words.into_iter())
     }
 }
