@@ -328,6 +328,14 @@ impl Bytes {
     }
 }
 
+impl Default for Bytes {
+    /// Returns no bytes.
+    #[inline]
+    fn default() -> Bytes {
+        NONE
+    }
+}
+
 impl base::Clone for Bytes {
     /// Shares the bytes.
     #[inline]

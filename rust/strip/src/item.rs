@@ -1,4 +1,6 @@
 //! The rules, by the word that begins what isn't Rust.
+#![forbid(unsafe_code)]
+
 use super::{Fault, File};
 use std::mem;
 

@@ -1,4 +1,5 @@
 //! The tokens of a source.
+#![forbid(unsafe_code)]
 
 /// A word (a name, keyword or number), a literal in quotes, a lifetime, a comment, or a single other character.
 #[derive(Clone, Copy)]
