@@ -4,6 +4,7 @@
 use super::base::{AllocError, AllocFailed, Global};
 use std::alloc::{Layout, alloc};
 use std::ops::Deref;
+use std::process;
 use std::ptr::NonNull;
 use std::sync::atomic::{AtomicUsize, Ordering, fence};
 
@@ -33,14 +34,13 @@ impl<T> Arc<T> {
         Ok(Arc(block))
     }
 
-    /// Returns one more handle. Fails only if there are `isize::MAX` already.
+    /// Returns one more handle. Ends the process if there are more than `isize::MAX`, as std does: an error costs each clone more.
     #[inline]
     pub fn try_clone(this: &Arc<T>) -> Result<Arc<T>, AllocError> {
         let handles = &this.shared().handles;
         // As std's, this doesn't order other reads and writes: a thread that has one handle can make another.
-        if handles.fetch_add(1, Ordering::Relaxed) >= isize::MAX as usize {
-            handles.fetch_sub(1, Ordering::Relaxed);
-            return Err(AllocError);
+        if handles.fetch_add(1, Ordering::Relaxed) > isize::MAX as usize {
+            process::abort();
         }
         Ok(Arc(this.0))
     }
