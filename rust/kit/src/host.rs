@@ -10,10 +10,12 @@ use std::os::fd::{AsFd, BorrowedFd};
 pub struct HostRuntime;
 
 impl HostRuntime {
+    /// Returns the allocator.
     pub fn alloc(&self) -> Global {
         Global
     }
 
+    /// Returns the standard error, which std doesn't buffer.
     pub fn stderr(&self) -> io::Stderr {
         io::stderr()
     }
