@@ -5,7 +5,7 @@ const CRATES: [&str; 2] = ["one", "two"];
 const HEAD: &str = "use crate::kit::prelude::*; ";
 
 /// A source, and what is left of it, but for the import before its first item. `\n` where lines stay empty.
-const LEFT: [(&str, &str); 29] = [
+const LEFT: [(&str, &str); 30] = [
     ("fn f() {\n    g();\n    h();\n}\n", "#[inline] fn f() {\n    g();\n    h();\n}\n"),
     (
         "fn f(n: u8) -> u8\n    requires { n < 9 }\n{\n    n\n}\n",
@@ -14,6 +14,10 @@ const LEFT: [(&str, &str); 29] = [
     (
         "fn f()\n    requires some { a ×\n        b }\n{}\n",
         "#[inline] fn f()\n    // requires some { a ×\n        // b }\n{}\n",
+    ),
+    (
+        "trait T {\n    fn f()\n        requires { a ×\n            b };\n}\n",
+        "trait T {\n    fn f()\n        /* requires { a ×\n            b } */;\n}\n",
     ),
     ("fn f()\n    ensures { a }\n    ensures* b { c {0} }\n{}\n", "#[inline] fn f()\n\n\n{}\n"),
     ("fn f()\n    ensures { codes \"} {\" }\n{}\n", "#[inline] fn f()\n\n{}\n"),
