@@ -240,6 +240,7 @@ impl Bytes {
         }
     }
 
+    /// Returns the number of bytes.
     #[inline]
     pub fn len(&self) -> usize {
         match &self.0 {
@@ -248,6 +249,7 @@ impl Bytes {
         }
     }
 
+    /// Returns whether there are no bytes.
     #[inline]
     pub fn is_empty(&self) -> bool {
         self.len() == 0
@@ -328,6 +330,14 @@ impl Bytes {
     }
 }
 
+impl Default for Bytes {
+    /// Returns no bytes.
+    #[inline]
+    fn default() -> Bytes {
+        NONE
+    }
+}
+
 impl base::Clone for Bytes {
     /// Shares the bytes.
     #[inline]
@@ -372,16 +382,19 @@ impl BytesMut {
         Ok(BytesMut { block: Some(Writable::new(bytes.0)?), len: 0 })
     }
 
+    /// Returns the allocator.
     #[inline]
     pub fn allocator(&self) -> &Global {
         &Global
     }
 
+    /// Returns the number of bytes.
     #[inline]
     pub fn len(&self) -> usize {
         self.len
     }
 
+    /// Returns whether there are no bytes.
     #[inline]
     pub fn is_empty(&self) -> bool {
         self.len == 0

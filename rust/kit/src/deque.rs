@@ -40,16 +40,19 @@ impl<T> VecDeque<T> {
         Vec(self.0.into())
     }
 
+    /// Returns the allocator.
     #[inline]
     pub fn allocator(&self) -> &Global {
         &Global
     }
 
+    /// Returns the number of items.
     #[inline]
     pub fn len(&self) -> usize {
         self.0.len()
     }
 
+    /// Returns whether there are no items.
     #[inline]
     pub fn is_empty(&self) -> bool {
         self.0.is_empty()

@@ -9,7 +9,10 @@ const DIGITS: &[u8; 16] = b"0123456789abcdef";
 #[derive(Debug, PartialEq, Eq)]
 pub enum FromHexError {
     OddLength,
-    InvalidHexCharacter { c: char, index: usize },
+    InvalidHexCharacter {
+        c: char,
+        index: usize,
+    },
     /// The space isn't twice as long as the bytes.
     InvalidStringLength,
     OutOfMemory,

@@ -10,10 +10,12 @@ use std::os::fd::{AsFd, BorrowedFd};
 pub struct HostRuntime;
 
 impl HostRuntime {
+    /// Returns the allocator.
     pub fn alloc(&self) -> Global {
         Global
     }
 
+    /// Returns the standard error, which std doesn't buffer.
     pub fn stderr(&self) -> io::Stderr {
         io::stderr()
     }
@@ -65,7 +67,8 @@ pub mod env {
     /// Returns the arguments in order. One that isn't UTF-8 is an error, whose kind is `InvalidData`.
     pub fn args(_: &HostRuntime) -> io::Result<impl Iterator<Item = String>> {
         let words = std::env::args_os().map(|word| word.into_string().map(String));
-        let words: Vec<String> = words.collect::<Result<_, _>>().map_err(|_| io::Error::from(ErrorKind::InvalidData))?;
+        let words: Vec<String> =
+            words.collect::<Result<_, _>>().map_err(|_| io::Error::from(ErrorKind::InvalidData))?;
         Ok(words.into_iter())
     }
 }

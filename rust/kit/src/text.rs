@@ -23,11 +23,13 @@ impl String {
         Ok(())
     }
 
+    /// Returns the string.
     #[inline]
     pub fn as_str(&self) -> &str {
         &self.0
     }
 
+    /// Returns its bytes.
     #[inline]
     pub fn as_bytes(&self) -> &[u8] {
         self.0.as_bytes()

@@ -24,6 +24,7 @@ impl<T> Vec<T> {
         Ok(Vec(items))
     }
 
+    /// Returns the allocator.
     #[inline]
     pub fn allocator(&self) -> &Global {
         &Global

@@ -1,4 +1,6 @@
 //! The rules, by the word that begins what isn't Rust.
+#![forbid(unsafe_code)]
+
 use super::{Fault, File};
 use std::mem;
 
@@ -145,8 +147,13 @@ impl File<'_> {
             return self.fault(i, "a clause without braces");
         }
         let end = self.after(open)?;
-        let said = &self.source[self.code[i].at..self.code[end - 1].end()];
-        self.replace(i, end, &if self.text(i) == "requires" { commented(said) } else { String::new() });
+        let (said, rest) = self.source[self.code[i].at..].split_at(self.code[end - 1].end() - self.code[i].at);
+        let left = match self.text(i) {
+            "requires" if rest.starts_with('\n') => commented(said),
+            "requires" => format!("/* {said} */"),
+            _ => String::new(),
+        };
+        self.replace(i, end, &left);
         Ok(end)
     }
 

@@ -1,6 +1,7 @@
 //! The tokens of a source.
+#![forbid(unsafe_code)]
 
-/// A word (a name, keyword or number), a literal in quotes, a lifetime, a comment, or a single other character.
+/// A word (a name, keyword or number), a literal in quotes, a comment, or a single other character.
 #[derive(Clone, Copy)]
 pub struct Token<'a> {
     /// The byte at which it begins.
@@ -58,7 +59,6 @@ fn length(rest: &str) -> Option<usize> {
         return Some(rest.len() - text.len() + quoted(text, body.starts_with('"'))?);
     }
     Some(match word(rest) {
-        0 if rest.starts_with('\'') => 1 + word(&rest[1..]),
         0 => rest.chars().next()?.len_utf8(),
         len => len,
     })

@@ -15,6 +15,8 @@
 //! | another function with a body | `#[inline]`, since rustc inlines no other function across crates |
 //!
 //! A comment directly above what goes as an item goes with it. Whatever else isn't Rust is refused, here or by rustc.
+#![forbid(unsafe_code)]
+
 mod item;
 mod lexer;
 

@@ -1,4 +1,6 @@
 //! strip FOLDER: writes the Rust of the proved sources, less their contracts, below a folder, for who wants to read it.
+#![forbid(unsafe_code)]
+
 use std::path::Path;
 
 const CRATES: [&str; 8] =

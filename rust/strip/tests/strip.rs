@@ -5,7 +5,7 @@ const CRATES: [&str; 2] = ["one", "two"];
 const HEAD: &str = "use crate::kit::prelude::*; ";
 
 /// A source, and what is left of it, but for the import before its first item. `\n` where lines stay empty.
-const LEFT: [(&str, &str); 29] = [
+const LEFT: [(&str, &str); 32] = [
     ("fn f() {\n    g();\n    h();\n}\n", "#[inline] fn f() {\n    g();\n    h();\n}\n"),
     (
         "fn f(n: u8) -> u8\n    requires { n < 9 }\n{\n    n\n}\n",
@@ -15,6 +15,12 @@ const LEFT: [(&str, &str); 29] = [
         "fn f()\n    requires some { a ×\n        b }\n{}\n",
         "#[inline] fn f()\n    // requires some { a ×\n        // b }\n{}\n",
     ),
+    (
+        "trait T {\n    fn f()\n        requires { a ×\n            b };\n}\n",
+        "trait T {\n    fn f()\n        /* requires { a ×\n            b } */;\n}\n",
+    ),
+    ("mod a; // Stays.\nghost b = { c };\n", "mod a; // Stays.\n\n"),
+    ("const A: &[u8] = br\"\\\";\nghost b = { c };\n", "const A: &[u8] = br\"\\\";\n\n"),
     ("fn f()\n    ensures { a }\n    ensures* b { c {0} }\n{}\n", "#[inline] fn f()\n\n\n{}\n"),
     ("fn f()\n    ensures { codes \"} {\" }\n{}\n", "#[inline] fn f()\n\n{}\n"),
     (
@@ -102,6 +108,10 @@ fn the_import_stands_where_the_first_item_goes() {
         ("// A file.\nghost use a.{b};\nghost use c;\n\nmod d;\n", format!("// A file.\n{import}\n\n\nmod d;\n")),
         ("//! A crate.\n#![tactic(auto)]\n\nmod d;\n", format!("//! A crate.\n{import}\n\nmod d;\n")),
         ("// A file.\nmod d;\n", format!("// A file.\n{HEAD}mod d;\n")),
+        (
+            "//! A crate.\n//! Its end.\nghost a = { b };\nmod d;\n",
+            format!("//! A crate.\n//! Its end.\n{import}\nmod d;\n"),
+        ),
     ] {
         assert_eq!(rust_of(source, "one", &CRATES).unwrap(), left);
     }
