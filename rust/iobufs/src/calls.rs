@@ -234,19 +234,19 @@ pub(crate) use puts;
 macro_rules! reads {
     () => {
         /// Returns how many bytes are left (`Buf`).
-        #[inline(always)]
+        #[inline]
         pub fn remaining(&self) -> usize {
             self.len()
         }
 
         /// Returns whether bytes are left (`Buf`).
-        #[inline(always)]
+        #[inline]
         pub fn has_remaining(&self) -> bool {
             !self.is_empty()
         }
 
         /// Returns the first chunk of the bytes (`Buf`).
-        #[inline(always)]
+        #[inline]
         pub fn chunk(&self) -> &[u8] {
             core::Buf::chunk(&self.0)
         }
@@ -259,7 +259,7 @@ macro_rules! reads {
         }
 
         /// Fills `dst` with the first bytes, and drops these. Panics if there are fewer (`Buf`).
-        #[inline(always)]
+        #[inline]
         #[track_caller]
         pub fn copy_to_slice(&mut self, dst: &mut [u8]) {
             assert!(self.try_copy_to_slice(dst).is_ok(), "{}", crate::error::SHORT);
@@ -267,7 +267,7 @@ macro_rules! reads {
 
         /// Acts as `copy_to_slice`, if there are enough bytes; else nothing changes, and the error has both lengths
         /// (`Buf`).
-        #[inline(always)]
+        #[inline]
         pub fn try_copy_to_slice(&mut self, dst: &mut [u8]) -> Result<(), crate::TryGetError> {
             core::Buf::try_copy_to_slice(&mut self.0, dst).map_err(crate::error::short)
         }

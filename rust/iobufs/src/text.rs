@@ -97,7 +97,7 @@ impl IoBufs {
     }
 
     /// Returns the bytes of a range, which share their storage. Panics if it isn't within the bytes.
-    #[inline(always)]
+    #[inline]
     #[track_caller]
     pub fn slice(&self, range: impl RangeBounds<usize>) -> Self {
         let (lo, hi) = bounds(range, || self.len());
@@ -157,7 +157,7 @@ impl IoBufs {
     }
 
     /// Takes the first `at` bytes. Panics if there are fewer.
-    #[inline(always)]
+    #[inline]
     #[track_caller]
     pub fn split_to(&mut self, at: usize) -> Self {
         IoBufs(shared(self.0.try_split_to(Global, at).expect("split_to out of bounds")))

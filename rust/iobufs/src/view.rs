@@ -70,7 +70,7 @@ impl IoBuf {
     }
 
     /// Returns the bytes of a range, in the same storage. Panics if it isn't within the bytes.
-    #[inline(always)]
+    #[inline]
     #[track_caller]
     pub fn slice(&self, range: impl RangeBounds<usize>) -> Self {
         let (lo, hi) = bounds(range, || self.len());
@@ -92,7 +92,7 @@ impl IoBuf {
     }
 
     /// Takes the first `at` bytes, in the same storage. Panics if there are fewer.
-    #[inline(always)]
+    #[inline]
     #[track_caller]
     pub fn split_to(&mut self, at: usize) -> Self {
         IoBuf(shared(self.0.try_split_to(at).expect("split_to out of bounds")))
