@@ -2,7 +2,7 @@
 //! `src/iobuf/buf.rs`, `owner.rs`), as far as a caller sees it: the bytes, the addresses, and who recovers which
 //! capacity. A test of an owner's word is one here of who shares its storage.
 use bytes::{Buf, BufMut, Bytes, BytesMut};
-use iobufs::{IoBuf, IoBufMut, IoBufs};
+use iobufs::{Builder, IoBuf, IoBufMut, IoBufs, IoBufsMut};
 use std::num::NonZeroUsize;
 use std::ops::Bound::{self, Excluded, Included, Unbounded};
 use std::panic::{AssertUnwindSafe, RefUnwindSafe, UnwindSafe, catch_unwind};
@@ -476,10 +476,86 @@ fn threads_share_storage() {
     thread::spawn(move || assert_eq!(slice, [3, 4, 5].as_slice())).join().unwrap();
 }
 
+/// Each of these has this type, and each first type is made of the others.
+macro_rules! items {
+    ($($call:expr => $type:ty;)*) => { $(let _: $type = $call;)* };
+    ($($to:ty: $($from:ty),*;)*) => { $($(let _: fn($from) -> $to = From::from;)*)* };
+}
+
+// The original's calls and conversions, with its arguments and results.
+#[test]
+fn calls_and_conversions() {
+    items! {
+        IoBuf::copy_from_slice => fn(&[u8]) -> IoBuf;
+        IoBuf::len => fn(&IoBuf) -> usize;
+        IoBuf::is_empty => fn(&IoBuf) -> bool;
+        IoBuf::as_ptr => fn(&IoBuf) -> *const u8;
+        |view, range| view.slice(range) => fn(&IoBuf, std::ops::Range<usize>) -> IoBuf;
+        IoBuf::split_to => fn(&mut IoBuf, usize) -> IoBuf;
+        IoBuf::try_into_mut => fn(IoBuf) -> Result<IoBufMut, IoBuf>;
+        IoBufMut::with_capacity => fn(usize) -> IoBufMut;
+        IoBufMut::with_alignment => fn(usize, NonZeroUsize) -> IoBufMut;
+        IoBufMut::zeroed => fn(usize) -> IoBufMut;
+        IoBufMut::zeroed_with_alignment => fn(usize, NonZeroUsize) -> IoBufMut;
+        IoBufMut::set_len => unsafe fn(&mut IoBufMut, usize);
+        IoBufMut::len => fn(&IoBufMut) -> usize;
+        IoBufMut::is_empty => fn(&IoBufMut) -> bool;
+        IoBufMut::freeze => fn(IoBufMut) -> IoBuf;
+        IoBufMut::capacity => fn(&IoBufMut) -> usize;
+        IoBufMut::as_mut_ptr => fn(&mut IoBufMut) -> *mut u8;
+        IoBufMut::truncate => fn(&mut IoBufMut, usize);
+        IoBufMut::clear => fn(&mut IoBufMut);
+        IoBufs::as_single => fn(&IoBufs) -> Option<&IoBuf>;
+        IoBufs::try_into_single => fn(IoBufs) -> Result<IoBuf, IoBufs>;
+        IoBufs::len => fn(&IoBufs) -> usize;
+        IoBufs::chunk_count => fn(&IoBufs) -> usize;
+        IoBufs::chunk_at => fn(&IoBufs, usize) -> Option<&[u8]>;
+        IoBufs::is_empty => fn(&IoBufs) -> bool;
+        IoBufs::is_single => fn(&IoBufs) -> bool;
+        IoBufs::for_each_chunk => fn(&IoBufs, fn(&[u8]));
+        IoBufs::prepend => fn(&mut IoBufs, IoBuf);
+        IoBufs::append => fn(&mut IoBufs, IoBuf);
+        IoBufs::split_to => fn(&mut IoBufs, usize) -> IoBufs;
+        IoBufs::coalesce => fn(IoBufs) -> IoBuf;
+        IoBufsMut::as_single => fn(&IoBufsMut) -> Option<&IoBufMut>;
+        IoBufsMut::as_single_mut => fn(&mut IoBufsMut) -> Option<&mut IoBufMut>;
+        IoBufsMut::try_into_single => fn(IoBufsMut) -> Result<IoBufMut, IoBufsMut>;
+        IoBufsMut::len => fn(&IoBufsMut) -> usize;
+        IoBufsMut::is_empty => fn(&IoBufsMut) -> bool;
+        IoBufsMut::is_single => fn(&IoBufsMut) -> bool;
+        IoBufsMut::freeze => fn(IoBufsMut) -> IoBufs;
+        IoBufsMut::coalesce => fn(IoBufsMut) -> IoBufMut;
+        IoBufsMut::capacity => fn(&IoBufsMut) -> usize;
+        IoBufsMut::copy_from_slice => fn(&mut IoBufsMut, &[u8]);
+        Builder::new => fn(usize) -> Builder;
+        Builder::finish => fn(Builder) -> IoBufs;
+    }
+    items! {
+        IoBuf: Vec<u8>, Bytes, BytesMut, IoBufMut, &'static [u8; 4], &'static [u8];
+        Vec<u8>: IoBuf;
+        Bytes: IoBuf;
+        IoBufMut: &'static [u8], [u8; 4], &'static [u8; 4], Vec<u8>, BytesMut, Bytes, IoBuf;
+        IoBufs: IoBuf, IoBufMut, Bytes, BytesMut, Vec<u8>, Vec<IoBuf>, [IoBuf; 4], &'static [u8; 4], &'static [u8], IoBufsMut;
+        IoBufsMut: IoBufMut, Vec<u8>, BytesMut, Vec<IoBufMut>, [IoBufMut; 4], [u8; 4];
+    }
+    items! {
+        FromIterator::from_iter => fn(Vec<IoBuf>) -> IoBufs;
+        FromIterator::from_iter => fn(Vec<IoBufMut>) -> IoBufsMut;
+    }
+}
+
 #[test]
 fn types() {
-    fn check<T: Send + Sync + Unpin + UnwindSafe + RefUnwindSafe>() {}
-    check::<IoBuf>();
-    check::<IoBufMut>();
-    check::<IoBufs>();
+    fn value<T: Default + std::fmt::Debug + Send + Sync + Unpin>() {}
+    fn bytes<T: PartialEq<[u8]> + PartialEq<[u8; 4]> + for<'a> PartialEq<&'a [u8]> + for<'a> PartialEq<&'a [u8; 4]>>() {
+    }
+    fn view<T: AsRef<[u8]> + UnwindSafe + RefUnwindSafe>() {}
+    fn source<T: Buf>() {}
+    fn sink<T: BufMut>() {}
+    (value::<IoBuf>(), value::<IoBufMut>(), value::<IoBufs>(), value::<IoBufsMut>());
+    (bytes::<IoBuf>(), bytes::<IoBufMut>(), view::<IoBuf>(), view::<IoBufMut>());
+    (source::<IoBuf>(), source::<IoBufMut>(), source::<IoBufs>(), source::<IoBufsMut>());
+    (sink::<IoBufMut>(), sink::<IoBufsMut>(), sink::<Builder>());
+    fn others<T: Clone + Eq, U: Clone, V: AsMut<[u8]>>() {}
+    others::<IoBuf, IoBufs, IoBufMut>();
 }

@@ -19,8 +19,8 @@ impl IoBufMut {
     #[inline]
     #[track_caller]
     pub(crate) unsafe fn fill(&mut self, n: usize) {
-        assert!(n <= self.limit - self.storage.len(), "{}", crate::error::PAST);
-        // SAFETY: `limit` is at most the capacity (proved), and the caller wrote the bytes.
+        assert!(n <= self.space().len(), "{}", crate::error::PAST);
+        // SAFETY: the spare capacity is the `Vec`'s own, and the caller wrote the bytes.
         unsafe { self.storage.0.set_len(self.storage.0.len() + n) }
     }
 
