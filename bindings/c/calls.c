@@ -3,14 +3,16 @@
 
 #define HELLO(view) OK(iobuf_copy_from_slice(bytes("hello world"), 11, &view))
 
+/* IOBUFS_BUILT is the build that is tested. */
 static void sizes(void) {
-    CHECK(iobuf_size() == sizeof(struct iobuf) && iobuf_align() == IOBUFS_ALIGN);
-    CHECK(iobufmut_size() == sizeof(struct iobufmut) && iobufmut_align() == IOBUFS_ALIGN);
-    CHECK(iobufs_size() == sizeof(struct iobufs) && iobufs_align() == IOBUFS_ALIGN);
-    CHECK(iobufsmut_size() == sizeof(struct iobufsmut) && iobufsmut_align() == IOBUFS_ALIGN);
-    CHECK(iobufs_builder_size() == sizeof(struct iobufs_builder) && iobufs_builder_align() == IOBUFS_ALIGN);
-    CHECK(iobufs_frames_size() == sizeof(struct iobufs_frames) && iobufs_frames_align() == IOBUFS_ALIGN);
-    CHECK(iobufs_received_size() == sizeof(struct iobufs_received) && iobufs_received_align() == IOBUFS_ALIGN);
+    CHECK(iobufs_build() == IOBUFS_BUILT);
+    CHECK(iobuf_size() <= sizeof(struct iobuf) && iobuf_align() <= IOBUFS_ALIGN);
+    CHECK(iobufmut_size() <= sizeof(struct iobufmut) && iobufmut_align() <= IOBUFS_ALIGN);
+    CHECK(iobufs_size() <= sizeof(struct iobufs) && iobufs_align() <= IOBUFS_ALIGN);
+    CHECK(iobufsmut_size() <= sizeof(struct iobufsmut) && iobufsmut_align() <= IOBUFS_ALIGN);
+    CHECK(iobufs_builder_size() <= sizeof(struct iobufs_builder) && iobufs_builder_align() <= IOBUFS_ALIGN);
+    CHECK(iobufs_frames_size() <= sizeof(struct iobufs_frames) && iobufs_frames_align() <= IOBUFS_ALIGN);
+    CHECK(iobufs_received_size() <= sizeof(struct iobufs_received) && iobufs_received_align() <= IOBUFS_ALIGN);
 }
 
 static void views(void) {

@@ -1,14 +1,16 @@
 /*
  * Every call that may ask for memory, with its first request refused, then its second, and so on until none is: the status
- * is IOBUFS_MEMORY, what the header says stays, and every block is given back. Linked with --wrap=malloc, --wrap=realloc
- * and --wrap=free, which count blocks and refuse.
+ * is IOBUFS_MEMORY, what the header says stays, and every block is given back. Linked with --wrap=malloc, --wrap=calloc,
+ * --wrap=realloc and --wrap=free, which count blocks and refuse.
  */
 #include "test.h"
 
 void *__real_malloc(size_t);
+void *__real_calloc(size_t, size_t);
 void *__real_realloc(void *, size_t);
 void __real_free(void *);
 void *__wrap_malloc(size_t);
+void *__wrap_calloc(size_t, size_t);
 void *__wrap_realloc(void *, size_t);
 void __wrap_free(void *);
 
@@ -19,6 +21,11 @@ void *__wrap_malloc(size_t n) {
     if (refuses()) return NULL;
     blocks++;
     return __real_malloc(n);
+}
+void *__wrap_calloc(size_t n, size_t size) {
+    if (refuses()) return NULL;
+    blocks++;
+    return __real_calloc(n, size);
 }
 void *__wrap_realloc(void *old, size_t n) {
     if (refuses()) return NULL;

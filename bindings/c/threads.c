@@ -7,14 +7,17 @@
 #include <stdatomic.h>
 
 void *__real_malloc(size_t);
+void *__real_calloc(size_t, size_t);
 void *__real_realloc(void *, size_t);
 void __real_free(void *);
 void *__wrap_malloc(size_t);
+void *__wrap_calloc(size_t, size_t);
 void *__wrap_realloc(void *, size_t);
 void __wrap_free(void *);
 
 static atomic_long blocks;
 void *__wrap_malloc(size_t n) { blocks++; return __real_malloc(n); }
+void *__wrap_calloc(size_t n, size_t size) { blocks++; return __real_calloc(n, size); }
 void *__wrap_realloc(void *old, size_t n) { blocks += old == NULL; return __real_realloc(old, n); }
 void __wrap_free(void *old) { blocks -= old != NULL; __real_free(old); }
 

@@ -86,7 +86,8 @@ static inline const char *iobufs_strerror(iobufs_status status) {
 #define IOBUFS_CHECKED
 #endif
 
-/* Sizes and alignments, of which a buffer's memory has to be; `iobuf_size()` .. say the library's. */
+/* Sizes and alignments, of which a buffer's memory has to be. The library's own, which `iobuf_size()` .. return, are at most
+ * these: they depend on how it was built. */
 #define IOBUF_SIZE 48
 #define IOBUFMUT_SIZE 64
 #define IOBUFS_SIZE 56
@@ -124,6 +125,12 @@ struct iobufs_received_at { struct iobufs_received *at; };
 #define IOBUFS_FRAMES_INIT iobufs_frames_made(&(struct iobufs_frames){{0}})
 #define IOBUFS_RECEIVED_INIT iobufs_received_made(&(struct iobufs_received){{0}})
 #endif
+
+/* How the library was built: by the kit, which proved its machine code, or by cargo, from the proved source. */
+enum iobufs_build_kind { IOBUFS_BUILT_BY_KIT = 0, IOBUFS_BUILT_BY_CARGO = 1 };
+
+/* How this library was built: an `enum iobufs_build_kind`. (own) */
+uint32_t iobufs_build(void);
 
 /* As `struct iovec` of <sys/uio.h>, which may be cast to it. */
 struct iobufs_chunk { const uint8_t *base; size_t len; };

@@ -7,6 +7,7 @@
 #![tactic(auto)]
 
 pub mod builder;
+pub mod built;
 pub mod frames;
 pub mod lengths;
 pub mod numbers;

@@ -1,0 +1,332 @@
+//! bench [--sums] [NAME..]
+//!
+//! The workloads of one buffer, of an `IoBufs` and of an `IoBufsMut`, with the names of those in `crates/iobufs_bench`.
+//! Prints the nanoseconds an operation of each, or with `--sums` what one run of each saw, and its operations.
+use iobufs::{IoBuf, IoBufMut, IoBufs, IoBufsMut};
+use std::env;
+use std::hint::black_box;
+use std::time::Instant;
+
+const MIB: usize = 1 << 20;
+
+/// Nanoseconds, operations, sum.
+type Run = (u64, usize, u64);
+
+fn pattern(n: usize) -> Vec<u8> {
+    (0..n).map(|i| (31 * i + 7) as u8).collect()
+}
+
+fn filled(n: usize) -> IoBufMut {
+    let mut part = IoBufMut::with_capacity(n);
+    part.put_slice(&pattern(n));
+    part
+}
+
+fn native(n: usize) -> IoBuf {
+    filled(n).freeze()
+}
+
+fn mark(bytes: &[u8]) -> u64 {
+    bytes.len() as u64 + bytes.first().map_or(0, |byte| u64::from(*byte))
+}
+
+fn views(n: usize) -> Vec<IoBuf> {
+    let whole = native(256 * n);
+    (0..n).map(|i| whole.slice(256 * i..256 * (i + 1))).collect()
+}
+
+fn text(n: usize) -> IoBufs {
+    views(n).into()
+}
+
+/// How many `IoBufs` of n chunks a run has.
+fn count(n: usize) -> usize {
+    (4096 / n).clamp(2, 512)
+}
+
+fn timed(operations: usize, call: impl FnOnce() -> u64) -> Run {
+    let began = Instant::now();
+    let sum = black_box(call());
+    (began.elapsed().as_nanos() as u64, operations, sum)
+}
+
+fn put64() -> Run {
+    let piece = pattern(64);
+    timed(MIB / 64, || {
+        let mut part = IoBufMut::with_capacity(MIB);
+        for _ in 0..MIB / 64 {
+            part.put_slice(black_box(&piece));
+        }
+        mark(part.freeze().chunk())
+    })
+}
+
+fn put_u8() -> Run {
+    timed(65536, || {
+        let mut part = IoBufMut::with_capacity(65536);
+        for i in 0..65536 {
+            part.put_u8(black_box(i) as u8);
+        }
+        mark(part.freeze().chunk())
+    })
+}
+
+fn split_drop() -> Run {
+    let whole = native(MIB);
+    let mut views: Vec<IoBuf> = (0..8).map(|_| whole.clone()).collect();
+    timed(8 * 1024, || {
+        views.iter_mut().map(|view| (0..1024).map(|_| mark(view.split_to(1024).chunk())).sum::<u64>()).sum()
+    })
+}
+
+fn split_keep() -> Run {
+    let whole = native(MIB);
+    let mut views: Vec<IoBuf> = (0..8).map(|_| whole.clone()).collect();
+    let mut frames = Vec::with_capacity(8 * 1024);
+    let (ns, operations, _) = timed(8 * 1024, || {
+        for view in &mut views {
+            frames.extend((0..1024).map(|_| view.split_to(1024)));
+        }
+        0
+    });
+    (ns, operations, frames.iter().map(|frame| mark(frame.chunk())).sum())
+}
+
+fn clone_drop(view: IoBuf) -> Run {
+    let _shared = view.clone();
+    timed(10_000, || (0..10_000).map(|_| black_box(&view).clone().len() as u64).sum())
+}
+
+fn new_share_drop() -> Run {
+    let piece = pattern(64);
+    timed(1000, || {
+        let turn = |_| {
+            let mut part = IoBufMut::with_capacity(64);
+            part.put_slice(black_box(&piece));
+            let view = part.freeze();
+            mark(black_box(&view).clone().chunk())
+        };
+        (0..1000).map(turn).sum()
+    })
+}
+
+fn slice_drop() -> Run {
+    let (view, n) = (native(1024), 10_000);
+    let _shared = view.clone();
+    timed(n, || (0..n).map(|i| mark(black_box(&view).slice(i % 960..i % 960 + 64).chunk())).sum())
+}
+
+fn read_bytewise() -> Run {
+    let whole = native(MIB);
+    let mut view = whole.clone();
+    timed(MIB, || {
+        let mut sum = 0;
+        while view.has_remaining() {
+            sum += u64::from(view.chunk()[0]);
+            view.advance(1);
+        }
+        sum
+    })
+}
+
+fn read64() -> Run {
+    let (whole, mut room) = (native(MIB), [0; 64]);
+    let mut view = whole.clone();
+    let mut read = |_| {
+        view.copy_to_slice(&mut room);
+        mark(black_box(&room))
+    };
+    timed(MIB / 64, || (0..MIB / 64).map(&mut read).sum())
+}
+
+fn recover() -> Run {
+    let (piece, mut view) = (pattern(64), native(4096));
+    timed(10_000, || {
+        let mut sum = 0;
+        for _ in 0..10_000 {
+            let mut part = view.try_into_mut().unwrap();
+            part.clear();
+            part.put_slice(black_box(&piece));
+            view = part.freeze();
+            sum += mark(view.chunk());
+        }
+        sum
+    })
+}
+
+fn joined(n: usize, join: impl Fn(&mut IoBufs, IoBuf)) -> Run {
+    let lists: Vec<Vec<IoBuf>> = (0..count(n)).map(|_| views(n)).collect();
+    let mut texts = Vec::with_capacity(lists.len());
+    let (ns, operations, _) = timed(n * lists.len(), || {
+        for list in lists {
+            let mut text = IoBufs::default();
+            for view in list {
+                join(&mut text, view);
+            }
+            texts.push(text);
+        }
+        0
+    });
+    (ns, operations, texts.iter().map(|text| text.len() as u64).sum())
+}
+
+/// Texts from whose front `step` takes `size` bytes as often as it can; and what is done with the rest.
+fn drained(n: usize, size: usize, step: impl Fn(&mut IoBufs) -> u64, rest: usize) -> Run {
+    let mut texts: Vec<IoBufs> = (0..count(n)).map(|_| text(n)).collect();
+    let turns = 256 * n / size;
+    timed(texts.len() * (turns + rest), || {
+        let mut sum = 0;
+        for text in &mut texts {
+            for _ in 0..turns {
+                sum += step(text);
+            }
+            text.advance(if rest == 1 { text.len() } else { 0 });
+        }
+        sum
+    })
+}
+
+fn text_len(n: usize) -> Run {
+    let (text, turns) = (text(n), (100_000 / n).max(64));
+    timed(turns, || (0..turns).map(|_| black_box(&text).len() as u64).sum())
+}
+
+fn split_mid(n: usize) -> Run {
+    let mut texts: Vec<IoBufs> = (0..count(n)).map(|_| text(n)).collect();
+    let mut fronts = Vec::with_capacity(texts.len());
+    let (ns, operations, _) = timed(texts.len(), || {
+        fronts.extend(texts.iter_mut().map(|text| text.split_to(128 * n + 1)));
+        0
+    });
+    let seen = |text: &IoBufs| text.len() as u64 + mark(text.chunk());
+    (ns, operations, fronts.iter().chain(&texts).map(seen).sum())
+}
+
+fn text_bytewise(n: usize) -> Run {
+    let mut texts: Vec<IoBufs> = (0..(count(n) / 16).max(1)).map(|_| text(n)).collect();
+    timed(256 * n * texts.len(), || {
+        let mut sum = 0;
+        for text in &mut texts {
+            while text.has_remaining() {
+                sum += u64::from(text.chunk()[0]);
+                text.advance(1);
+            }
+        }
+        sum
+    })
+}
+
+fn coalesced(n: usize) -> Run {
+    let texts: Vec<IoBufs> = (0..count(n)).map(|_| text(n)).collect();
+    let mut views = Vec::with_capacity(texts.len());
+    let (ns, operations, _) = timed(texts.len(), || {
+        views.extend(texts.into_iter().map(IoBufs::coalesce));
+        0
+    });
+    (ns, operations, views.iter().map(|view| mark(view.chunk())).sum())
+}
+
+fn text_clone_drop(n: usize) -> Run {
+    let text = text(n);
+    timed(count(n), || (0..count(n)).map(|_| mark(black_box(&text).clone().chunk())).sum())
+}
+
+fn walk(n: usize) -> Run {
+    let text = text(n);
+    timed(n * count(n), || {
+        let mut sum = 0;
+        for _ in 0..count(n) {
+            black_box(&text).for_each_chunk(|chunk| sum += mark(chunk));
+        }
+        sum
+    })
+}
+
+fn parts_put(n: usize, len: usize) -> Run {
+    let piece = pattern(len);
+    let empty = |_| (0..n).map(|_| IoBufMut::with_capacity(256)).collect();
+    let mut rows: Vec<IoBufsMut> = (0..[512, 64][usize::from(n > 3)]).map(empty).collect();
+    let turns = 256 * n / len;
+    let (ns, operations, _) = timed(rows.len() * turns, || {
+        for row in &mut rows {
+            (0..turns).for_each(|_| row.put_slice(black_box(&piece)));
+        }
+        0
+    });
+    (ns, operations, rows.iter().map(|row| row.len() as u64).sum())
+}
+
+fn parts_freeze(n: usize) -> Run {
+    let full = |_| (0..n).map(|_| filled(256)).collect();
+    let rows: Vec<IoBufsMut> = (0..[512, 64][usize::from(n > 3)]).map(full).collect();
+    let mut texts = Vec::with_capacity(rows.len());
+    let (ns, operations, _) = timed(rows.len(), || {
+        texts.extend(rows.into_iter().map(IoBufsMut::freeze));
+        0
+    });
+    (ns, operations, texts.iter().map(|text| text.len() as u64 + mark(text.chunk())).sum())
+}
+
+type Workload = (String, Box<dyn Fn() -> Run>);
+
+fn workloads() -> Vec<Workload> {
+    let mut all: Vec<Workload> = Vec::new();
+    let mut add = |name: String, run: Box<dyn Fn() -> Run>| all.push((name, run));
+    add("put64_1m_freeze".into(), Box::new(put64));
+    add("put_u8_64k_freeze".into(), Box::new(put_u8));
+    add("split_1m_1k_drop".into(), Box::new(split_drop));
+    add("split_1m_1k_keep".into(), Box::new(split_keep));
+    add("clone_drop_native".into(), Box::new(|| clone_drop(native(1024))));
+    add("clone_drop_static".into(), Box::new(|| clone_drop(IoBuf::from(b"abcdefghijklmnopqrstuvwxyz"))));
+    add("new_share_drop_64".into(), Box::new(new_share_drop));
+    add("slice_drop_64".into(), Box::new(slice_drop));
+    add("read_view_bytewise_1m".into(), Box::new(read_bytewise));
+    add("read_view_64_1m".into(), Box::new(read64));
+    add("recover_put64_freeze".into(), Box::new(recover));
+    for n in [4, 64, 4096] {
+        add(format!("text{n}_append"), Box::new(move || joined(n, IoBufs::append)));
+        add(format!("text{n}_prepend"), Box::new(move || joined(n, IoBufs::prepend)));
+        let advance = |text: &mut IoBufs| {
+            text.advance(100);
+            mark(text.chunk())
+        };
+        add(format!("text{n}_advance100"), Box::new(move || drained(n, 100, advance, 1)));
+        add(
+            format!("text{n}_take300"),
+            Box::new(move || drained(n, 300, |text| mark(text.take_owned(300).chunk()), 0)),
+        );
+        add(
+            format!("text{n}_split1000"),
+            Box::new(move || drained(n, 1000, |text| mark(text.split_to(1000).chunk()), 0)),
+        );
+        add(format!("text{n}_len"), Box::new(move || text_len(n)));
+        add(format!("text{n}_split_mid"), Box::new(move || split_mid(n)));
+        add(format!("text{n}_coalesce"), Box::new(move || coalesced(n)));
+        add(format!("text{n}_clone_drop"), Box::new(move || text_clone_drop(n)));
+        add(format!("text{n}_walk"), Box::new(move || walk(n)));
+        add(format!("text{n}_bytewise"), Box::new(move || text_bytewise(n)));
+    }
+    for n in [2, 3, 64] {
+        add(format!("parts{n}_put64"), Box::new(move || parts_put(n, 64)));
+        add(format!("parts{n}_freeze"), Box::new(move || parts_freeze(n)));
+    }
+    all
+}
+
+fn main() {
+    let words: Vec<String> = env::args().skip(1).collect();
+    let (flags, names): (Vec<&String>, Vec<&String>) = words.iter().partition(|word| *word == "--sums");
+    for (name, run) in workloads() {
+        if !names.is_empty() && !names.contains(&&name) {
+            continue;
+        }
+        if flags.is_empty() {
+            let each = |(nanos, operations, _): Run| nanos as f64 / operations as f64;
+            let least = (0..5).map(|_| each(run())).fold(f64::INFINITY, f64::min);
+            println!("{name} {least:.3}");
+        } else {
+            let (_, operations, sum) = run();
+            println!("{name} {sum} {operations}");
+        }
+    }
+}

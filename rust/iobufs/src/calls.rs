@@ -1,0 +1,354 @@
+//! Calls that several buffers have.
+#![forbid(unsafe_code)]
+use crate::{IoBuf, IoBufMut, IoBufs};
+use std::cmp::Ordering;
+use std::fmt;
+use std::ops::{Bound, RangeBounds};
+
+/// Returns the start and the end of a range, the length if it has no end.
+#[inline]
+#[track_caller]
+pub(crate) fn bounds(range: impl RangeBounds<usize>, len: impl FnOnce() -> usize) -> (usize, usize) {
+    let lo = match range.start_bound() {
+        Bound::Included(n) => *n,
+        Bound::Excluded(n) => n.checked_add(1).expect("range start overflow"),
+        Bound::Unbounded => 0,
+    };
+    let hi = match range.end_bound() {
+        Bound::Included(n) => n.checked_add(1).expect("range end overflow"),
+        Bound::Excluded(n) => *n,
+        Bound::Unbounded => len(),
+    };
+    (lo, hi)
+}
+
+/// Panics as the original does at a range that isn't within the bytes.
+#[cold]
+#[track_caller]
+pub(crate) fn outside(lo: usize, hi: usize) -> ! {
+    panic!("{}", if lo > hi { "slice start must be <= end" } else { "slice out of bounds" })
+}
+
+/// Compares the bytes of two lists of chunks, for every chunking, without a copy.
+pub(crate) fn compare<'a>(
+    mut ours: impl Iterator<Item = &'a [u8]>,
+    mut theirs: impl Iterator<Item = &'a [u8]>,
+) -> Ordering {
+    let (mut a, mut b): (&[u8], &[u8]) = (&[], &[]);
+    loop {
+        if a.is_empty() {
+            a = ours.next().unwrap_or_default();
+        }
+        if b.is_empty() {
+            b = theirs.next().unwrap_or_default();
+        }
+        let n = a.len().min(b.len());
+        if n == 0 {
+            return a.len().cmp(&b.len());
+        }
+        let (front, other) = (&a[..n], &b[..n]);
+        if front != other {
+            return front.cmp(other);
+        }
+        (a, b) = (&a[n..], &b[n..]);
+    }
+}
+
+/// How many bytes `Debug` shows.
+const SHOWN: usize = 64;
+
+/// Shows bytes as a literal, `b"ab\n"`, as `bytes` does, and after the first of many how many there are.
+pub(crate) fn show<'a>(f: &mut fmt::Formatter<'_>, len: usize, chunks: impl Iterator<Item = &'a [u8]>) -> fmt::Result {
+    f.write_str("b\"")?;
+    for byte in chunks.flatten().take(SHOWN) {
+        match byte {
+            0 => f.write_str("\\0")?,
+            b'\'' => f.write_str("'")?,
+            _ => write!(f, "{}", byte.escape_ascii())?,
+        }
+    }
+    f.write_str("\"")?;
+    match len {
+        0..=SHOWN => Ok(()),
+        _ => write!(f, ".. ({len} bytes)"),
+    }
+}
+
+/// `Debug` and hexadecimal digits of a buffer's bytes.
+macro_rules! shown {
+    ($buffer:ident) => {
+        impl std::fmt::Debug for $buffer {
+            fn fmt(&self, f: &mut std::fmt::Formatter<'_>) -> std::fmt::Result {
+                crate::calls::show(f, self.len(), self.each_chunk())
+            }
+        }
+
+        impl std::fmt::LowerHex for $buffer {
+            fn fmt(&self, f: &mut std::fmt::Formatter<'_>) -> std::fmt::Result {
+                self.each_chunk().flatten().try_for_each(|byte| write!(f, "{byte:02x}"))
+            }
+        }
+
+        impl std::fmt::UpperHex for $buffer {
+            fn fmt(&self, f: &mut std::fmt::Formatter<'_>) -> std::fmt::Result {
+                self.each_chunk().flatten().try_for_each(|byte| write!(f, "{byte:02X}"))
+            }
+        }
+    };
+}
+pub(crate) use shown;
+
+/// Equality with bytes, as the original has it, and with strings, in both directions, by the method `has`.
+macro_rules! equals_bytes {
+    ($buffer:ident) => {
+        crate::calls::equals_bytes! { $buffer, [] [u8], [] &[u8], [const N: usize] [u8; N], [const N: usize] &[u8; N],
+            [] Vec<u8>, [] str, [] &str, [] String, [] bytes::Bytes, [] bytes::BytesMut }
+    };
+    ($buffer:ident, $([$($param:tt)*] $bytes:ty),*) => {$(
+        impl<$($param)*> PartialEq<$bytes> for $buffer {
+            fn eq(&self, other: &$bytes) -> bool {
+                self.has(other.as_ref())
+            }
+        }
+
+        impl<$($param)*> PartialEq<$buffer> for $bytes {
+            fn eq(&self, other: &$buffer) -> bool {
+                other == self
+            }
+        }
+    )*};
+}
+pub(crate) use equals_bytes;
+
+/// Equality of two types of buffers, in both directions.
+macro_rules! equal {
+    ($($one:ident $other:ident)*) => {$(
+        impl PartialEq<$other> for $one {
+            fn eq(&self, other: &$other) -> bool {
+                self.len() == other.len() && compare(self.each_chunk(), other.each_chunk()).is_eq()
+            }
+        }
+
+        impl PartialEq<$one> for $other {
+            fn eq(&self, other: &$one) -> bool {
+                other == self
+            }
+        }
+    )*};
+}
+equal! { IoBuf IoBufMut IoBuf IoBufs IoBufMut IoBufs }
+
+/// The methods of slices.
+macro_rules! derefs {
+    ($buffer:ident) => {
+        impl std::ops::Deref for $buffer {
+            type Target = [u8];
+
+            #[inline]
+            fn deref(&self) -> &[u8] {
+                self.as_ref()
+            }
+        }
+
+        impl PartialEq for $buffer {
+            fn eq(&self, other: &Self) -> bool {
+                self.has(other)
+            }
+        }
+
+        impl Eq for $buffer {}
+
+        impl $buffer {
+            fn has(&self, bytes: &[u8]) -> bool {
+                self.as_ref() == bytes
+            }
+
+            /// Returns the bytes, if there are some, as one chunk.
+            pub(crate) fn each_chunk(&self) -> impl Iterator<Item = &[u8]> {
+                Some(self.as_ref()).filter(|bytes| !bytes.is_empty()).into_iter()
+            }
+        }
+    };
+}
+pub(crate) use derefs;
+
+/// Puts at the end: for writable buffers and a builder.
+macro_rules! puts {
+    () => {
+        crate::calls::puts! { u16, put_u16; u32, put_u32; u64, put_u64; }
+    };
+    ($($number:ty, $put:ident;)*) => {
+        /// Returns how many bytes may still be put (`BufMut`).
+        #[inline]
+        pub fn remaining_mut(&self) -> usize {
+            core::BufMut::remaining_mut(&self.0)
+        }
+
+        /// Puts bytes. Panics if they don't fit (`BufMut`).
+        #[inline]
+        #[track_caller]
+        pub fn put_slice(&mut self, src: &[u8]) {
+            assert!(self.try_put(src), "{}", crate::error::PAST);
+        }
+
+        /// Puts bytes, and returns whether they fit; otherwise nothing changes.
+        #[inline]
+        pub(crate) fn try_put(&mut self, src: &[u8]) -> bool {
+            core::BufMut::try_put_slice(&mut self.0, src)
+        }
+
+        /// Puts a byte `n` times. Panics if they don't fit (`BufMut`).
+        #[inline]
+        #[track_caller]
+        pub fn put_bytes(&mut self, value: u8, n: usize) {
+            assert!(core::BufMut::try_put_bytes(&mut self.0, value, n), "{}", crate::error::PAST);
+        }
+
+        /// Puts a length as a varint. Panics if it doesn't fit (`usize::write`).
+        #[inline]
+        #[track_caller]
+        pub fn put_length(&mut self, n: usize) {
+            self.put_slice(crate::proved::iobufs_frames::Prefix::Spelled.head(n).as_slice());
+        }
+
+        /// Puts a byte. Panics if it doesn't fit (`BufMut`).
+        #[inline]
+        #[track_caller]
+        pub fn put_u8(&mut self, n: u8) {
+            self.put_slice(&[n]);
+        }
+
+        $(
+            /// Puts a number, the highest byte first. Panics if it doesn't fit (`BufMut`).
+            #[inline]
+            #[track_caller]
+            pub fn $put(&mut self, n: $number) {
+                self.put_slice(&n.to_be_bytes());
+            }
+        )*
+    };
+}
+pub(crate) use puts;
+
+/// Reads from the front: for every buffer but a builder.
+macro_rules! reads {
+    () => {
+        /// Returns how many bytes are left (`Buf`).
+        #[inline]
+        pub fn remaining(&self) -> usize {
+            self.len()
+        }
+
+        /// Returns whether bytes are left (`Buf`).
+        #[inline]
+        pub fn has_remaining(&self) -> bool {
+            !self.is_empty()
+        }
+
+        /// Returns the first chunk of the bytes (`Buf`).
+        #[inline]
+        pub fn chunk(&self) -> &[u8] {
+            core::Buf::chunk(&self.0)
+        }
+
+        /// Drops the first `n` bytes. Panics if there are fewer (`Buf`).
+        #[inline(always)]
+        #[track_caller]
+        pub fn advance(&mut self, n: usize) {
+            assert!(core::Buf::try_advance(&mut self.0, n), "{}", crate::error::PAST);
+        }
+
+        /// Fills `dst` with the first bytes, and drops these. Panics if there are fewer (`Buf`).
+        #[inline]
+        #[track_caller]
+        pub fn copy_to_slice(&mut self, dst: &mut [u8]) {
+            assert!(self.try_copy_to_slice(dst).is_ok(), "{}", crate::error::SHORT);
+        }
+
+        /// Acts as `copy_to_slice`, if there are enough bytes; else nothing changes, and the error has both lengths
+        /// (`Buf`).
+        #[inline]
+        pub fn try_copy_to_slice(&mut self, dst: &mut [u8]) -> Result<(), crate::TryGetError> {
+            core::Buf::try_copy_to_slice(&mut self.0, dst).map_err(crate::error::short)
+        }
+    };
+}
+pub(crate) use reads;
+
+/// Takes from the front, and reads numbers and lengths: for `IoBuf` and `IoBufs`.
+macro_rules! gets {
+    () => {
+        crate::calls::gets! {
+            u8, get_u8, try_get_u8;
+            u16, get_u16, try_get_u16;
+            u32, get_u32, try_get_u32;
+            u64, get_u64, try_get_u64;
+        }
+    };
+    ($($number:ty, $get:ident, $try_get:ident;)*) => {
+        /// Takes the first `n` bytes as one view: shared within a chunk, copied across chunks. Panics if there are
+        /// fewer (`Buf`).
+        #[inline]
+        #[track_caller]
+        pub fn take_owned(&mut self, n: usize) -> IoBuf {
+            self.taken(n, "take_owned out of bounds")
+        }
+
+        /// Takes the first `n` bytes, as `take_owned` does. Panics if there are fewer (`Buf`).
+        #[inline]
+        #[track_caller]
+        pub fn copy_to_bytes(&mut self, n: usize) -> bytes::Bytes {
+            self.taken(n, "copy_to_bytes out of bounds").into()
+        }
+
+        #[inline]
+        #[track_caller]
+        fn taken(&mut self, n: usize, message: &str) -> IoBuf {
+            match core::OwnedBuf::try_take_owned(&mut self.0, Global, n) {
+                Ok(view) => IoBuf(view),
+                Err(core::Error::EndOfBuffer) => panic!("{message}"),
+                Err(_) => crate::error::out_of_memory(Some(n)),
+            }
+        }
+
+        $(
+            /// Reads the number at the front, the highest byte first. Panics if there are fewer bytes (`Buf`).
+            #[inline]
+            #[track_caller]
+            pub fn $get(&mut self) -> $number {
+                match self.$try_get() {
+                    Ok(n) => n,
+                    Err(crate::TryGetError { requested, available }) => {
+                        panic!("advance out of bounds: the len is {available} but advancing by {requested}")
+                    }
+                }
+            }
+
+            /// Reads the number at the front, the highest byte first; if there are fewer bytes, nothing changes
+            /// (`Buf`).
+            #[inline]
+            pub fn $try_get(&mut self) -> Result<$number, crate::TryGetError> {
+                let mut bytes = [0; size_of::<$number>()];
+                self.try_copy_to_slice(&mut bytes)?;
+                Ok(<$number>::from_be_bytes(bytes))
+            }
+        )*
+
+        /// Reads the length at the front, if it is in the range (`usize::read_cfg`).
+        #[inline]
+        pub fn read_length(&mut self, range: impl RangeBounds<usize>) -> Result<usize, crate::Error> {
+            let range = core::RangeCfg::new(range);
+            <usize as core::Read>::read_cfg(Global, &mut self.0, &range).map_err(crate::error::fault)
+        }
+
+        /// Reads the bytes after a length in the range, as one view: shared within a chunk, copied across chunks
+        /// (`IoBuf::read_cfg`).
+        #[inline]
+        pub fn read_view(&mut self, range: impl RangeBounds<usize>) -> Result<IoBuf, crate::Error> {
+            let range = core::RangeCfg::new(range);
+            let made = core::Read::read_cfg(Global, &mut self.0, &range);
+            made.map(IoBuf).map_err(crate::error::fault)
+        }
+    };
+}
+pub(crate) use gets;

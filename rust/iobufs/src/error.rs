@@ -1,0 +1,167 @@
+//! Errors, and how a call that fails ends.
+#![forbid(unsafe_code)]
+use crate::proved::iobufs_core::codec as core;
+use std::alloc::{self, Layout};
+use std::{fmt, process};
+
+/// The original's message for bytes that don't fit, or aren't there.
+pub(crate) const PAST: &str = "cannot advance past end of buffer";
+/// Its message for a destination that is longer than the bytes.
+pub(crate) const SHORT: &str = "Not enough bytes remaining in buffer";
+/// Its message for a size that no allocation has.
+pub(crate) const LAYOUT: &str = "alignment must be a power of two and the size must fit a layout";
+
+/// Why a value was not read (the codec's `Error`).
+#[derive(Clone, Copy, Debug, PartialEq, Eq)]
+pub enum Error {
+    /// Fewer bytes are left than the value has.
+    EndOfBuffer,
+    /// The bytes are no varint.
+    InvalidVarint,
+    /// This length is outside the range.
+    InvalidLength(usize),
+    /// A byte that is no `bool`.
+    InvalidBool,
+    /// A byte that is no variant of an enum.
+    InvalidEnum(u8),
+    /// This type doesn't admit the bytes, for this reason.
+    Invalid(&'static str, &'static str),
+    /// A value that has to be all bytes has this many after it.
+    ExtraData(usize),
+}
+
+impl fmt::Display for Error {
+    fn fmt(&self, f: &mut fmt::Formatter<'_>) -> fmt::Result {
+        match self {
+            Error::EndOfBuffer => f.write_str("fewer bytes are left than the value has"),
+            Error::InvalidVarint => f.write_str("the bytes are no varint"),
+            Error::InvalidLength(n) => write!(f, "the length {n} is outside the range"),
+            Error::InvalidBool => f.write_str("the byte is no bool"),
+            Error::InvalidEnum(tag) => write!(f, "the byte {tag} is no variant"),
+            Error::Invalid(name, reason) => write!(f, "invalid {name}: {reason}"),
+            Error::ExtraData(n) => write!(f, "{n} bytes are left after the value"),
+        }
+    }
+}
+
+impl std::error::Error for Error {}
+
+/// Memory for a buffer couldn't be allocated, or no buffer has this size.
+#[derive(Clone, Copy, Debug, PartialEq, Eq)]
+pub struct AllocError {
+    /// The number of bytes requested.
+    pub bytes: usize,
+}
+
+impl fmt::Display for AllocError {
+    fn fmt(&self, f: &mut fmt::Formatter<'_>) -> fmt::Result {
+        write!(f, "memory allocation of {} bytes failed", self.bytes)
+    }
+}
+
+impl std::error::Error for AllocError {}
+
+/// Its `Error` is `bytes::TryGetError` from version 1.10 of that crate on, and the one here before.
+pub trait Version {
+    /// The error of a read past the end.
+    type Error;
+}
+
+/// The version of the crate `bytes`.
+pub enum Found {}
+
+#[allow(dead_code)]
+mod before {
+    /// A destination is longer than the bytes left.
+    #[derive(Clone, Copy, Debug, PartialEq, Eq)]
+    pub struct TryGetError {
+        /// The number of bytes requested.
+        pub requested: usize,
+        /// The number of bytes left.
+        pub available: usize,
+    }
+
+    impl std::fmt::Display for TryGetError {
+        fn fmt(&self, f: &mut std::fmt::Formatter<'_>) -> std::fmt::Result {
+            write!(f, "{} bytes were requested, and {} are left", self.requested, self.available)
+        }
+    }
+
+    impl std::error::Error for TryGetError {}
+
+    // A name of the inner block is found before one of the module.
+    const _: () = {
+        #[allow(unused_imports)]
+        use bytes::*;
+
+        impl super::Version for super::Found {
+            type Error = TryGetError;
+        }
+    };
+}
+
+/// A destination is longer than the bytes left. This is `bytes::TryGetError`, which that crate has from its version
+/// 1.10 on.
+pub type TryGetError = <Found as Version>::Error;
+
+/// The error of a read past the end.
+#[inline]
+pub(crate) fn short(error: core::TryGetError) -> TryGetError {
+    TryGetError { requested: error.requested, available: error.available }
+}
+
+/// Ends the process, as Rust's collections do if an allocation fails. Prints how many bytes were requested, if that is
+/// known.
+#[cold]
+pub(crate) fn out_of_memory(bytes: Option<usize>) -> ! {
+    if let Some(layout) = bytes.and_then(|n| Layout::array::<u8>(n).ok()) {
+        alloc::handle_alloc_error(layout);
+    }
+    eprintln!("memory allocation failed");
+    process::abort()
+}
+
+/// Returns what a call made of `bytes` bytes. Ends the process if an allocation failed, else panics with `message`.
+#[inline]
+#[track_caller]
+pub(crate) fn made<T, E: Into<core::BufError>>(made: Result<T, E>, bytes: Option<usize>, message: &str) -> T {
+    match made {
+        Ok(made) => made,
+        Err(cause) => failed(cause.into(), bytes, message),
+    }
+}
+
+#[cold]
+#[track_caller]
+fn failed(cause: core::BufError, bytes: Option<usize>, message: &str) -> ! {
+    match cause {
+        core::BufError::Memory => out_of_memory(bytes),
+        _ => panic!("{message}"),
+    }
+}
+
+/// Returns what a call shared. Ends the process if an allocation failed, which is its only error.
+#[inline]
+pub(crate) fn shared<T, E>(made: Result<T, E>) -> T {
+    made.unwrap_or_else(|_| out_of_memory(None))
+}
+
+/// Returns what a call made, unless it failed to allocate `bytes` bytes.
+pub(crate) fn tried<T, M>(
+    made: Result<T, core::BufError>,
+    bytes: usize,
+    make: impl FnOnce(T) -> M,
+) -> Result<M, AllocError> {
+    made.map(make).map_err(|_| AllocError { bytes })
+}
+
+/// The error of reading a length, a view or a frame.
+#[cold]
+pub(crate) fn fault(error: core::Error) -> Error {
+    match error {
+        core::Error::EndOfBuffer => Error::EndOfBuffer,
+        core::Error::InvalidVarint => Error::InvalidVarint,
+        core::Error::InvalidLength(n) => Error::InvalidLength(n),
+        _ => out_of_memory(None),
+    }
+}

@@ -1,0 +1,43 @@
+//! The spare capacity of an `IoBufsMut`, buffer by buffer.
+#![allow(unsafe_code)]
+use super::{IoBufsMut, Shape};
+use crate::proved::iobufs_core::buf::IoBufMut;
+use crate::proved::iobufs_core::codec::BufMut;
+use std::mem::MaybeUninit;
+
+impl IoBufsMut {
+    /// Returns the first buffer with spare capacity.
+    #[inline]
+    fn next(&mut self) -> Option<&mut IoBufMut> {
+        match &mut self.shape {
+            Shape::One(part) => Some(part).filter(|part| part.remaining_mut() > 0),
+            Shape::Few(parts) => parts.next(),
+            Shape::Many(parts) => parts.next(),
+        }
+    }
+
+    /// Returns its spare capacity.
+    #[inline]
+    pub(crate) fn space(&mut self) -> &mut [MaybeUninit<u8>] {
+        self.next().map_or(&mut [], IoBufMut::space)
+    }
+
+    /// Makes `n` bytes of the spare capacity readable, the buffers filled in order. Panics if there are fewer.
+    ///
+    /// # Safety
+    /// They are written.
+    #[track_caller]
+    pub(crate) unsafe fn fill(&mut self, n: usize) {
+        assert!(n <= self.remaining_mut(), "{}", crate::error::PAST);
+        let mut rest = n;
+        while let Some(part) = self.next().filter(|_| rest > 0) {
+            let share = rest.min(part.remaining_mut());
+            // SAFETY: the caller's duty.
+            unsafe { part.fill(share) };
+            rest -= share;
+        }
+        if let Shape::Many(parts) = &mut self.shape {
+            parts.count_filled(n);
+        }
+    }
+}

@@ -1,0 +1,23 @@
+//! The spare capacity of a `Builder`.
+#![allow(unsafe_code)]
+use super::Builder;
+use std::mem::MaybeUninit;
+
+impl Builder {
+    /// Returns the spare capacity.
+    #[inline]
+    pub(crate) fn space(&mut self) -> &mut [MaybeUninit<u8>] {
+        self.inline.space()
+    }
+
+    /// Makes `n` bytes of it readable. Panics if there are fewer.
+    ///
+    /// # Safety
+    /// They are written.
+    #[inline]
+    #[track_caller]
+    pub(crate) unsafe fn fill(&mut self, n: usize) {
+        // SAFETY: the caller's duty.
+        unsafe { self.inline.fill(n) }
+    }
+}

@@ -1,0 +1,18 @@
+//! The spare capacity of many buffers.
+#![forbid(unsafe_code)]
+use super::{Several, count_full, settle};
+use crate::proved::iobufs_core::buf::IoBufMut;
+
+impl Several {
+    /// Returns the first buffer with spare capacity.
+    pub(crate) fn next(&mut self) -> Option<&mut IoBufMut> {
+        settle(&mut self.row, &mut self.used);
+        self.full = count_full(&self.row, self.full);
+        self.row.get_mut(self.full)
+    }
+
+    /// Counts bytes that became readable.
+    pub(crate) fn count_filled(&mut self, n: usize) {
+        self.len += n;
+    }
+}

@@ -1,0 +1,354 @@
+//! Frames over std's readers and writers.
+#![forbid(unsafe_code)]
+use crate::error::{fault, shared};
+use crate::io::write_once;
+use crate::kit::{Global, bytes as kit};
+use crate::proved::iobufs_core::codec::RangeCfg;
+use crate::proved::iobufs_frames as inner;
+use crate::proved::iobufs_frames::Head;
+use crate::text::BATCH;
+use crate::{Error, IoBuf, IoBufs, Prefix};
+use bytes::BytesMut;
+use std::collections::VecDeque;
+use std::io::{self, ErrorKind, IoSlice, Read, Write};
+use std::ops::RangeBounds;
+use std::{error, fmt, mem};
+
+/// Why no frame is taken from a reader.
+#[derive(Debug)]
+pub enum FrameError {
+    /// No frame begins here, whatever follows: `Error::InvalidVarint` or `Error::InvalidLength`.
+    Bad(Error),
+    /// The input ends inside a frame.
+    Cut,
+    /// The reader's error, never `ErrorKind::Interrupted`, after which it is read again.
+    Io(io::Error),
+}
+
+impl fmt::Display for FrameError {
+    fn fmt(&self, f: &mut fmt::Formatter<'_>) -> fmt::Result {
+        match self {
+            FrameError::Bad(error) => write!(f, "bad frame: {error}"),
+            FrameError::Cut => f.write_str("the input ends inside a frame"),
+            FrameError::Io(error) => error.fmt(f),
+        }
+    }
+}
+
+impl error::Error for FrameError {
+    fn source(&self) -> Option<&(dyn error::Error + 'static)> {
+        match self {
+            FrameError::Bad(error) => Some(error),
+            FrameError::Cut => None,
+            FrameError::Io(error) => Some(error),
+        }
+    }
+}
+
+impl From<inner::FrameError> for FrameError {
+    fn from(error: inner::FrameError) -> Self {
+        match error {
+            inner::FrameError::Frame(error) => FrameError::Bad(fault(error)),
+            inner::FrameError::Cut => FrameError::Cut,
+            inner::FrameError::Io(error) => FrameError::Io(error),
+        }
+    }
+}
+
+impl From<Error> for FrameError {
+    fn from(error: Error) -> Self {
+        FrameError::Bad(error)
+    }
+}
+
+impl From<io::Error> for FrameError {
+    fn from(error: io::Error) -> Self {
+        FrameError::Io(error)
+    }
+}
+
+/// The reader's error as it is; `ErrorKind::UnexpectedEof` of `Cut`, `ErrorKind::InvalidData` of `Bad`.
+impl From<FrameError> for io::Error {
+    fn from(error: FrameError) -> Self {
+        match error {
+            FrameError::Io(error) => error,
+            FrameError::Cut => io::Error::new(ErrorKind::UnexpectedEof, error),
+            FrameError::Bad(_) => io::Error::new(ErrorKind::InvalidData, error),
+        }
+    }
+}
+
+/// Takes frames from the front of a `BytesMut`, and puts them at its end, for readers and writers that have such a
+/// buffer.
+///
+/// ```
+/// use bytes::BytesMut;
+/// let codec = iobufs::FrameCodec::new(iobufs::Prefix::U16Be, ..=1024);
+/// let mut bytes = BytesMut::new();
+/// codec.encode(&"hello".into(), &mut bytes)?;
+/// assert_eq!(&bytes[..], b"\0\x05hello");
+/// assert_eq!(codec.decode(&mut bytes)?.unwrap(), "hello");
+/// # Ok::<(), iobufs::Error>(())
+/// ```
+#[derive(Clone, Copy, Debug, PartialEq, Eq)]
+pub struct FrameCodec {
+    prefix: inner::Prefix,
+    range: RangeCfg,
+}
+
+impl FrameCodec {
+    /// Makes a codec of frames with lengths in `range` that are written as `prefix`.
+    pub fn new(prefix: Prefix, range: impl RangeBounds<usize>) -> Self {
+        FrameCodec { prefix: prefix.inner(), range: RangeCfg::new(range) }
+    }
+
+    /// Takes the first body, which shares the storage of `src`; `None` if its frame isn't whole yet. Fails if no
+    /// further bytes can make it whole. Unless a frame is taken, `src` is unchanged.
+    pub fn decode(&self, src: &mut BytesMut) -> Result<Option<IoBuf>, Error> {
+        let mut held = inner::Received::new(Global, self.prefix);
+        *held.block_mut() = kit::BytesMut::of(mem::take(src));
+        let body = held.next(&self.range);
+        *src = mem::replace(held.block_mut(), kit::BytesMut::new(Global)).into_inner();
+        Ok(body.map_err(fault)?.map(IoBuf))
+    }
+
+    /// Appends the frame of a body, which is copied. Fails with `Error::InvalidLength` if the length is outside the
+    /// range, or can't be written as the prefix; then `dst` is unchanged.
+    pub fn encode(&self, body: &IoBufs, dst: &mut BytesMut) -> Result<(), Error> {
+        let head = self.prefix.head_within(body.len(), &self.range).ok_or(Error::InvalidLength(body.len()))?;
+        dst.reserve(head.len() + body.len());
+        dst.extend_from_slice(head.as_slice());
+        body.for_each_chunk(|chunk| dst.extend_from_slice(chunk));
+        Ok(())
+    }
+}
+
+/// Takes frames from a reader: lengths, each followed by a body. A read fills the space of one block, and a body shares
+/// that block: it isn't copied, and keeps the whole block.
+///
+/// ```
+/// use iobufs::{FrameReader, FrameWriter};
+/// let mut to = FrameWriter::new(Vec::new(), ..=1024);
+/// to.put("hello")?;
+/// to.send()?;
+/// let mut from = FrameReader::new(&to.get_ref()[..], ..=1024);
+/// assert_eq!(from.next()?.unwrap(), "hello");
+/// assert!(from.next()?.is_none());
+/// # Ok::<(), Box<dyn std::error::Error>>(())
+/// ```
+pub struct FrameReader<R>(inner::FrameReader<R>);
+
+impl<R> FrameReader<R> {
+    /// Makes a reader of frames with varint lengths in `range`.
+    pub fn new(from: R, range: impl RangeBounds<usize>) -> Self {
+        Self::with_prefix(from, Prefix::Varint, range)
+    }
+
+    /// Makes a reader of frames with lengths in `range` that are written as `prefix`.
+    pub fn with_prefix(from: R, prefix: Prefix, range: impl RangeBounds<usize>) -> Self {
+        FrameReader(shared(inner::FrameReader::with_prefix(Global, from, prefix.inner(), RangeCfg::new(range))))
+    }
+
+    /// Takes the next body if its whole frame was read, without a read; otherwise returns `None`.
+    pub fn try_next(&mut self) -> Result<Option<IoBuf>, Error> {
+        let body = self.0.try_next().map_err(fault)?;
+        Ok(body.map(IoBuf))
+    }
+
+    /// Returns the reader.
+    pub fn get_ref(&self) -> &R {
+        &self.0.from
+    }
+
+    /// Returns the reader. Bytes that are read from it are missing from the frames.
+    pub fn get_mut(&mut self) -> &mut R {
+        &mut self.0.from
+    }
+
+    /// Returns the reader. What was read and not taken is dropped.
+    pub fn into_inner(self) -> R {
+        self.0.from
+    }
+}
+
+impl<R: Read> FrameReader<R> {
+    /// Takes the next body; `None` at the end of the input. It starts no read while a whole frame is held. After an
+    /// error no byte is lost, and `next` may be called again.
+    #[allow(clippy::should_implement_trait)]
+    pub fn next(&mut self) -> Result<Option<IoBuf>, FrameError> {
+        Ok(self.0.next()?.map(IoBuf))
+    }
+}
+
+impl<R: fmt::Debug> fmt::Debug for FrameReader<R> {
+    fn fmt(&self, f: &mut fmt::Formatter<'_>) -> fmt::Result {
+        f.debug_struct("FrameReader")
+            .field("from", &self.0.from)
+            .field("held", &self.0.held.len())
+            .finish_non_exhaustive()
+    }
+}
+
+/// The bytes of a frame that aren't sent: the end of its length, and of its body.
+struct Unsent {
+    head: Head,
+    /// Records that the body was put as one chunk.
+    is_single: bool,
+    body: IoBufs,
+}
+
+impl Unsent {
+    fn len(&self) -> usize {
+        self.head.len() + self.body.len()
+    }
+
+    /// Fills a list with the first chunks, and returns how many it filled.
+    #[inline]
+    fn chunks<'a>(&'a self, dst: &mut [IoSlice<'a>]) -> usize {
+        let mut count = 0;
+        if self.head.len() > 0 {
+            dst[0] = IoSlice::new(self.head.as_slice());
+            count = 1;
+        }
+        if self.is_single && count < dst.len() {
+            // A list is dearer.
+            dst[count] = IoSlice::new(self.body.chunk());
+            return count + 1;
+        }
+        count + self.body.chunks_vectored(&mut dst[count..])
+    }
+
+    /// Drops the first bytes, of which there are more.
+    fn advance(&mut self, n: usize) {
+        let ahead = n.min(self.head.len());
+        self.head.advance(ahead);
+        self.body.advance(n - ahead);
+    }
+}
+
+/// Sends frames to a writer: lengths, each followed by a body, whose chunks aren't copied.
+pub struct FrameWriter<W> {
+    to: W,
+    prefix: inner::Prefix,
+    range: RangeCfg,
+    /// Frames that were put and aren't sent. A frame has at least the byte of its length.
+    unsent: VecDeque<Unsent>,
+    /// Set while bytes that were sent are dropped, so that it stays set after an owner's panic.
+    is_broken: bool,
+}
+
+impl<W> FrameWriter<W> {
+    /// Makes a writer of frames with varint lengths in `range`. It allocates nothing.
+    pub fn new(to: W, range: impl RangeBounds<usize>) -> Self {
+        Self::with_prefix(to, Prefix::Varint, range)
+    }
+
+    /// Makes a writer of frames with lengths in `range` that are written as `prefix`.
+    pub fn with_prefix(to: W, prefix: Prefix, range: impl RangeBounds<usize>) -> Self {
+        FrameWriter {
+            to,
+            prefix: prefix.inner(),
+            range: RangeCfg::new(range),
+            unsent: VecDeque::new(),
+            is_broken: false,
+        }
+    }
+
+    /// Puts a frame of this body after those that aren't sent yet; nothing is written. Fails with
+    /// `Error::InvalidLength` if the length is outside the range, or can't be written as the prefix; then nothing is
+    /// put. It allocates space for the list of frames alone.
+    pub fn put(&mut self, body: impl Into<IoBufs>) -> Result<(), Error> {
+        let body = body.into();
+        let head = self.prefix.head_within(body.len(), &self.range).ok_or(Error::InvalidLength(body.len()))?;
+        self.unsent.push_back(Unsent { head, is_single: body.is_single(), body });
+        Ok(())
+    }
+
+    /// Returns whether all that was put is written.
+    pub fn is_sent(&self) -> bool {
+        self.unsent.is_empty()
+    }
+
+    /// Returns the writer.
+    pub fn get_ref(&self) -> &W {
+        &self.to
+    }
+
+    /// Returns the writer. What is written to it comes between the bytes that are sent.
+    pub fn get_mut(&mut self) -> &mut W {
+        &mut self.to
+    }
+
+    /// Returns the writer, which hasn't got what isn't sent.
+    pub fn into_inner(self) -> W {
+        self.to
+    }
+
+    /// Drops the bytes that the writer took.
+    fn drop_taken(&mut self, mut taken: usize) {
+        self.is_broken = true;
+        while taken > 0 {
+            let Some(first) = self.unsent.front_mut() else { break };
+            let len = first.len();
+            if taken < len {
+                first.advance(taken);
+                break;
+            }
+            taken -= len;
+            self.unsent.pop_front();
+        }
+        self.is_broken = false;
+    }
+}
+
+impl<W: Write> FrameWriter<W> {
+    /// Writes what was put, by as many vectored writes as the writer needs, and flushes the writer. After an error no
+    /// byte is lost or written twice, and `send` may be called again. Fails with `ErrorKind::WriteZero` if the writer
+    /// takes no byte, and with `ErrorKind::Other` if it says that it took more than it was given: then it is given the
+    /// same again.
+    ///
+    /// If the `Drop` of a body's owner panics, its bytes were sent. Then nothing more is written, and each call returns
+    /// an error.
+    pub fn send(&mut self) -> io::Result<()> {
+        if self.is_broken {
+            return Err(io::Error::other("an owner of sent bytes panicked as it was dropped"));
+        }
+        while !self.unsent.is_empty() {
+            match self.write() {
+                Ok(0) => return Err(ErrorKind::WriteZero.into()),
+                Ok(n) => self.drop_taken(n),
+                Err(error) if error.kind() == ErrorKind::Interrupted => {}
+                Err(error) => return Err(error),
+            }
+        }
+        self.to.flush()
+    }
+
+    /// Writes once.
+    fn write(&mut self) -> io::Result<usize> {
+        // A list for one frame of one chunk costs less to make.
+        match self.unsent.len() {
+            1 if self.unsent[0].is_single => self.write_chunks::<2>(),
+            _ => self.write_chunks::<BATCH>(),
+        }
+    }
+
+    /// Writes the first `N` chunks once.
+    fn write_chunks<const N: usize>(&mut self) -> io::Result<usize> {
+        let mut chunks = [IoSlice::new(&[]); N];
+        let mut count = 0;
+        for frame in &self.unsent {
+            if count == N {
+                break;
+            }
+            count += frame.chunks(&mut chunks[count..]);
+        }
+        write_once(&mut self.to, &chunks[..count])
+    }
+}
+
+impl<W: fmt::Debug> fmt::Debug for FrameWriter<W> {
+    fn fmt(&self, f: &mut fmt::Formatter<'_>) -> fmt::Result {
+        f.debug_struct("FrameWriter").field("to", &self.to).field("unsent", &self.unsent.len()).finish_non_exhaustive()
+    }
+}

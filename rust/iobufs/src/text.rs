@@ -1,0 +1,474 @@
+//! `IoBufs` and `Frames`.
+#![forbid(unsafe_code)]
+use crate::calls::{bounds, compare, equals_bytes, gets, outside, reads, shown};
+use crate::error::{fault, made, shared};
+use crate::io::write_once;
+use crate::kit::{Clone as _, Global};
+use crate::proved::iobufs_core::codec as core;
+use crate::proved::{iobufs as inner, iobufs_frames};
+use crate::{Error, IoBuf, IoBufMut};
+use bytes::{Bytes, BytesMut};
+use std::cmp::Ordering;
+use std::hash::{Hash, Hasher};
+use std::io::{self, ErrorKind, IoSlice, Write};
+use std::mem;
+use std::ops::RangeBounds;
+
+/// How many chunks are handed to one write.
+pub(crate) const BATCH: usize = 64;
+
+/// Read-only bytes in chunks, of which none is copied.
+///
+/// ```
+/// let mut bufs: iobufs::IoBufs = ["ab", "cde", "f"].into_iter().collect();
+/// bufs.advance(1);
+/// assert_eq!(bufs.split_to(3), "bcd");
+/// assert_eq!(bufs.chunk_count(), 2);
+/// ```
+#[derive(Default)]
+pub struct IoBufs(pub(crate) inner::IoBufs);
+
+impl IoBufs {
+    /// Makes one without bytes.
+    pub fn new() -> Self {
+        Self::default()
+    }
+
+    /// Makes a view of these bytes, which aren't copied.
+    pub fn from_static(bytes: &'static [u8]) -> Self {
+        Self::from(bytes)
+    }
+
+    /// Returns the number of bytes.
+    #[inline]
+    pub fn len(&self) -> usize {
+        self.0.len()
+    }
+
+    /// Returns whether there are no bytes.
+    #[inline]
+    pub fn is_empty(&self) -> bool {
+        self.0.is_empty()
+    }
+
+    /// Returns how many chunks keep an owner (`IoBuf::from_owner`).
+    pub fn owners(&self) -> usize {
+        owners(&self.0)
+    }
+
+    /// Returns whether all bytes are in one chunk.
+    #[inline]
+    pub fn is_single(&self) -> bool {
+        self.0.is_single()
+    }
+
+    /// Returns the number of chunks that hold bytes.
+    #[inline]
+    pub fn chunk_count(&self) -> usize {
+        self.0.chunk_count()
+    }
+
+    /// Returns the bytes of the chunk of an index.
+    #[inline]
+    pub fn chunk_at(&self, index: usize) -> Option<&[u8]> {
+        self.0.chunk_at(index)
+    }
+
+    /// Returns the chunks that hold bytes, in order.
+    #[inline]
+    pub fn chunks(&self) -> Chunks<'_> {
+        Chunks(self.0.chunks())
+    }
+
+    /// Returns the only chunk, if there is at most one.
+    #[inline]
+    pub fn as_single(&self) -> Option<&IoBuf> {
+        self.0.as_single().map(IoBuf::wrap)
+    }
+
+    /// Returns the byte at an offset, if there is one.
+    pub fn byte_at(&self, i: usize) -> Option<u8> {
+        core::Buf::byte_at(&self.0, i)
+    }
+
+    /// Returns the index of the chunk that contains an offset, and the distance from its start.
+    pub fn locate(&self, at: usize) -> Option<(usize, usize)> {
+        self.0.try_locate(at).map(|place| (place.index, place.offset))
+    }
+
+    /// Returns the bytes of a range, which share their storage. Panics if it isn't within the bytes.
+    #[inline]
+    #[track_caller]
+    pub fn slice(&self, range: impl RangeBounds<usize>) -> Self {
+        let (lo, hi) = bounds(range, || self.len());
+        match self.0.try_slice(Global, lo..hi) {
+            Some(slice) => IoBufs(shared(slice)),
+            None => outside(lo, hi),
+        }
+    }
+
+    /// Keeps at most the first `len` bytes.
+    #[inline]
+    pub fn truncate(&mut self, len: usize) {
+        shared(self.0.truncate(Global, len))
+    }
+
+    /// Keeps no byte.
+    pub fn clear(&mut self) {
+        *self = Self::default();
+    }
+
+    /// Returns a copy of all bytes.
+    pub fn to_vec(&self) -> Vec<u8> {
+        shared(self.0.to_vec(Global)).0
+    }
+
+    /// Takes the bytes from `at` on. Panics if there are fewer.
+    #[track_caller]
+    pub fn split_off(&mut self, at: usize) -> Self {
+        let front = self.split_to(at);
+        mem::replace(self, front)
+    }
+
+    /// Calls `visit` with each chunk that holds bytes, in order.
+    #[inline]
+    pub fn for_each_chunk(&self, visit: impl FnMut(&[u8])) {
+        self.0.for_each_chunk(visit)
+    }
+
+    /// Adds a buffer at the end.
+    #[inline]
+    #[track_caller]
+    pub fn append(&mut self, chunk: IoBuf) {
+        made(self.0.append(Global, chunk.0), None, "length overflow");
+    }
+
+    /// Adds the chunks of another one at the end.
+    #[track_caller]
+    pub fn append_all(&mut self, other: IoBufs) {
+        self.extend(other);
+    }
+
+    /// Adds a buffer at the front.
+    #[inline]
+    #[track_caller]
+    pub fn prepend(&mut self, chunk: IoBuf) {
+        made(self.0.prepend(Global, chunk.0), None, "length overflow");
+    }
+
+    /// Takes the first `at` bytes. Panics if there are fewer.
+    #[inline]
+    #[track_caller]
+    pub fn split_to(&mut self, at: usize) -> Self {
+        IoBufs(shared(self.0.try_split_to(Global, at).expect("split_to out of bounds")))
+    }
+
+    /// Coalesces the chunks into one view, with a copy of several.
+    #[track_caller]
+    pub fn coalesce(self) -> IoBuf {
+        let len = self.len();
+        IoBuf(made(self.0.coalesce(Global), Some(len), "the bytes are too many for one buffer"))
+    }
+
+    /// Returns the only chunk, or the `IoBufs` itself if there are more.
+    pub fn try_into_single(self) -> Result<IoBuf, Self> {
+        self.0.try_into_single().map(IoBuf).map_err(IoBufs)
+    }
+
+    /// Fills `dst` with the first chunks, and returns how many (`Buf`).
+    pub fn chunks_vectored<'a>(&'a self, dst: &mut [IoSlice<'a>]) -> usize {
+        dst.iter_mut().zip(self.chunks()).map(|(slot, chunk)| *slot = IoSlice::new(chunk)).count()
+    }
+
+    /// Returns the first chunks, at most `N`, as they are handed to `writev`.
+    pub fn slices<const N: usize>(&self) -> ([IoSlice<'_>; N], usize) {
+        let mut slices = [IoSlice::new(&[]); N];
+        let n = self.chunks_vectored(&mut slices);
+        (slices, n)
+    }
+
+    /// Returns all chunks, as they are handed to `writev`.
+    pub fn io_slices(&self) -> Vec<IoSlice<'_>> {
+        self.chunks().map(IoSlice::new).collect()
+    }
+
+    /// Writes all bytes by as many vectored writes as the writer needs, each of up to 64 chunks, and drops them as they
+    /// are taken. After an error the bytes that weren't taken are left. Fails with `ErrorKind::WriteZero` if the writer
+    /// takes no byte, and with `ErrorKind::Other` if it says that it took more than it was given.
+    pub fn write_to(&mut self, to: &mut (impl Write + ?Sized)) -> io::Result<()> {
+        while !self.is_empty() {
+            let (chunks, count) = self.slices::<BATCH>();
+            match write_once(to, &chunks[..count]) {
+                Ok(0) => return Err(ErrorKind::WriteZero.into()),
+                Ok(n) => self.advance(n),
+                Err(error) if error.kind() == ErrorKind::Interrupted => {}
+                Err(error) => return Err(error),
+            }
+        }
+        Ok(())
+    }
+
+    reads! {}
+
+    gets! {}
+
+    #[inline]
+    pub(crate) fn each_chunk(&self) -> Chunks<'_> {
+        self.chunks()
+    }
+
+    fn has(&self, bytes: &[u8]) -> bool {
+        self.0.eq_bytes(bytes)
+    }
+}
+
+impl Clone for IoBufs {
+    #[inline]
+    fn clone(&self) -> Self {
+        IoBufs(shared(self.0.clone()))
+    }
+}
+
+/// Compares the bytes, for every chunking.
+impl PartialEq for IoBufs {
+    fn eq(&self, other: &Self) -> bool {
+        self.0 == other.0
+    }
+}
+
+impl Eq for IoBufs {}
+equals_bytes!(IoBufs);
+shown!(IoBufs);
+
+impl PartialOrd for IoBufs {
+    fn partial_cmp(&self, other: &Self) -> Option<Ordering> {
+        Some(self.cmp(other))
+    }
+}
+
+/// The order of the bytes.
+impl Ord for IoBufs {
+    fn cmp(&self, other: &Self) -> Ordering {
+        compare(self.chunks(), other.chunks())
+    }
+}
+
+/// One hash for every chunking, so it takes the bytes one by one.
+impl Hash for IoBufs {
+    fn hash<H: Hasher>(&self, state: &mut H) {
+        state.write_usize(self.len());
+        self.chunks().flatten().for_each(|byte| state.write_u8(*byte));
+    }
+}
+
+impl From<IoBuf> for IoBufs {
+    #[inline]
+    fn from(view: IoBuf) -> Self {
+        IoBufs(view.0.into())
+    }
+}
+
+/// Conversions by way of an `IoBuf`, as the one chunk.
+macro_rules! of_one_chunk {
+    ($([$($param:tt)*] $from:ty),*) => {$(
+        impl<$($param)*> From<$from> for IoBufs {
+            #[inline]
+            fn from(bytes: $from) -> Self {
+                IoBuf::from(bytes).into()
+            }
+        }
+    )*};
+}
+
+of_one_chunk! {
+    [] IoBufMut, [] Vec<u8>, [] Box<[u8]>, [] String, [] Bytes, [] BytesMut, [] &'static [u8], [] &'static str,
+    [const N: usize] &'static [u8; N]
+}
+
+/// The bytes, with a copy of several chunks.
+impl From<IoBufs> for Vec<u8> {
+    fn from(bufs: IoBufs) -> Self {
+        bufs.coalesce().into()
+    }
+}
+
+/// The bytes, with a copy of several chunks.
+impl From<IoBufs> for Bytes {
+    fn from(bufs: IoBufs) -> Self {
+        bufs.coalesce().into()
+    }
+}
+
+impl<T: Into<IoBuf>> FromIterator<T> for IoBufs {
+    fn from_iter<I: IntoIterator<Item = T>>(chunks: I) -> Self {
+        let mut bufs = IoBufs::default();
+        bufs.extend(chunks);
+        bufs
+    }
+}
+
+impl<T: Into<IoBuf>> Extend<T> for IoBufs {
+    fn extend<I: IntoIterator<Item = T>>(&mut self, chunks: I) {
+        chunks.into_iter().for_each(|chunk| self.append(chunk.into()));
+    }
+}
+
+/// The chunks that hold bytes, in order.
+pub struct Chunks<'a>(inner::bufs::Chunks<'a>);
+
+impl<'a> Iterator for Chunks<'a> {
+    type Item = &'a [u8];
+
+    #[inline]
+    fn next(&mut self) -> Option<&'a [u8]> {
+        self.0.next()
+    }
+}
+
+impl<'a> IntoIterator for &'a IoBufs {
+    type Item = &'a [u8];
+    type IntoIter = Chunks<'a>;
+
+    fn into_iter(self) -> Chunks<'a> {
+        self.chunks()
+    }
+}
+
+/// The chunks that hold bytes, as views.
+pub struct IntoIter(IoBufs);
+
+impl Iterator for IntoIter {
+    type Item = IoBuf;
+
+    fn next(&mut self) -> Option<IoBuf> {
+        let n = self.0.chunk().len();
+        (n > 0).then(|| self.0.take_owned(n))
+    }
+}
+
+impl IntoIterator for IoBufs {
+    type Item = IoBuf;
+    type IntoIter = IntoIter;
+
+    fn into_iter(self) -> IntoIter {
+        IntoIter(self)
+    }
+}
+
+impl From<Vec<IoBuf>> for IoBufs {
+    fn from(views: Vec<IoBuf>) -> Self {
+        views.into_iter().collect()
+    }
+}
+
+impl<const N: usize> From<[IoBuf; N]> for IoBufs {
+    fn from(views: [IoBuf; N]) -> Self {
+        views.into_iter().collect()
+    }
+}
+
+/// How the length before a frame is written.
+#[derive(Clone, Copy, Debug, Default, PartialEq, Eq, Hash)]
+pub enum Prefix {
+    /// A varint: seven bits a byte, the lowest first.
+    #[default]
+    Varint,
+    /// Two bytes, the highest first.
+    U16Be,
+    /// Four bytes, the highest first.
+    U32Be,
+    /// Eight bytes, the highest first.
+    U64Be,
+    /// Two bytes, the lowest first.
+    U16Le,
+    /// Four bytes, the lowest first.
+    U32Le,
+    /// Eight bytes, the lowest first.
+    U64Le,
+    /// One byte.
+    U8,
+    /// Three bytes, the highest first.
+    U24Be,
+    /// Three bytes, the lowest first.
+    U24Le,
+}
+
+impl Prefix {
+    #[inline]
+    pub(crate) fn inner(self) -> iobufs_frames::Prefix {
+        use iobufs_frames::{ByteOrder::*, Prefix::*, Width};
+        match self {
+            Prefix::Varint => Spelled,
+            Prefix::U16Be => Fixed(Width::U16, Big),
+            Prefix::U32Be => Fixed(Width::U32, Big),
+            Prefix::U64Be => Fixed(Width::U64, Big),
+            Prefix::U16Le => Fixed(Width::U16, Little),
+            Prefix::U32Le => Fixed(Width::U32, Little),
+            Prefix::U64Le => Fixed(Width::U64, Little),
+            Prefix::U8 => Fixed(Width::U8, Big),
+            Prefix::U24Be => Fixed(Width::U24, Big),
+            Prefix::U24Le => Fixed(Width::U24, Little),
+        }
+    }
+
+    /// Writes the length `n`. Returns `None` if it doesn't fit.
+    pub fn written(self, n: usize) -> Option<IoBufMut> {
+        let prefix = self.inner();
+        prefix.fits(n).then(|| IoBufMut::from(prefix.head(n).as_slice()))
+    }
+}
+
+/// Frames of bytes that come in chunks: each is a length followed by a body.
+///
+/// ```
+/// let mut frames = iobufs::Frames::new(iobufs::Prefix::U16Be);
+/// frames.feed(b"\0\x02o".into());
+/// assert!(frames.next(..)?.is_none());
+/// frames.feed(b"k\0".into());
+/// assert_eq!(frames.next(..)?.unwrap(), "ok");
+/// # Ok::<(), iobufs::Error>(())
+/// ```
+#[derive(Default)]
+pub struct Frames(iobufs_frames::Frames);
+
+impl Frames {
+    /// Makes frames to which nothing was fed, with lengths that are written as `prefix`.
+    pub fn new(prefix: Prefix) -> Self {
+        Frames(iobufs_frames::Frames::new(prefix.inner()))
+    }
+
+    /// Adds bytes at the end.
+    #[inline]
+    #[track_caller]
+    pub fn feed(&mut self, chunk: IoBuf) {
+        made(self.0.feed(Global, chunk.0), None, "length overflow");
+    }
+
+    /// Takes the first frame; `None` if it isn't whole yet. Fails if no further bytes can make it whole.
+    pub fn next(&mut self, range: impl RangeBounds<usize>) -> Result<Option<IoBuf>, Error> {
+        let body = self.0.next(Global, &core::RangeCfg::new(range)).map_err(fault)?;
+        Ok(body.map(IoBuf))
+    }
+
+    /// Returns how many bytes were fed and not taken.
+    #[inline]
+    pub fn len(&self) -> usize {
+        self.0.rest().len()
+    }
+
+    /// Returns whether all that was fed was taken.
+    #[inline]
+    pub fn is_empty(&self) -> bool {
+        self.0.rest().is_empty()
+    }
+
+    /// Returns how many chunks keep an owner (`IoBuf::from_owner`).
+    pub fn owners(&self) -> usize {
+        owners(self.0.rest())
+    }
+}
+
+/// Counts the chunks that keep an owner.
+fn owners(bufs: &inner::IoBufs) -> usize {
+    (0..).map_while(|i| bufs.view_at(i)).filter(|view| view.is_shared()).count()
+}

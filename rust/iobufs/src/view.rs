@@ -1,0 +1,248 @@
+//! `IoBuf`.
+#![forbid(unsafe_code)]
+use crate::IoBufMut;
+use crate::calls::{bounds, derefs, equals_bytes, gets, outside, reads, shown};
+use crate::error::{AllocError, made, shared, tried};
+use crate::kit::{self, Clone as _, Global};
+use crate::proved::iobufs_core::{self as inner, codec as core};
+use crate::traits::vec_of;
+use bytes::Bytes;
+use std::borrow::Borrow;
+use std::cmp::Ordering;
+use std::hash::{Hash, Hasher};
+use std::mem;
+use std::ops::{Bound, RangeBounds};
+
+/// Read-only bytes in one chunk. Clones, slices and both sides of a split share their storage.
+///
+/// ```
+/// let mut view = iobufs::IoBuf::from(vec![1, 2, 3]);
+/// assert_eq!(view.split_to(1), [1]);
+/// assert_eq!(view.slice(1..), [3]);
+/// ```
+#[derive(Default)]
+#[repr(transparent)]
+pub struct IoBuf(pub(crate) inner::IoBuf);
+
+impl IoBuf {
+    /// Makes an empty view.
+    pub fn new() -> Self {
+        Self::default()
+    }
+
+    /// Makes a view of these bytes, which aren't copied.
+    pub fn from_static(bytes: &'static [u8]) -> Self {
+        Self::from(bytes)
+    }
+
+    /// Makes a view of the bytes of `owner`, which aren't copied. They live until the last buffer made of it is
+    /// dropped, on whatever thread that is. `as_ref` is called once.
+    pub fn from_owner<T: AsRef<[u8]> + Send + Sync + 'static>(owner: T) -> Self {
+        Self::from(Bytes::from_owner(owner))
+    }
+
+    /// Copies these bytes.
+    pub fn copy_from_slice(data: &[u8]) -> Self {
+        IoBuf(made(inner::IoBuf::copy_from_slice(Global, data), Some(data.len()), ""))
+    }
+
+    /// Copies these bytes, or returns an error if that fails.
+    pub fn try_copy_from_slice(data: &[u8]) -> Result<Self, AllocError> {
+        tried(inner::IoBuf::copy_from_slice(Global, data), data.len(), IoBuf)
+    }
+
+    /// Returns the number of bytes.
+    #[inline]
+    pub fn len(&self) -> usize {
+        self.0.len()
+    }
+
+    /// Returns whether there are no bytes.
+    #[inline]
+    pub fn is_empty(&self) -> bool {
+        self.0.is_empty()
+    }
+
+    /// Returns the address of the bytes.
+    #[inline]
+    pub fn as_ptr(&self) -> *const u8 {
+        self.as_ref().as_ptr()
+    }
+
+    /// Returns the bytes of a range, in the same storage. Panics if it isn't within the bytes.
+    #[inline]
+    #[track_caller]
+    pub fn slice(&self, range: impl RangeBounds<usize>) -> Self {
+        let (lo, hi) = bounds(range, || self.len());
+        match self.0.try_slice(Bound::Included(lo), Bound::Excluded(hi)) {
+            Some(slice) => IoBuf(shared(slice)),
+            None => outside(lo, hi),
+        }
+    }
+
+    /// Returns the view of some of its bytes, in the same storage. Panics if `subset` isn't a part of what `as_ref`
+    /// returns.
+    #[track_caller]
+    pub fn slice_ref(&self, subset: &[u8]) -> Self {
+        if subset.is_empty() {
+            return Self::new();
+        }
+        let at = subset.as_ptr().addr().wrapping_sub(self.as_ptr().addr());
+        self.slice(at..at.saturating_add(subset.len()))
+    }
+
+    /// Takes the first `at` bytes, in the same storage. Panics if there are fewer.
+    #[inline]
+    #[track_caller]
+    pub fn split_to(&mut self, at: usize) -> Self {
+        IoBuf(shared(self.0.try_split_to(at).expect("split_to out of bounds")))
+    }
+
+    /// Takes the bytes from `at` on, in the same storage. Panics if there are fewer.
+    #[track_caller]
+    pub fn split_off(&mut self, at: usize) -> Self {
+        let front = self.split_to(at);
+        mem::replace(self, front)
+    }
+
+    /// Keeps at most the first `len` bytes.
+    pub fn truncate(&mut self, len: usize) {
+        if let Some(front) = self.0.try_split_to(len) {
+            self.0 = shared(front);
+        }
+    }
+
+    /// Keeps no byte.
+    pub fn clear(&mut self) {
+        *self = Self::default();
+    }
+
+    /// Recovers the bytes as a buffer to write, with the spare capacity after them, if no other view shares their
+    /// storage. Bytes of an owner are not recovered.
+    #[inline]
+    pub fn try_into_mut(self) -> Result<IoBufMut, Self> {
+        self.0.try_into_mut(Global).map(IoBufMut).map_err(IoBuf)
+    }
+
+    reads! {}
+
+    gets! {}
+}
+
+impl Clone for IoBuf {
+    #[inline]
+    fn clone(&self) -> Self {
+        IoBuf(shared(self.0.clone()))
+    }
+}
+
+impl AsRef<[u8]> for IoBuf {
+    #[inline]
+    fn as_ref(&self) -> &[u8] {
+        self.0.as_ref()
+    }
+}
+
+derefs!(IoBuf);
+equals_bytes!(IoBuf);
+shown!(IoBuf);
+
+impl PartialOrd for IoBuf {
+    fn partial_cmp(&self, other: &Self) -> Option<Ordering> {
+        Some(self.cmp(other))
+    }
+}
+
+impl Ord for IoBuf {
+    fn cmp(&self, other: &Self) -> Ordering {
+        self.as_ref().cmp(other.as_ref())
+    }
+}
+
+impl Hash for IoBuf {
+    fn hash<H: Hasher>(&self, state: &mut H) {
+        self.as_ref().hash(state);
+    }
+}
+
+/// A view equals its bytes, is ordered as they are, and has their hash.
+impl Borrow<[u8]> for IoBuf {
+    fn borrow(&self) -> &[u8] {
+        self.as_ref()
+    }
+}
+
+impl From<&'static [u8]> for IoBuf {
+    fn from(bytes: &'static [u8]) -> Self {
+        IoBuf(inner::IoBuf::from(bytes))
+    }
+}
+
+impl<const N: usize> From<&'static [u8; N]> for IoBuf {
+    fn from(bytes: &'static [u8; N]) -> Self {
+        Self::from(&bytes[..])
+    }
+}
+
+impl From<&'static str> for IoBuf {
+    fn from(text: &'static str) -> Self {
+        Self::from(text.as_bytes())
+    }
+}
+
+/// Keeps the `Vec`.
+impl From<Vec<u8>> for IoBuf {
+    fn from(bytes: Vec<u8>) -> Self {
+        IoBuf(shared(inner::IoBuf::from_vec(kit::prelude::Vec(bytes))))
+    }
+}
+
+/// Keeps the bytes of the `String`.
+impl From<String> for IoBuf {
+    fn from(text: String) -> Self {
+        Self::from(text.into_bytes())
+    }
+}
+
+/// Keeps the box.
+impl From<Box<[u8]>> for IoBuf {
+    fn from(bytes: Box<[u8]>) -> Self {
+        Self::from(bytes.into_vec())
+    }
+}
+
+impl FromIterator<u8> for IoBuf {
+    fn from_iter<I: IntoIterator<Item = u8>>(bytes: I) -> Self {
+        Self::from(Vec::from_iter(bytes))
+    }
+}
+
+impl<'a> IntoIterator for &'a IoBuf {
+    type Item = &'a u8;
+    type IntoIter = std::slice::Iter<'a, u8>;
+
+    fn into_iter(self) -> Self::IntoIter {
+        self.iter()
+    }
+}
+
+impl From<IoBufMut> for IoBuf {
+    #[inline]
+    fn from(part: IoBufMut) -> Self {
+        part.freeze()
+    }
+}
+
+/// Storage that the view alone keeps comes back, with the view's bytes moved to its front; other bytes are copied.
+impl From<IoBuf> for Vec<u8> {
+    #[inline]
+    fn from(view: IoBuf) -> Self {
+        match view.try_into_mut() {
+            Ok(part) => part.into(),
+            Err(view) => match view.0.into_shared() {
+                Ok(bytes) => vec_of(bytes.0),
+                Err(view) => view.as_ref().to_vec(),
+            },
+        }
+    }
+}

@@ -1,0 +1,140 @@
+//! How much memory readers and writers of frames hold. `malloc` is counted, which the library and Rust's collections
+//! call.
+use iobufs::{FrameReader, FrameWriter, IoBuf, IoBufs};
+use std::cell::Cell;
+use std::ffi::c_void;
+use std::io::{self, Read};
+
+thread_local! {
+    /// The bytes that this thread holds, the most that it held since it was asked last, and how often it allocated.
+    static HELD: Cell<isize> = const { Cell::new(0) };
+    static MOST: Cell<isize> = const { Cell::new(0) };
+    static CALLS: Cell<usize> = const { Cell::new(0) };
+}
+
+unsafe extern "C" {
+    fn __libc_malloc(n: usize) -> *mut c_void;
+    fn __libc_calloc(n: usize, size: usize) -> *mut c_void;
+    fn __libc_realloc(old: *mut c_void, n: usize) -> *mut c_void;
+    fn __libc_free(old: *mut c_void);
+    fn malloc_usable_size(at: *mut c_void) -> usize;
+}
+
+fn count(before: isize, at: *mut c_void) -> *mut c_void {
+    // SAFETY: `at` is null, or was just allocated.
+    HELD.set(HELD.get() - before + unsafe { malloc_usable_size(at) } as isize);
+    MOST.set(MOST.get().max(HELD.get()));
+    CALLS.set(CALLS.get() + 1);
+    at
+}
+
+// SAFETY, of each: it hands the call on to the C library's own.
+#[unsafe(no_mangle)]
+unsafe extern "C" fn malloc(n: usize) -> *mut c_void {
+    count(0, unsafe { __libc_malloc(n) })
+}
+
+#[unsafe(no_mangle)]
+unsafe extern "C" fn calloc(n: usize, size: usize) -> *mut c_void {
+    count(0, unsafe { __libc_calloc(n, size) })
+}
+
+#[unsafe(no_mangle)]
+unsafe extern "C" fn realloc(old: *mut c_void, n: usize) -> *mut c_void {
+    let before = unsafe { malloc_usable_size(old) } as isize;
+    count(before, unsafe { __libc_realloc(old, n) })
+}
+
+#[unsafe(no_mangle)]
+unsafe extern "C" fn free(old: *mut c_void) {
+    HELD.set(HELD.get() - unsafe { malloc_usable_size(old) } as isize);
+    unsafe { __libc_free(old) }
+}
+
+/// Frames of one body, read at most `n` bytes at a time. Each read compares the memory that was held since the last one
+/// with the bytes that were held after that.
+struct Source<'a> {
+    frame: Vec<u8>,
+    at: usize,
+    count: usize,
+    most: usize,
+    /// How many bytes were read, how many of those are in bodies that were dropped or in lengths, and how many were
+    /// held.
+    came: usize,
+    gone: &'a Cell<usize>,
+    held: usize,
+    memory: isize,
+    name: &'static str,
+}
+
+/// The largest block, unless a single frame needs more.
+const BLOCK: usize = 1 << 16;
+
+impl Read for Source<'_> {
+    fn read(&mut self, dst: &mut [u8]) -> io::Result<usize> {
+        let (bytes, memory) = (self.held, MOST.replace(HELD.get()) - self.memory);
+        assert!(memory as usize <= 2 * bytes + 2 * BLOCK, "{}: {memory} for {bytes} bytes", self.name);
+        let mut n = 0;
+        while self.count > 0 && n < dst.len().min(self.most) {
+            let some = (dst.len().min(self.most) - n).min(self.frame.len() - self.at);
+            dst[n..n + some].copy_from_slice(&self.frame[self.at..self.at + some]);
+            self.at = (self.at + some) % self.frame.len();
+            self.count -= usize::from(self.at == 0);
+            n += some;
+        }
+        self.came += n;
+        self.held = self.came - self.gone.get();
+        Ok(n)
+    }
+}
+
+/// A name, how many frames there are, how many bytes a body has, how many bytes are read at a time, and whether bodies
+/// are kept.
+const READS: [(&str, usize, usize, usize, bool); 8] = [
+    ("a byte at a time", 20_000, 64, 1, false),
+    ("20,000 bytes, a byte at a time", 1, 20_000, 1, true),
+    ("short bodies that are kept", 30_000, 3, 1, true),
+    ("short bodies that come together", 60_000, 3, usize::MAX, true),
+    ("a mebibyte byte by byte", 1, 1 << 20, 1, true),
+    ("mebibytes that are dropped", 5, 1 << 20, 4096, false),
+    ("bodies above half a block", 60, 33_000, usize::MAX, true),
+    ("bodies above a block", 30, 70_000, 1000, true),
+];
+
+#[test]
+fn memory_of_readers() {
+    for (name, count, len, most, is_kept) in READS {
+        let mut to = FrameWriter::new(Vec::new(), ..);
+        to.put(vec![7; len]).unwrap();
+        to.send().unwrap();
+        let (frame, mut kept, gone) = (to.into_inner(), Vec::with_capacity(count), Cell::new(0));
+        let size = frame.len();
+        MOST.set(HELD.get());
+        let source = Source { frame, at: 0, count, most, came: 0, gone: &gone, held: 0, memory: HELD.get(), name };
+        let mut from = FrameReader::new(source, ..);
+        while let Some(body) = from.next().unwrap() {
+            assert!(body.len() == len && body[0] == 7 && body[len - 1] == 7);
+            gone.set(gone.get() + if is_kept { size - len } else { size });
+            kept.extend(Some(body).filter(|_| is_kept));
+        }
+        assert_eq!((from.get_ref().came, kept.len()), (count * size, if is_kept { count } else { 0 }), "{name}");
+    }
+}
+
+// Once the list of frames has space, a frame is put and sent without an allocation, and so is read what a block holds.
+#[test]
+fn allocations_of_frames() {
+    let body = IoBufs::from([IoBuf::from(vec![1; 60]), IoBuf::from(vec![2; 4])]);
+    let mut to = FrameWriter::new(Vec::with_capacity(1 << 20), ..);
+    for round in 0..2 {
+        let bodies: Vec<IoBufs> = (0..100).map(|_| body.clone()).collect();
+        let before = CALLS.get();
+        bodies.into_iter().for_each(|body| to.put(body).unwrap());
+        to.send().unwrap();
+        assert!(round == 0 || CALLS.get() == before, "{} allocations", CALLS.get() - before);
+    }
+    let bytes = to.into_inner();
+    let (mut from, before) = (FrameReader::new(&bytes[..], ..), CALLS.get());
+    (0..200).for_each(|_| assert_eq!(from.next().unwrap().unwrap().len(), 64));
+    assert!(CALLS.get() - before <= 12, "{} allocations for {} bytes", CALLS.get() - before, bytes.len());
+}

@@ -1,0 +1,132 @@
+//! Conversions, iterators, writers and formats beyond the original's.
+use bytes::{BufMut, Bytes, BytesMut};
+use iobufs::{Builder, IoBuf, IoBufMut, IoBufs, IoBufsMut};
+use std::fmt::Write as _;
+use std::io::{BufRead, Read, Write};
+use std::panic::{AssertUnwindSafe, catch_unwind};
+
+/// Nine bytes in three chunks.
+fn text() -> IoBufs {
+    ["abc", "de", "fghi"].into_iter().collect()
+}
+
+#[test]
+fn chunks_of_an_iobufs() {
+    let text = text();
+    let mut seen = Vec::new();
+    for chunk in &text {
+        seen.push(chunk);
+    }
+    assert_eq!(seen, [&b"abc"[..], b"de", b"fghi"]);
+    let slices = text.io_slices();
+    assert!(slices.iter().map(|slice| &**slice).eq(seen.iter().copied()) && slices[2].as_ptr() == seen[2].as_ptr());
+    assert!(IoBufs::new().io_slices().is_empty());
+}
+
+#[test]
+fn one_value_of_an_iobufs() {
+    let single = IoBufs::from(Bytes::from(b"one".to_vec()));
+    let at = single.chunk().as_ptr();
+    assert_eq!((Bytes::from(single.clone()).as_ptr(), Bytes::from(single)), (at, "one".into()));
+    let vec = b"one".to_vec();
+    let at = vec.as_ptr();
+    let back = Vec::from(IoBufs::from(vec));
+    assert_eq!((back.as_ptr(), &back[..]), (at, &b"one"[..]));
+    assert_eq!(
+        (Vec::from(text()), Bytes::from(text()), Vec::from(IoBufs::new())),
+        (b"abcdefghi".to_vec(), "abcdefghi".into(), vec![])
+    );
+    let mut part = IoBufMut::from(vec![1, 2, 3]);
+    let at = part.as_mut_ptr().cast_const();
+    part.advance(1);
+    let back = Vec::from(part);
+    assert_eq!((back.as_ptr(), back), (at, vec![2, 3]));
+}
+
+#[test]
+fn parts_of_a_view() {
+    let view = IoBuf::from(b"abcdef".to_vec());
+    let inner = view.slice(1..5);
+    for (from, to) in (0..=4).flat_map(|to| (0..=to).map(move |from| (from, to))) {
+        let part = inner.slice_ref(&inner[from..to]);
+        assert_eq!(part, inner[from..to]);
+        assert!(from == to || part.as_ptr() == inner[from..].as_ptr());
+    }
+    assert!(inner.slice_ref(b"").is_empty());
+    for other in [&view[..2], &view[4..], b"bc"] {
+        assert!(catch_unwind(|| inner.slice_ref(other)).is_err());
+    }
+}
+
+#[test]
+fn writers() {
+    fn write<W: Write + std::fmt::Write + BufMut>(mut to: W) -> W {
+        write!(&mut to as &mut dyn std::fmt::Write, "{}-{:?}", 1, 'x').unwrap();
+        assert_eq!(Write::write(&mut to, b"abcdef").unwrap(), 3);
+        assert!(to.write_str("y").is_err() && to.write_str("").is_ok() && to.remaining_mut() == 0);
+        to.flush().unwrap();
+        to
+    }
+    assert_eq!(write(IoBufMut::with_capacity(8)), "1-'x'abc");
+    assert_eq!(write(IoBufsMut::from([3, 1, 4].map(IoBufMut::with_capacity))).freeze(), "1-'x'abc");
+    let mut builder = Builder::new(8);
+    builder.push("pushed ");
+    assert_eq!(write(builder).finish(), "pushed 1-'x'abc");
+    let mut part = IoBufMut::with_capacity(3);
+    assert!(part.write_str("abcd").is_err());
+    assert_eq!(part, "");
+}
+
+#[test]
+fn readers() {
+    let mut parts = IoBufsMut::from([IoBufMut::from(b"one\ntw"), IoBufMut::from(b"o\n")]);
+    let (mut line, mut rest) = (String::new(), Vec::new());
+    assert_eq!((parts.read_line(&mut line).unwrap(), &line[..]), (4, "one\n"));
+    parts.read_to_end(&mut rest).unwrap();
+    assert_eq!((rest, IoBufMut::from(b"ab").lines().next().unwrap().unwrap()), (b"two\n".to_vec(), "ab".into()));
+}
+
+#[test]
+fn bytes_in_place() {
+    let mut part = IoBufMut::from(b"cab");
+    part[0] = b'z';
+    part.sort();
+    part[1..].reverse();
+    assert_eq!(part, b"azb");
+    fn equal<T: Eq>(_: T) {}
+    equal(part);
+}
+
+// Small packets are read into the spare capacity where it is, as into a `BytesMut`: no block is moved.
+#[test]
+fn spare_capacity_stays_where_it_is() {
+    fn read<B: BufMut>(mut to: B) -> B {
+        let at = to.chunk_mut().as_mut_ptr();
+        for i in 0..10_000 {
+            let spare = to.chunk_mut();
+            assert_eq!((spare.as_mut_ptr(), spare.len()), (at.wrapping_add(100 * i), (1 << 20) - 100 * i));
+            spare[..100].copy_from_slice(&[i as u8; 100]);
+            // SAFETY: these bytes were written.
+            unsafe { to.advance_mut(100) };
+        }
+        to
+    }
+    let wanted = read(BytesMut::with_capacity(1 << 20));
+    assert!(read(IoBufMut::with_capacity(1 << 20)) == wanted);
+    assert!(read(IoBufsMut::from(IoBufMut::with_capacity(1 << 20))).freeze() == wanted);
+    assert!(read(Builder::new(1 << 20)).finish() == wanted);
+}
+
+// An error is that of `bytes`, where it has one: then this compiles with either, and both have the lengths.
+#[test]
+fn errors_of_short_reads() {
+    let mut view = IoBuf::from(b"abc");
+    let errors = [
+        view.try_get_u32().unwrap_err(),
+        view.try_copy_to_slice(&mut [0; 9]).unwrap_err(),
+        text().try_copy_to_slice(&mut [0; 10]).unwrap_err(),
+    ];
+    assert_eq!(errors.map(|error| (error.requested, error.available)), [(4, 3), (9, 3), (10, 9)]);
+    assert_eq!((view.try_get_u16(), view.try_get_u8(), view.len()), (Ok(0x6162), Ok(b'c'), 0));
+    assert!(catch_unwind(AssertUnwindSafe(|| view.get_u8())).is_err());
+}

@@ -1,0 +1,209 @@
+//! A deque.
+#![forbid(unsafe_code)]
+use super::base::{self, AllocError, AllocFailed, Global};
+use super::bytes::ENDS_IF_REFUSED;
+use super::vec::Vec;
+use std::collections::{self, vec_deque};
+use std::ops::{Index, IndexMut};
+use std::process;
+
+/// A deque, whose capacity never shrinks.
+pub struct VecDeque<T>(collections::VecDeque<T>);
+
+impl<T> VecDeque<T> {
+    /// Returns no items, without allocating.
+    #[inline]
+    pub fn new(_: Global) -> VecDeque<T> {
+        VecDeque(collections::VecDeque::new())
+    }
+
+    /// Returns no items, and a capacity of at least `n`.
+    #[inline]
+    pub fn with_capacity(_: Global, n: usize) -> Result<VecDeque<T>, AllocError> {
+        if ENDS_IF_REFUSED {
+            return Ok(VecDeque(collections::VecDeque::with_capacity(n)));
+        }
+        let mut items = collections::VecDeque::new();
+        items.try_reserve_exact(n).map_err(|_| AllocError)?;
+        Ok(VecDeque(items))
+    }
+
+    /// Takes the items of a vector over, and its capacity.
+    #[inline]
+    pub fn from_vec(items: Vec<T>) -> VecDeque<T> {
+        VecDeque(items.0.into())
+    }
+
+    /// Returns the items as a vector of the same capacity.
+    #[inline]
+    pub fn into_vec(self) -> Vec<T> {
+        Vec(self.0.into())
+    }
+
+    /// Returns the allocator.
+    #[inline]
+    pub fn allocator(&self) -> &Global {
+        &Global
+    }
+
+    /// Returns the number of items.
+    #[inline]
+    pub fn len(&self) -> usize {
+        self.0.len()
+    }
+
+    /// Returns whether there are no items.
+    #[inline]
+    pub fn is_empty(&self) -> bool {
+        self.0.is_empty()
+    }
+
+    /// Returns how many items there are without another allocation.
+    #[inline]
+    pub fn capacity(&self) -> usize {
+        self.0.capacity()
+    }
+
+    /// Makes space for `n` more items. If it fails, there wasn't enough, and nothing changes.
+    #[inline]
+    pub fn try_reserve(&mut self, n: usize) -> Result<(), AllocError> {
+        self.0.try_reserve(n).map_err(|_| AllocError)
+    }
+
+    /// Returns the item at an index below the length.
+    #[inline]
+    pub fn get(&self, i: usize) -> Option<&T> {
+        self.0.get(i)
+    }
+
+    /// Returns the item at an index below the length, to be changed.
+    #[inline]
+    pub fn get_mut(&mut self, i: usize) -> Option<&mut T> {
+        self.0.get_mut(i)
+    }
+
+    /// Returns the first item, if there is one.
+    #[inline]
+    pub fn front(&self) -> Option<&T> {
+        self.0.front()
+    }
+
+    /// Returns the first item, if there is one, to be changed.
+    #[inline]
+    pub fn front_mut(&mut self) -> Option<&mut T> {
+        self.0.front_mut()
+    }
+
+    /// Returns the last item, if there is one.
+    #[inline]
+    pub fn back(&self) -> Option<&T> {
+        self.0.back()
+    }
+
+    /// Returns two slices that have all items in order. If the first is empty, so is the deque.
+    #[inline]
+    pub fn as_slices(&self) -> (&[T], &[T]) {
+        self.0.as_slices()
+    }
+
+    /// Appends an item. If it fails, the deque was full, it stays as it was, and the error has the item.
+    #[inline]
+    pub fn push_back(&mut self, item: T) -> Result<(), AllocFailed<T>> {
+        if self.0.len() == self.0.capacity() && self.0.try_reserve(1).is_err() {
+            return Err(AllocFailed { value: item });
+        }
+        self.0.push_back(item);
+        Ok(())
+    }
+
+    /// Appends an item to a deque that isn't full.
+    #[inline]
+    pub fn push_back_reserved(&mut self, item: T) {
+        debug_assert!(self.0.len() < self.0.capacity());
+        self.0.push_back(item);
+    }
+
+    /// Prepends an item to a deque that isn't full.
+    #[inline]
+    pub fn push_front_reserved(&mut self, item: T) {
+        debug_assert!(self.0.len() < self.0.capacity());
+        self.0.push_front(item);
+    }
+
+    /// Takes the first item, if there is one.
+    #[inline]
+    pub fn pop_front(&mut self) -> Option<T> {
+        self.0.pop_front()
+    }
+
+    /// Takes the last item, if there is one.
+    #[inline]
+    pub fn pop_back(&mut self) -> Option<T> {
+        self.0.pop_back()
+    }
+
+    /// Moves the items from the index `at` on into another deque; `at` is at most the length. If it fails, nothing changes.
+    #[inline]
+    pub fn split_off(&mut self, at: usize) -> Result<VecDeque<T>, AllocError> {
+        if ENDS_IF_REFUSED {
+            return Ok(VecDeque(self.0.split_off(at)));
+        }
+        let mut rest = collections::VecDeque::new();
+        rest.try_reserve_exact(self.0.len() - at).map_err(|_| AllocError)?;
+        rest.extend(self.0.drain(at..));
+        Ok(VecDeque(rest))
+    }
+
+    /// Moves the last `n` items to the front; `n` is at most the length.
+    #[inline]
+    pub fn rotate_right(&mut self, n: usize) {
+        self.0.rotate_right(n);
+    }
+}
+
+/// Returns clones of all items in order.
+impl<T: base::Clone> base::Clone for VecDeque<T> {
+    #[inline]
+    fn clone(&self) -> Result<VecDeque<T>, AllocError> {
+        let (front, rest) = self.0.as_slices();
+        let mut items = std::vec::Vec::new();
+        items.try_reserve_exact(self.0.len()).map_err(|_| AllocError)?;
+        if ENDS_IF_REFUSED {
+            // Std trusts the length of these iterators: no test of the capacity for each item.
+            let cloned = |item: &T| item.clone().unwrap_or_else(|_| process::abort());
+            items.extend(front.iter().map(cloned));
+            items.extend(rest.iter().map(cloned));
+            return Ok(VecDeque(items.into()));
+        }
+        for item in front.iter().chain(rest) {
+            items.push(item.clone()?);
+        }
+        Ok(VecDeque(items.into()))
+    }
+}
+
+impl<T> Index<usize> for VecDeque<T> {
+    type Output = T;
+
+    #[inline]
+    fn index(&self, i: usize) -> &T {
+        &self.0[i]
+    }
+}
+
+impl<T> IndexMut<usize> for VecDeque<T> {
+    #[inline]
+    fn index_mut(&mut self, i: usize) -> &mut T {
+        &mut self.0[i]
+    }
+}
+
+impl<'a, T> IntoIterator for &'a VecDeque<T> {
+    type Item = &'a T;
+    type IntoIter = vec_deque::Iter<'a, T>;
+
+    #[inline]
+    fn into_iter(self) -> Self::IntoIter {
+        self.0.iter()
+    }
+}

@@ -1,0 +1,178 @@
+//! A vector. Std promises at least the capacity that is asked for, where the kit promises exactly that; an item is put without an
+//! allocation into either.
+#![forbid(unsafe_code)]
+use super::base::{AllocError, AllocFailed, Global};
+use std::ops::{Deref, DerefMut, RangeFrom};
+use std::{io, vec};
+
+/// A vector, whose capacity never shrinks.
+#[derive(Debug, PartialEq, Eq)]
+pub struct Vec<T>(pub(crate) vec::Vec<T>);
+
+impl<T> Vec<T> {
+    /// Returns no items, without allocating.
+    #[inline]
+    pub fn new(_: Global) -> Vec<T> {
+        Vec(vec::Vec::new())
+    }
+
+    /// Returns no items, and a capacity of `n`.
+    #[inline]
+    pub fn with_capacity(_: Global, n: usize) -> Result<Vec<T>, AllocError> {
+        let mut items = vec::Vec::new();
+        items.try_reserve_exact(n).map_err(|_| AllocError)?;
+        Ok(Vec(items))
+    }
+
+    /// Returns the allocator.
+    #[inline]
+    pub fn allocator(&self) -> &Global {
+        &Global
+    }
+
+    /// Returns how many items there are without another allocation.
+    #[inline]
+    pub fn capacity(&self) -> usize {
+        self.0.capacity()
+    }
+
+    /// Returns the items.
+    #[inline]
+    pub fn as_slice(&self) -> &[T] {
+        &self.0
+    }
+
+    /// Returns the items, to be changed.
+    #[inline]
+    pub fn as_mut_slice(&mut self) -> &mut [T] {
+        &mut self.0
+    }
+
+    /// Returns the items from an index on, which is at most the length, to be changed.
+    #[inline]
+    pub fn slice_mut(&mut self, range: RangeFrom<usize>) -> &mut [T] {
+        &mut self.0[range]
+    }
+
+    /// Appends an item. If it fails, the vector was full, it stays as it was, and the error has the item.
+    #[inline]
+    pub fn push(&mut self, item: T) -> Result<(), AllocFailed<T>> {
+        if self.0.len() == self.0.capacity() && self.0.try_reserve(1).is_err() {
+            return Err(AllocFailed { value: item });
+        }
+        self.0.push(item);
+        Ok(())
+    }
+
+    /// Appends an item to a vector that isn't full.
+    #[inline]
+    pub fn push_reserved(&mut self, item: T) {
+        debug_assert!(self.0.len() < self.0.capacity());
+        self.0.push(item);
+    }
+
+    /// Drops all items.
+    #[inline]
+    pub fn clear(&mut self) {
+        self.0.clear();
+    }
+
+    /// Drops the items after the first `n`.
+    #[inline]
+    pub fn truncate(&mut self, n: usize) {
+        self.0.truncate(n);
+    }
+
+    /// Moves the items from the index `at` on into another vector; `at` is at most the length. If it fails, nothing changes.
+    #[inline]
+    pub fn split_off(&mut self, at: usize) -> Result<Vec<T>, AllocError> {
+        let mut rest = vec::Vec::new();
+        rest.try_reserve_exact(self.0.len() - at).map_err(|_| AllocError)?;
+        rest.extend(self.0.drain(at..));
+        Ok(Vec(rest))
+    }
+}
+
+impl<T: Clone> Vec<T> {
+    /// Returns a copy of these items.
+    #[inline]
+    pub fn from_slice(_: Global, items: &[T]) -> Result<Vec<T>, AllocError> {
+        let mut copy = vec::Vec::new();
+        copy.try_reserve_exact(items.len()).map_err(|_| AllocError)?;
+        copy.extend_from_slice(items);
+        Ok(Vec(copy))
+    }
+
+    /// Returns `n` copies of an item.
+    pub fn from_elem(_: Global, item: T, n: usize) -> Result<Vec<T>, AllocError> {
+        let mut items = vec::Vec::new();
+        items.try_reserve_exact(n).map_err(|_| AllocError)?;
+        items.resize(n, item);
+        Ok(Vec(items))
+    }
+
+    /// Appends copies of these items. If it fails, they don't fit into the capacity, and nothing changes.
+    #[inline]
+    pub fn extend_from_slice(&mut self, items: &[T]) -> Result<(), AllocError> {
+        self.0.try_reserve(items.len()).map_err(|_| AllocError)?;
+        self.0.extend_from_slice(items);
+        Ok(())
+    }
+
+    /// Drops the items after the first `n`, or appends copies of `item` up to a length of `n`. If it fails, nothing changes.
+    #[inline]
+    pub fn resize(&mut self, n: usize, item: T) -> Result<(), AllocError> {
+        self.0.try_reserve(n.saturating_sub(self.0.len())).map_err(|_| AllocError)?;
+        self.0.resize(n, item);
+        Ok(())
+    }
+}
+
+impl<T> Deref for Vec<T> {
+    type Target = [T];
+
+    #[inline]
+    fn deref(&self) -> &[T] {
+        &self.0
+    }
+}
+
+impl<T> DerefMut for Vec<T> {
+    #[inline]
+    fn deref_mut(&mut self) -> &mut [T] {
+        &mut self.0
+    }
+}
+
+impl<T> IntoIterator for Vec<T> {
+    type Item = T;
+    type IntoIter = vec::IntoIter<T>;
+
+    #[inline]
+    fn into_iter(self) -> vec::IntoIter<T> {
+        self.0.into_iter()
+    }
+}
+
+impl<'a, T> IntoIterator for &'a Vec<T> {
+    type Item = &'a T;
+    type IntoIter = std::slice::Iter<'a, T>;
+
+    #[inline]
+    fn into_iter(self) -> Self::IntoIter {
+        self.0.iter()
+    }
+}
+
+/// Appends all bytes of each write. If allocation fails, the error's kind is `OutOfMemory`, and nothing changes.
+impl io::Write for Vec<u8> {
+    #[inline]
+    fn write(&mut self, bytes: &[u8]) -> io::Result<usize> {
+        self.extend_from_slice(bytes)?;
+        Ok(bytes.len())
+    }
+
+    fn flush(&mut self) -> io::Result<()> {
+        Ok(())
+    }
+}

@@ -1,0 +1,200 @@
+//! The rules, by the word that begins what isn't Rust.
+#![forbid(unsafe_code)]
+
+use super::{Fault, File};
+use std::mem;
+
+/// Attributes that Rust has, too.
+const KEPT: [&str; 4] = ["inline", "cold", "repr", "unsafe"];
+/// Names in a derive list that Rust hasn't, or doesn't need.
+const DERIVED: [&str; 3] = ["Drop", "Error", "thiserror::Error"];
+/// Crates of the kit.
+const KIT: [&str; 4] = ["std", "bytes", "hex", "memchr"];
+
+impl File<'_> {
+    /// Changes what begins at this token, and returns the token after what it has looked at.
+    pub(super) fn item(&mut self, i: usize) -> Result<usize, Fault> {
+        match self.text(i) {
+            "ghost" => self.ghost(i, i),
+            "pub" if self.text(i + 1) == "ghost" => self.ghost(i, i + 1),
+            "requires" | "ensures" => self.fault(i, "a clause that no function's head has"),
+            "#" => self.attribute(i),
+            "impl" => self.implementation(i),
+            "fn" if self.code.get(i + 1).is_some_and(|it| it.is_word()) => self.function(i),
+            "use" if self.has(i + 1, "thiserror : : Error ;") => {
+                self.replace(i, i + 6, "");
+                Ok(i + 6)
+            }
+            "prove" if self.text(i + 1) == "!" => {
+                self.replace(i, i + 1, "debug_assert");
+                Ok(i + 1)
+            }
+            _ => Ok(self.path(i)),
+        }
+    }
+
+    // Drops what begins at `from`, and is ghost at `i`.
+    fn ghost(&mut self, from: usize, i: usize) -> Result<usize, Fault> {
+        let end = self.after_ghost(i)?;
+        match self.text(i + 1) {
+            "use" => self.replace(from, end, ""),
+            _ => self.drop_item(from, end),
+        }
+        Ok(end)
+    }
+
+    // The token after `ghost use ..;`, `ghost name = { .. };`, `ghost name: { .. };`, `ghost name: { .. } = { .. };`, or a field.
+    fn after_ghost(&self, i: usize) -> Result<usize, Fault> {
+        let mut end = i + 2;
+        if self.text(i + 1) == "use" {
+            end += self.code[end..].iter().position(|it| it.text == ";").unwrap_or(0);
+        }
+        for mark in [": {", "= {"] {
+            if self.has(end, mark) {
+                end = self.after(end + 1)?;
+            }
+        }
+        let is_known = end > i + 2 && matches!(self.text(end), ";" | ",");
+        if is_known { Ok(end + 1) } else { self.fault(i + 1, "a ghost form that isn't known") }
+    }
+
+    fn attribute(&mut self, i: usize) -> Result<usize, Fault> {
+        let open = i + 1 + usize::from(self.text(i + 1) == "!");
+        if self.text(open) != "[" {
+            return Ok(i + 1);
+        }
+        let end = self.after(open)?;
+        match self.text(open + 1) {
+            "tactic" | "error" => self.replace(i, end, ""),
+            "derive" => self.derive(i, end),
+            name if KEPT.contains(&name) => self.is_marked |= name == "inline",
+            _ => return self.fault(open + 1, "an attribute that isn't known"),
+        }
+        Ok(end)
+    }
+
+    // Drops names from `#[derive(..)]`.
+    fn derive(&mut self, i: usize, end: usize) {
+        let names: String = self.code[i + 4..end - 2].iter().map(|it| it.text).collect();
+        let kept: Vec<_> = names.split(',').filter(|it| !it.is_empty() && !DERIVED.contains(it)).collect();
+        match kept.len() {
+            0 => self.replace(i, end, ""),
+            n if n < names.split(',').count() => self.replace(i + 4, end - 2, &kept.join(", ")),
+            _ => {}
+        }
+    }
+
+    // `impl Model for T`, which has ghost items alone, and `impl Drop for T`, which drops the fields.
+    fn implementation(&mut self, i: usize) -> Result<usize, Fault> {
+        let name = if self.text(i + 1) == "<" { self.after(i + 1)? } else { i + 1 };
+        if !(self.has(name, "Model for") || self.has(name, "Drop for")) {
+            return Ok(i + 1);
+        }
+        let open = name + self.code[name..].iter().position(|it| it.text == "{").unwrap_or(0);
+        let end = self.after(open)?;
+        let mut at = open + 1;
+        while self.text(at) == "ghost" {
+            at = self.after_ghost(at)?;
+        }
+        if self.text(name) == "Drop" {
+            at = self.after_drop(at);
+        }
+        if at + 1 != end {
+            return self.fault(name, "an impl that isn't the trivial one");
+        }
+        self.drop_item(i, end);
+        Ok(end)
+    }
+
+    // The token after `fn drop(self) { let T { a: _, .. } = self; }`, or 0.
+    fn after_drop(&self, i: usize) -> usize {
+        let mut at = i + 9;
+        while self.has(at + 1, ": _") {
+            at += 3 + usize::from(self.text(at + 3) == ",");
+        }
+        let is_trivial =
+            self.has(i, "fn drop ( self ) { let") && self.text(i + 8) == "{" && self.has(at, "} = self ; }");
+        if is_trivial { at + 5 } else { 0 }
+    }
+
+    // A function's head: its clauses, and what marks it.
+    fn function(&mut self, i: usize) -> Result<usize, Fault> {
+        let open = if self.text(i + 2) == "<" { self.after(i + 2)? } else { i + 2 };
+        let result = self.after(open)?;
+        let mut at = result;
+        while !matches!(self.text(at), "{" | ";" | "requires" | "ensures" | "") {
+            at = if matches!(self.text(at), "(" | "[") { self.after(at)? } else { at + 1 };
+        }
+        self.write_to(i + 2, open, result);
+        for n in open..at {
+            self.path(n);
+        }
+        while matches!(self.text(at), "requires" | "ensures") {
+            at = self.clause(at)?;
+        }
+        if !matches!(self.text(at), "{" | ";") {
+            return self.fault(at, "a clause that isn't known");
+        }
+        self.mark(i, self.text(at) == "{");
+        Ok(at)
+    }
+
+    // `ensures* name { .. }`.
+    fn clause(&mut self, i: usize) -> Result<usize, Fault> {
+        let name = i + 1 + usize::from(self.text(i + 1) == "*");
+        let open = name + usize::from(self.text(name) != "{");
+        if self.text(open) != "{" {
+            return self.fault(i, "a clause without braces");
+        }
+        let end = self.after(open)?;
+        let (said, rest) = self.source[self.code[i].at..].split_at(self.code[end - 1].end() - self.code[i].at);
+        let left = match self.text(i) {
+            "requires" if rest.starts_with('\n') => commented(said),
+            "requires" => format!("/* {said} */"),
+            _ => String::new(),
+        };
+        self.replace(i, end, &left);
+        Ok(end)
+    }
+
+    // Marks a function that isn't marked, and isn't for C.
+    fn mark(&mut self, i: usize, has_body: bool) {
+        let at = self.code[i].at;
+        let head = self.source[..at].rsplit('\n').next().map_or("", str::trim_start);
+        if head.ends_with("final ") {
+            self.edits.push((at - "final ".len(), at, String::new()));
+        }
+        if !mem::take(&mut self.is_marked) && has_body && !head.contains("extern") {
+            let mark = if self.text(i + 1) == "main" { "pub " } else { "#[inline] " };
+            self.edits.push((at - head.len(), at - head.len(), mark.to_owned()));
+        }
+    }
+
+    // Rust's formatter has no parameter for what it writes to.
+    fn write_to(&mut self, generics: usize, open: usize, result: usize) {
+        let formatter = (open..result).find(|n| self.has(*n, "Formatter < W >"));
+        if let Some(at) = formatter.filter(|_| self.has(generics, "< W : fmt : : Write >")) {
+            self.replace(generics, open, "");
+            self.replace(at + 2, at + 3, "'_");
+        }
+    }
+
+    // A path of another crate, or of this one's root.
+    fn path(&mut self, i: usize) -> usize {
+        let name = self.text(i);
+        if self.has(i + 1, ": :") && !(i > 1 && self.has(i - 2, ": :")) {
+            if name == "crate" || self.crates.contains(&name) {
+                self.replace(i, i + 1, &format!("crate::proved::{}", if name == "crate" { self.name } else { name }));
+            } else if KIT.contains(&name) {
+                self.replace(i, i + 1, &format!("crate::kit::{name}"));
+            }
+        }
+        i + 1
+    }
+}
+
+// Each line as a comment.
+fn commented(text: &str) -> String {
+    let lines = text.split('\n').map(|line| line.split_at(line.len() - line.trim_start().len()));
+    lines.map(|(space, said)| format!("{space}// {said}")).collect::<Vec<_>>().join("\n")
+}

@@ -1,0 +1,148 @@
+//! What is kept, what goes, and what is refused.
+use strip::rust_of;
+
+const CRATES: [&str; 2] = ["one", "two"];
+const HEAD: &str = "use crate::kit::prelude::*; ";
+
+/// A source, and what is left of it, but for the import before its first item. `\n` where lines stay empty.
+const LEFT: [(&str, &str); 32] = [
+    ("fn f() {\n    g();\n    h();\n}\n", "#[inline] fn f() {\n    g();\n    h();\n}\n"),
+    (
+        "fn f(n: u8) -> u8\n    requires { n < 9 }\n{\n    n\n}\n",
+        "#[inline] fn f(n: u8) -> u8\n    // requires { n < 9 }\n{\n    n\n}\n",
+    ),
+    (
+        "fn f()\n    requires some { a ×\n        b }\n{}\n",
+        "#[inline] fn f()\n    // requires some { a ×\n        // b }\n{}\n",
+    ),
+    (
+        "trait T {\n    fn f()\n        requires { a ×\n            b };\n}\n",
+        "trait T {\n    fn f()\n        /* requires { a ×\n            b } */;\n}\n",
+    ),
+    ("mod a; // Stays.\nghost b = { c };\n", "mod a; // Stays.\n\n"),
+    ("const A: &[u8] = br\"\\\";\nghost b = { c };\n", "const A: &[u8] = br\"\\\";\n\n"),
+    ("fn f()\n    ensures { a }\n    ensures* b { c {0} }\n{}\n", "#[inline] fn f()\n\n\n{}\n"),
+    ("fn f()\n    ensures { codes \"} {\" }\n{}\n", "#[inline] fn f()\n\n{}\n"),
+    (
+        "fn f<F: Fn(u8) -> u8>(g: F)\nwhere\n    F: Copy,\n    ensures { a }\n{}\n",
+        "#[inline] fn f<F: Fn(u8) -> u8>(g: F)\nwhere\n    F: Copy,\n\n{}\n",
+    ),
+    (
+        "trait T {\n    fn f(&self) -> u8\n        ensures { a };\n}\n",
+        "trait T {\n    fn f(&self) -> u8\n        ;\n}\n",
+    ),
+    ("trait T {\n    final fn f(&self) {}\n}\n", "trait T {\n    #[inline] fn f(&self) {}\n}\n"),
+    ("#[inline(never)]\npub fn f() {}\n", "#[inline(never)]\npub fn f() {}\n"),
+    ("#[cold]\npub(crate) fn f() {}\n", "#[cold]\n#[inline] pub(crate) fn f() {}\n"),
+    ("#[unsafe(no_mangle)]\npub extern \"C\" fn f() {}\n", "#[unsafe(no_mangle)]\npub extern \"C\" fn f() {}\n"),
+    ("const F: fn(u8) -> u8 = g;\n", "const F: fn(u8) -> u8 = g;\n"),
+    (
+        "fn f() {\n    g(\"ghost use a; fn g() ensures { b }\");\n}\n",
+        "#[inline] fn f() {\n    g(\"ghost use a; fn g() ensures { b }\");\n}\n",
+    ),
+    (
+        "fn f() {\n    g(r#\"a \" ghost { \\\"#, br\"}\", b\"\\\"}\");\n}\n",
+        "#[inline] fn f() {\n    g(r#\"a \" ghost { \\\"#, br\"}\", b\"\\\"}\");\n}\n",
+    ),
+    (
+        "fn f<'a>(c: &'a u8) {\n    g('{', '\\'', b'\"', 'ü');\n}\n",
+        "#[inline] fn f<'a>(c: &'a u8) {\n    g('{', '\\'', b'\"', 'ü');\n}\n",
+    ),
+    (
+        "mod a; /* ghost /* fn f() */ { */\nconst A: u8 = 1; // ensures { a }\n",
+        "mod a; /* ghost /* fn f() */ { */\nconst A: u8 = 1; // ensures { a }\n",
+    ),
+    ("mod a;\n\n// Goes.\nghost a = { b };\nmod c;\n", "mod a;\n\n\n\nmod c;\n"),
+    (
+        "mod a;\n// Stays.\n\n// Goes.\n/// Too.\npub ghost a: { b } = { c };\nmod c;\n",
+        "mod a;\n// Stays.\n\n\n\n\nmod c;\n",
+    ),
+    (
+        "struct S {\n    // Goes.\n    ghost a: { b },\n    c: u8, // Stays.\n}\n",
+        "struct S {\n\n\n    c: u8, // Stays.\n}\n",
+    ),
+    ("mod a;\nimpl<'a> Model for S<'a> {\n    ghost use b.{c};\n    ghost d = { e };\n}\n", "mod a;\n\n\n\n\n"),
+    (
+        "mod a;\nimpl Drop for S {\n    fn drop(self) {\n        let S { a: _, b: _ } = self;\n    }\n}\n",
+        "mod a;\n\n\n\n\n\n",
+    ),
+    (
+        "#[derive(Clone, Drop, Debug)]\nstruct S;\n#[derive(Drop)]\nstruct T;\n",
+        "#[derive(Clone, Debug)]\nstruct S;\n\nstruct T;\n",
+    ),
+    (
+        "#[derive(Debug, thiserror::Error)]\nenum E {\n    #[error(\"a {0}\")]\n    A(u8),\n}\n",
+        "#[derive(Debug)]\nenum E {\n\n    A(u8),\n}\n",
+    ),
+    (
+        "mod a;\nuse thiserror::Error;\nuse std::marker::{Model, Send};\n",
+        "mod a;\n\nuse crate::kit::std::marker::{Model, Send};\n",
+    ),
+    (
+        "use crate::a;\nuse two::b;\nuse std::{fmt, mem};\nuse three::c;\n",
+        "use crate::proved::one::a;\nuse crate::proved::two::b;\nuse crate::kit::std::{fmt, mem};\nuse three::c;\n",
+    ),
+    (
+        "fn f(n: std::ops::Bound<u8>) -> bytes::Bytes\n    ensures { a }\n{\n    two::bytes::of(n)\n}\n",
+        "#[inline] fn f(n: crate::kit::std::ops::Bound<u8>) -> crate::kit::bytes::Bytes\n\n{\n    crate::proved::two::bytes::of(n)\n}\n",
+    ),
+    ("fn f() {\n    prove!(a);\n}\n", "#[inline] fn f() {\n    debug_assert!(a);\n}\n"),
+    (
+        "fn f<W: fmt::Write>(n: u8, f: &mut fmt::Formatter<W>) -> fmt::Result {}\n",
+        "#[inline] fn f(n: u8, f: &mut fmt::Formatter<'_>) -> fmt::Result {}\n",
+    ),
+    ("fn f<W: fmt::Write>(f: &mut W) {}\n", "#[inline] fn f<W: fmt::Write>(f: &mut W) {}\n"),
+];
+
+#[test]
+fn what_is_left() {
+    for (source, left) in LEFT {
+        assert_eq!(rust_of(source, "one", &CRATES).unwrap().strip_prefix(HEAD), Some(left), "{source}");
+    }
+}
+
+#[test]
+fn the_import_stands_where_the_first_item_goes() {
+    let import = HEAD.trim();
+    for (source, left) in [
+        ("// A file.\nghost use a.{b};\nghost use c;\n\nmod d;\n", format!("// A file.\n{import}\n\n\nmod d;\n")),
+        ("//! A crate.\n#![tactic(auto)]\n\nmod d;\n", format!("//! A crate.\n{import}\n\nmod d;\n")),
+        ("// A file.\nmod d;\n", format!("// A file.\n{HEAD}mod d;\n")),
+        (
+            "//! A crate.\n//! Its end.\nghost a = { b };\nmod d;\n",
+            format!("//! A crate.\n//! Its end.\n{import}\nmod d;\n"),
+        ),
+    ] {
+        assert_eq!(rust_of(source, "one", &CRATES).unwrap(), left);
+    }
+}
+
+/// A source, and the line that is refused.
+const REFUSED: [(&str, usize); 16] = [
+    ("mod a;\nghost fn f() {}\n", 2),
+    ("mod a;\nghost a = b;\n", 2),
+    ("mod a;\nghost a = { b }\n", 2),
+    ("ghost use a.{b}", 1),
+    ("mod a;\n\n#[test]\nfn f() {}\n", 3),
+    ("#![allow(a)]\n", 1),
+    ("struct S {\n    #[from]\n    a: u8,\n}\n", 2),
+    ("impl Drop for S {\n    fn drop(self) {\n        let S { a } = self;\n    }\n}\n", 1),
+    ("impl Drop for S {\n    fn drop(self) {\n        let S { a: _ } = self;\n        g();\n    }\n}\n", 1),
+    ("mod a;\nimpl<T> Drop for S<T> {\n    fn drop(&mut self) {}\n}\n", 2),
+    ("impl Model for S {\n    fn f() {}\n}\n", 1),
+    ("fn f() -> S<u8>\n    ensures { a }\n    changes { b }\n{\n}\n", 3),
+    ("fn f()\n    ensures a;\n", 2),
+    ("fn f() {\n    while a ensures { b } {}\n}\n", 2),
+    ("fn f() {\n    g(\"a);\n}\n", 2),
+    ("/* /* */\n", 1),
+];
+
+#[test]
+fn what_is_refused() {
+    for (source, line) in REFUSED {
+        match rust_of(source, "one", &CRATES) {
+            Ok(rust) => panic!("{source} is taken: {rust}"),
+            Err((at, why)) => assert_eq!(at, line, "{source}: {why}"),
+        }
+    }
+}
