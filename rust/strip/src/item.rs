@@ -43,7 +43,8 @@ impl File<'_> {
         Ok(end)
     }
 
-    // The token after `ghost use ..;`, `ghost name = { .. };`, `ghost name: { .. };`, `ghost name: { .. } = { .. };`, or a field.
+    // The token after `ghost use ..;`, `ghost name = { .. };`, `ghost name: { .. };`, `ghost name: { .. } = { .. };`,
+    // or a field.
     fn after_ghost(&self, i: usize) -> Result<usize, Fault> {
         let mut end = i + 2;
         if self.text(i + 1) == "use" {

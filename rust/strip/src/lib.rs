@@ -26,12 +26,13 @@ use std::{fs, io};
 
 const IMPORT: &str = "use crate::kit::prelude::*;";
 
-/// A file of a proved crate, as in `iobufs/bufs_mut.rt`, and a Rust file by hand that becomes its private module `spare`.
+/// A file of a proved crate, as in `iobufs/bufs_mut.rt`, and a Rust file by hand that becomes its private module
+/// `spare`.
 pub type Spare<'a> = (&'a str, &'a Path);
 
-/// Writes `to/CRATE/*.rs` of `from/CRATE/src/*.rt` for each of these crates, and `to/proved.rs`, which declares each as a module.
-/// A crate may name only others of the list. Prints the lines by which cargo runs a build script again if a source changes.
-/// Returns an error that begins with the file and the line if something in it is refused.
+/// Writes `to/CRATE/*.rs` of `from/CRATE/src/*.rt` for each of these crates, and `to/proved.rs`, which declares each as
+/// a module. A crate may name only others of the list. Prints the lines by which cargo runs a build script again if a
+/// source changes. Returns an error that begins with the file and the line if something in it is refused.
 pub fn write_crates(crates: &[&str], spares: &[Spare<'_>], from: &Path, to: &Path) -> Result<(), String> {
     let mut modules = String::new();
     for name in crates {
