@@ -40,7 +40,7 @@ class Session:
         return self.replies[-1]
 
     def make(self, count):
-        """Asks so many lines or a few more, and returns the status."""
+        """Asks `count` lines or a few more, and returns the status."""
         while len(self.lines) < count and self.ran.poll() is None:
             self.step()
         self.ran.stdin.close()

@@ -436,7 +436,7 @@ impl BytesMut {
     }
 
     /// Makes space for `more` bytes without allocating, if the front of the block has it and nothing else shares the
-    /// block. Returns whether there is so much space.
+    /// block. Returns whether it has that space.
     pub fn try_reclaim(&mut self, more: usize) -> bool {
         if self.capacity() - self.len >= more {
             return true;

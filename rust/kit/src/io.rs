@@ -9,7 +9,7 @@ pub trait BufRead: Read {
     /// Returns the bytes of the buffer, after one read into it if it is empty. They are empty only at the end.
     fn fill_buf(&mut self) -> Result<&[u8]>;
 
-    /// Drops so many bytes from the front of the buffer, which has them.
+    /// Drops the first `amount` bytes of the buffer, which has them.
     fn consume(&mut self, amount: usize);
 
     /// Appends the bytes up to the first that equals `byte`, with it, or up to the end, and returns their number. A

@@ -1,5 +1,4 @@
-//! strip FOLDER: writes the Rust of the proved program and C library, less the contracts, below a folder, for who wants to
-//! read it.
+//! strip FOLDER: writes the Rust of the proved program and C library, less the contracts, below a folder, for readers.
 #![forbid(unsafe_code)]
 
 use std::path::Path;
