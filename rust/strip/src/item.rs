@@ -57,11 +57,19 @@ impl File<'_> {
         let end = self.after(open)?;
         match self.text(open + 1) {
             "tactic" | "error" => return Ok(self.replace(i, end, "")),
+            "test" => return self.test(i, end),
             "derive" => self.derive(i, end),
             name if KEPT.contains(&name) => self.is_marked |= name == "inline",
             _ => return self.fault(open + 1, "an attribute that isn't known"),
         }
         Ok(end)
+    }
+
+    // Drops a test, whose function begins at `from`: the kit runs it.
+    fn test(&mut self, i: usize, from: usize) -> Result<usize, Fault> {
+        let open = from + self.code[from..].iter().position(|it| it.text == "{").unwrap_or(0);
+        let end = self.after(open)?;
+        Ok(self.drop_item(i, end))
     }
 
     // Drops names from `#[derive(..)]`.

@@ -5,7 +5,7 @@ const CRATES: [&str; 2] = ["one", "two"];
 const HEAD: &str = "use crate::kit::prelude::*; ";
 
 /// A source, and what is left of it, but for the import before its first item. `\n` where lines stay empty.
-const LEFT: [(&str, &str); 32] = [
+const LEFT: [(&str, &str); 33] = [
     ("fn f() {\n    g();\n    h();\n}\n", "#[inline] fn f() {\n    g();\n    h();\n}\n"),
     (
         "fn f(n: u8) -> u8\n    requires { n < 9 }\n{\n    n\n}\n",
@@ -86,6 +86,7 @@ const LEFT: [(&str, &str); 32] = [
         "fn f(n: std::ops::Bound<u8>) -> bytes::Bytes\n    ensures { a }\n{\n    two::bytes::of(n)\n}\n",
         "#[inline] fn f(n: crate::kit::std::ops::Bound<u8>) -> crate::kit::bytes::Bytes\n\n{\n    crate::proved::two::bytes::of(n)\n}\n",
     ),
+    ("mod a;\n\n// Goes.\n#[test]\nfn f() -> R {\n    g({})\n}\nmod b;\n", "mod a;\n\n\n\n\n\n\nmod b;\n"),
     ("fn f() {\n    prove!(a);\n}\n", "#[inline] fn f() {\n    debug_assert!(a);\n}\n"),
     (
         "fn f<W: fmt::Write>(n: u8, f: &mut fmt::Formatter<W>) -> fmt::Result {}\n",
@@ -123,7 +124,7 @@ const REFUSED: [(&str, usize); 16] = [
     ("mod a;\nghost a = b;\n", 2),
     ("mod a;\nghost a = { b }\n", 2),
     ("ghost use a.{b}", 1),
-    ("mod a;\n\n#[test]\nfn f() {}\n", 3),
+    ("mod a;\n\n#[ignore]\nfn f() {}\n", 3),
     ("#![allow(a)]\n", 1),
     ("struct S {\n    #[from]\n    a: u8,\n}\n", 2),
     ("impl Drop for S {\n    fn drop(self) {\n        let S { a } = self;\n    }\n}\n", 1),
