@@ -284,7 +284,7 @@ static void texts(void) {
     size_t index, offset;
     OK(iobufs_locate(&t, 4, &index, &offset));
     CHECK(index == 1 && offset == 1 && iobufs_locate(&t, 9, &index, &offset) == IOBUFS_OUT_OF_RANGE);
-    struct iobufs_chunk list[4];
+    struct iobufs_iovec list[4];
     CHECK(iobufs_chunks(&t, list, 2) == 2 && list[1].len == 2 && list[1].base[0] == 'd');
     CHECK(iobufs_chunks(&t, list, 4) == 3 && list[0].len == 3 && list[2].len == 4 && list[2].base[3] == 'i');
     CHECK(iobufs_chunks(&t, list, 0) == 0);
@@ -350,6 +350,7 @@ static void texts(void) {
     CHECK(text_is(&t, "abcdefghi") && text_is(&u, ""));
     OK(iobufs_append_all(&u, &t));
     CHECK(text_is(&u, "abcdefghi") && iobufs_chunk_count(&u) == 5 && text_is(&t, ""));
+    CHECK(iobufs_append_all(&u, &u) == IOBUFS_DECLINED && text_is(&u, "abcdefghi") && iobufs_chunk_count(&u) == 5);
     OK(iobufs_advance(&u, 9));
     OK(iobufmut_copy_from_slice(bytes("xyz"), 3, &p));
     OK(iobufs_from_mut(&p, &t));
@@ -383,7 +384,7 @@ static void parts(void) {
     CHECK(iobufsmut_chunk(&s, &at) == 4 && !memcmp(at, "abcx", 4));
     CHECK(iobufsmut_part_at(&s, 1, &at, &capacity) == 2 && capacity == 2 && !memcmp(at, "xy", 2));
     CHECK(iobufsmut_part_at(&s, 2, &at, &capacity) == 0 && capacity == 0);
-    struct iobufs_chunk list[3];
+    struct iobufs_iovec list[3];
     CHECK(iobufsmut_chunks(&s, list, 3) == 2 && list[0].len == 4 && list[1].len == 2 && list[1].base[1] == 'y');
     CHECK(iobufsmut_chunks(&s, list, 1) == 1);
     CHECK(iobufsmut_byte_at(&s, 4, &byte) && byte == 'x' && !iobufsmut_byte_at(&s, 6, &byte));

@@ -207,7 +207,7 @@ static void same_part(int i) {
     CHECK(parts[i].len == 0 || !memcmp(at, parts[i].at, parts[i].len));
 }
 static void same_pieces(struct iobufs_at *at, const struct text *t) {
-    struct iobufs_chunk list[PIECES];
+    struct iobufs_iovec list[PIECES];
     size_t len = text_len(t), n = iobufs_chunks(at, list, PIECES);
     CHECK(iobufs_len(at) == len && n == (len ? t->count : 0) && iobufs_chunk_count(at) == n);
     for (size_t i = 0; i < n; i++) CHECK(list[i].len == t->piece[i].len && !memcmp(list[i].base, t->piece[i].at, list[i].len));

@@ -99,7 +99,7 @@ static void put_frame(struct iobufs_builder_at *builder, struct iobuf_at *bodies
 static void send_text(int to, struct iobufs_at *text) {
     while (!iobufs_is_empty(text)) {
         struct iovec list[LIST];
-        size_t len = 0, n = iobufs_chunks(text, (struct iobufs_chunk *)list, listed());
+        size_t len = 0, n = iobufs_chunks(text, (struct iobufs_iovec *)list, listed());
         for (size_t i = 0; i < n; i++) len += list[i].iov_len;
         OK(iobufs_advance(text, write_some(to, list, n, len)));
     }

@@ -24,13 +24,13 @@ static int part_shows(struct iobufmut_at *part, size_t lo, size_t hi) {
 /* Whether the chunks of a text show a range, cut at multiples of n: by chunk_at, by the list, in threes and by locate. */
 static int text_shows(struct iobufs_at *text, size_t n, size_t lo, size_t hi) {
     size_t count = iobufs_chunk_count(text), at = lo;
-    struct iobufs_chunk *list = calloc(count + 1, sizeof *list);
+    struct iobufs_iovec *list = calloc(count + 1, sizeof *list);
     CHECK(list && iobufs_chunks(text, list, count + 1) == count && iobufs_len(text) == hi - lo);
     for (size_t i = 0; i < count; i++) {
         const uint8_t *base;
         size_t len = iobufs_chunk_at(text, i, &base), index, offset, end = (at / n + 1) * n;
         CHECK(is_range(base, len, at, end < hi ? end : hi) && list[i].base == base && list[i].len == len);
-        struct iobufs_chunk three[3];
+        struct iobufs_iovec three[3];
         size_t some = count - i < 3 ? count - i : 3;
         CHECK(iobufs_chunks_from(text, i, three, 3) == some && memcmp(three, list + i, some * sizeof *three) == 0);
         OK(iobufs_locate(text, at - lo + len - 1, &index, &offset));
@@ -102,7 +102,7 @@ static void parts(size_t n) {
         CHECK(is_range(at, len, i * n, i * n + n) && capacity == n);
     }
     OK(iobufsmut_advance(&row, n + 5));
-    struct iobufs_chunk list[3];
+    struct iobufs_iovec list[3];
     CHECK(iobufsmut_chunks(&row, list, 3) == 2 && is_range(list[0].base, list[0].len, n + 5, 2 * n));
     OK(iobufsmut_freeze(&row, &text));
     CHECK(text_shows(&text, n, n + 5, 3 * n));

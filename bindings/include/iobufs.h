@@ -133,7 +133,7 @@ enum iobufs_build_kind { IOBUFS_BUILT_BY_KIT = 0, IOBUFS_BUILT_BY_CARGO = 1 };
 uint32_t iobufs_build(void);
 
 /* As `struct iovec` of <sys/uio.h>, which may be cast to it. */
-struct iobufs_chunk { const uint8_t *base; size_t len; };
+struct iobufs_iovec { const uint8_t *base; size_t len; };
 
 /* The bounds of a range. */
 enum iobufs_bound { IOBUFS_INCLUDED = 0, IOBUFS_EXCLUDED = 1, IOBUFS_UNBOUNDED = 2 };
@@ -301,10 +301,10 @@ size_t iobufs_chunk(const struct iobufs_at *bufs, const uint8_t **out);
 size_t iobufs_chunk_at(const struct iobufs_at *bufs, size_t i, const uint8_t **out);
 /* Fills a list of n for writev with the first chunks, and returns how many it filled. No memory.
  * iobufs_advance then takes the count that writev returns. (Buf::chunks_vectored) */
-size_t iobufs_chunks(const struct iobufs_at *bufs, struct iobufs_chunk *out, size_t n);
+size_t iobufs_chunks(const struct iobufs_at *bufs, struct iobufs_iovec *out, size_t n);
 /* Fills a list of n with the chunks from chunk first on, counted from 0, and returns how many it filled; 0 if there are
  * none. So a loop takes many chunks at a time. No memory. (own) */
-size_t iobufs_chunks_from(const struct iobufs_at *bufs, size_t first, struct iobufs_chunk *out, size_t n);
+size_t iobufs_chunks_from(const struct iobufs_at *bufs, size_t first, struct iobufs_iovec *out, size_t n);
 /* Writes the byte at offset i, and returns whether there is one. (own) */
 bool iobufs_byte_at(const struct iobufs_at *bufs, size_t i, uint8_t *out);
 /* Writes the index of the chunk that contains an offset, and the distance from its start; IOBUFS_OUT_OF_RANGE at the end.
@@ -380,7 +380,7 @@ size_t iobufsmut_chunk(struct iobufsmut_at *parts, uint8_t **out);
 size_t iobufsmut_part_at(struct iobufsmut_at *parts, size_t i, uint8_t **out, size_t *capacity);
 /* Fills a list of n for readv (or writev) with the first chunks of the readable bytes, and returns how many it
  * filled. No memory. To read into parts, set their length first. (Buf::chunks_vectored) */
-size_t iobufsmut_chunks(const struct iobufsmut_at *parts, struct iobufs_chunk *out, size_t n);
+size_t iobufsmut_chunks(const struct iobufsmut_at *parts, struct iobufs_iovec *out, size_t n);
 /* Writes the readable byte at offset i, and returns whether there is one. (own) */
 bool iobufsmut_byte_at(const struct iobufsmut_at *parts, size_t i, uint8_t *out);
 /* Puts bytes, part after part; IOBUFS_OUT_OF_RANGE if they don't fit. No memory. (BufMut::put_slice) */
@@ -564,17 +564,18 @@ static inline uint64_t iobufs_swap64(uint64_t n) {
 
 /* ---- one iobufs at the end of another ---- */
 
-/* Moves the chunks of `other` to the end of `bufs`, and leaves it empty. IOBUFS_TOO_LONG if the length would pass SIZE_MAX, and
- * nothing has changed; memory: after IOBUFS_MEMORY some of the first chunks have moved, and the others stay. It is made of calls above:
- * the chunks share their storage until they leave `other`. (own) */
+/* Moves the chunks of `other` to the end of `bufs`, and leaves it empty. IOBUFS_TOO_LONG if the length would pass SIZE_MAX,
+ * IOBUFS_DECLINED if both are one buffer, and nothing has changed; memory: after IOBUFS_MEMORY some of the first chunks have
+ * moved, and the others stay. It is made of calls above: the chunks share their storage until they leave `other`. (own) */
 static inline IOBUFS_CHECKED iobufs_status iobufs_append_all(struct iobufs_at *bufs, struct iobufs_at *other) {
-    if (iobufs_len(bufs) > SIZE_MAX - iobufs_len(other)) return IOBUFS_TOO_LONG;
     struct iobufs front_memory;
     struct iobuf view_memory;
     struct iobufs_at front = { &front_memory };
     struct iobuf_at view = { &view_memory };
     const uint8_t *at = NULL;
     iobufs_status status = IOBUFS_OK;
+    if (bufs->at == other->at) return IOBUFS_DECLINED;
+    if (iobufs_len(bufs) > SIZE_MAX - iobufs_len(other)) return IOBUFS_TOO_LONG;
     iobufs_init(front.at);
     iobuf_init(view.at);
     for (size_t n; status == IOBUFS_OK && (n = iobufs_chunk(other, &at)) > 0;) {
