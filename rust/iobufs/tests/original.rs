@@ -569,7 +569,7 @@ fn types() {
         sink::<IoBufsMut>,
         sink::<Builder>,
     ];
-    checks.map(|check| check());
+    checks.iter().for_each(|check| check());
     fn others<T: Clone + Eq, U: Clone, V: AsMut<[u8]>>() {}
     others::<IoBuf, IoBufs, IoBufMut>();
 }
