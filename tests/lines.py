@@ -2,21 +2,26 @@
 import subprocess
 from random import Random
 
-# Commands, each with the kinds of which its first name is one. The words in braces are those of `Buffers.words`.
-COMMANDS = [
-    *[("", it) for it in ("new {free} {size} {align}", "new {free} {size} 1", "adopt {free} {bytes}", "bytes {free} {bytes}", "static {free} {lo} {hi}")],
-    *[("", it) for it in ("zeroed {free} {size} {align}", "gather {free}{views}", "gathermut {free}{buffers}", "build {free} {size}{items}")],
-    *[("part parts", it) for it in ("put {name} {fitting}", "put {name} {fitting}", "fill {name} {byte} {space}", "overwrite {name} {all}")],
-    *[("part parts", it) for it in ("setlen {name} {capacity}", "freeze {name} {onto}")],
-    *[("part", it) for it in ("truncate {name} {at}", "clear {name}")],
-    *[("view", it) for it in ("slice {name} {free} i{lower} e{upper}", "slice {name} {free} e{lower} u", "slice {name} {free} u i{upper}")],
-    *[("view", it) for it in ("recover {name} {onto}", "encode {name} {free}")],
-    *[("view text", it) for it in ("split {name} {free} {at}", "split {name} {free} {at}", "clone {name} {free}", "decode {name} {free} 0 {at}", "decode {name} {free} 0 9999")],
-    *[("text", it) for it in ("append {name} {view}", "prepend {name} {view}", "append {name} {view}")],
-    *[("text parts", it) for it in ("coalesce {name} {onto}",)],
-    *[("part parts view text", it) for it in ("advance {name} {at}", "take {name} {at}", "drop {name}")],
-]
-CALLS = ["put {n}", "advance {n}", "split {n}", "slice {lo} {hi}", "freeze", "recover", "unique", "demote", "clone", "clone", "drop"]
+# Commands, by the kinds of which {name} is one. The other words in braces are those of `Buffers.words`.
+COMMANDS = {
+    "": """new {free} {size} {align}, new {free} {size} 1, zeroed {free} {size} {align}, adopt {free} {bytes},
+        bytes {free} {bytes}, static {free} {lo} {hi}, gather {free}{views}, gathermut {free}{buffers},
+        build {free} {size}{items}""",
+    "part parts": """put {name} {fitting}, put {name} {fitting}, fill {name} {byte} {space}, overwrite {name} {all},
+        setlen {name} {capacity}, freeze {name} {onto}""",
+    "part": "truncate {name} {at}, clear {name}",
+    "view": """slice {name} {free} i{lower} e{upper}, slice {name} {free} e{lower} u, slice {name} {free} u i{upper},
+        recover {name} {onto}, encode {name} {free}""",
+    "view text": """split {name} {free} {at}, split {name} {free} {at}, clone {name} {free},
+        decode {name} {free} 0 {at}, decode {name} {free} 0 9999""",
+    "text": "append {name} {view}, append {name} {view}, prepend {name} {view}",
+    "text parts": "coalesce {name} {onto}",
+    "part parts view text": "advance {name} {at}, take {name} {at}, drop {name}",
+}
+CHOICES = [(kinds, command.strip()) for kinds, text in COMMANDS.items() for command in text.split(",")]
+CALLS = "put {n},advance {n},split {n},slice {lo} {hi},freeze,recover,unique,demote,clone,clone,drop".split(",")
+BLOCKS = ["new {base} 16 {align}", "new {base} 16 1", "external {base} 16", "static {n}"]
+QUESTIONS = ["handle {old}", "record {old}", "handle {new}", "record {new}"]
 
 
 class Session:
@@ -24,7 +29,8 @@ class Session:
 
     def __init__(self, program, half, seed):
         self.half, self.random, self.lines, self.replies = half, Random(seed), [], []
-        self.ran = subprocess.Popen([program, half], stdin=subprocess.PIPE, stdout=subprocess.PIPE, text=True, bufsize=1)
+        pipe = subprocess.PIPE
+        self.ran = subprocess.Popen([program, half], stdin=pipe, stdout=pipe, text=True, bufsize=1)
 
     def ask(self, line):
         """The reply to a line; nothing if the program has ended."""
@@ -34,7 +40,7 @@ class Session:
         return self.replies[-1]
 
     def make(self, count):
-        """Asks so many lines or a few more, and returns the status."""
+        """Asks `count` lines or a few more, and returns the status."""
         while len(self.lines) < count and self.ran.poll() is None:
             self.step()
         self.ran.stdin.close()
@@ -42,7 +48,11 @@ class Session:
 
     def number(self, most):
         """A number up to this, its ends often, and one more now and then."""
-        return self.random.choice([0, most, most, *(self.random.randint(0, most) for _ in range(5)), most + (self.random.random() < 0.3)])
+        within = [self.random.randint(0, most) for _ in range(5)]
+        return self.random.choice([0, most, most, *within, most + (self.random.random() < 0.3)])
+
+    def range(self, most):
+        return sorted((self.number(most), self.number(most)))
 
 
 class Buffers(Session):
@@ -56,7 +66,7 @@ class Buffers(Session):
         return [name for name, (kind, *_) in self.held.items() if kind in kinds.split()]
 
     def step(self):
-        kinds, command = self.random.choice(COMMANDS)
+        kinds, command = self.random.choice(CHOICES)
         fits = self.of(kinds) if kinds and self.random.random() < 0.98 else [self.random.randrange(17)]
         if len(self.held) > 12:
             fits, command = list(self.held), "drop {name}"
@@ -79,19 +89,32 @@ class Buffers(Session):
     def words(self, name):
         """What can stand in a command on this name."""
         pick, (_, size, space) = self.random, self.held.get(name, ("", 0, 0))
-        digits = lambda n: pick.randbytes(n).hex() or "-"
-        some = lambda kind: pick.sample(self.of(kind), min(len(self.of(kind)), pick.randint(0, 8)))
         free = pick.choice([it for it in range(16) if it not in self.held] if pick.random() < 0.98 else range(17))
-        views = some("view")
-        ends = zip(("lo", "hi", "lower", "upper"), [*sorted((pick.randint(0, 26), pick.randint(0, 26))), *sorted((self.number(size), self.number(size)))])
-        return {
-            **dict(ends), "name": name, "free": free, "onto": pick.choice([name, free]), "view": pick.choice(self.of("view") or [0]),
-            "size": pick.choice([0, 1, 7, 24, 24, 100, 5000]), "align": pick.choice([1, 1, 1, 2, 8, 64, 3, 0]), "at": self.number(size),
-            "space": self.number(space), "capacity": self.number(size + space), "byte": pick.randrange(256), "bytes": digits(pick.choice([0, 1, 20, 20, 300])),
-            "fitting": digits(self.number(min(space, 300))), "all": digits(size if pick.random() < 0.9 else size + 1),
-            "views": "".join(f" {it}" for it in views + views[:1] * (pick.random() < 0.03)), "buffers": "".join(f" {it}" for it in some("part")),
-            "items": "".join(f" i{digits(pick.randint(1, 20))} p{it}" for it in views),
-        }
+        views = self.some("view")
+        twice = views + views[:1] * (pick.random() < 0.03)
+        lo, hi = sorted((pick.randint(0, 26), pick.randint(0, 26)))
+        lower, upper = self.range(size)
+        numbers = {"lo": lo, "hi": hi, "lower": lower, "upper": upper, "byte": pick.randrange(256)}
+        numbers |= {"at": self.number(size), "space": self.number(space), "capacity": self.number(size + space)}
+        numbers |= {"size": pick.choice([0, 1, 7, 24, 24, 100, 5000]), "align": pick.choice([1, 1, 1, 2, 8, 64, 3, 0])}
+        names = {"name": name, "free": free, "onto": pick.choice([name, free]), "view": pick.choice(views or [0])}
+        names |= {"views": self.joined(" {}", twice), "buffers": self.joined(" {}", self.some("part"))}
+        sizes = {"fitting": self.number(min(space, 300)), "all": size + (pick.random() < 0.1)}
+        sizes |= {"bytes": pick.choice([0, 1, 20, 20, 300])}
+        items = self.joined(f" i{self.digits(pick.randint(1, 20))} p{{}}", views)
+        return {**numbers, **names, **{it: self.digits(n) for it, n in sizes.items()}, "items": items}
+
+    def digits(self, n):
+        return self.random.randbytes(n).hex() or "-"
+
+    def some(self, kind):
+        """Some names of a kind, in any order."""
+        names = self.of(kind)
+        return self.random.sample(names, min(len(names), self.random.randint(0, 8)))
+
+    @staticmethod
+    def joined(form, names):
+        return "".join(form.format(name) for name in names)
 
 
 class Machine(Session):
@@ -103,19 +126,19 @@ class Machine(Session):
         self.ask(f"machine 3 {self.random.choice([3, 9, 1000])} {self.random.choice([32, 64])}")
 
     def step(self):
-        thread, lo, hi = self.random.randrange(3), *sorted((self.random.randint(0, 6), self.random.randint(0, 17)))
+        thread, (lo, hi) = self.random.randrange(3), self.range(16)
         words = self.random.choice(CALLS).format(n=hi, lo=lo, hi=hi).split()
-        handle = self.random.choice(self.made[-12:] or [0])
-        line = " ".join([str(thread), words[0], str(handle), *words[1:]])
+        line = " ".join([words[0], str(self.random.choice(self.made[-12:] or [0])), *words[1:]])
         if self.is_busy[thread] and self.random.random() < 0.95:
-            line = f"{thread} go"
+            line = "go"
         elif self.random.random() < 0.15:
             self.base += 64
             align = self.random.choice([1, 1, 8, 64, 3])
-            line = self.random.choice([f"{thread} new {self.base} 16 {align}", f"{thread} new {self.base} 16 1", f"{thread} external {self.base} 16", f"{thread} static {hi}"])
-        word, *made = self.ask(line + " deny" * (self.random.random() < 0.03)).split()
-        self.is_busy[thread] = word == "more" or made == ["O1", "Busy"]
-        self.made += map(int, made if word == "made" else [])
-        self.ask(self.random.choice([f"handle {handle}", f"record {handle}", f"handle {len(self.made)}", f"record {len(self.made)}"]))
+            line = self.random.choice(BLOCKS).format(base=self.base, align=align, n=hi)
+        word, *more = self.ask(f"{thread} {line}" + " deny" * (self.random.random() < 0.03)).split()
+        self.is_busy[thread] = word == "more" or more == ["O1", "Busy"]
+        self.made += map(int, more if word == "made" else [])
+        old = self.random.choice(self.made[-12:] or [0])
+        self.ask(self.random.choice(QUESTIONS).format(old=old, new=len(self.made)))
         if self.random.random() < 0.01:
             self.ask("freed")

@@ -1,16 +1,9 @@
 //! Writes the Rust of the proved program, and of the crates that it uses, for `src/main.rs`.
+use std::env;
 use std::path::Path;
-use std::process::ExitCode;
 
-const CRATES: [&str; 6] = ["iobufs_core", "iobufs", "iobufs_owner", "iobufs_run", "iobuf_lines", "iobuf"];
-
-fn main() -> ExitCode {
-    let out = std::env::var_os("OUT_DIR").expect("cargo says where");
-    match strip::write_crates(&CRATES, &[], Path::new("../../crates"), Path::new(&out)) {
-        Ok(()) => ExitCode::SUCCESS,
-        Err(refused) => {
-            eprintln!("{refused}");
-            ExitCode::FAILURE
-        }
-    }
+fn main() -> Result<(), String> {
+    let (top, out) = (Path::new("../.."), env::var_os("OUT_DIR").expect("cargo says where"));
+    let crates = strip::crates_of("iobuf", top)?;
+    strip::write_crates(&crates, &[], &top.join("crates"), Path::new(&out))
 }

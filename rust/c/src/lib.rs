@@ -1,6 +1,7 @@
-//! The C library `libiobufs`, from its proved sources: the calls of `bindings/include/iobufs.h`. `unsafe` stands in these where
-//! they use the memory that C names. To C a slice is two arguments, an address and a length, and the allocator none: so rustc
-//! passes them, as the kit's compiler does, while registers are left. `bindings/c/calls.c` calls each.
+//! The C library `libiobufs`, from its proved sources: the calls of `bindings/include/iobufs.h`. `unsafe` stands in
+//! these where they use the memory that C names. To C a slice is two arguments, an address and a length, and the
+//! allocator none: so rustc passes them, as the kit's compiler does, while registers are left. `bindings/c/calls.c`
+//! calls each.
 
 #[cfg(not(target_pointer_width = "64"))]
 compile_error!("the proofs are of 64-bit machines");

@@ -34,8 +34,8 @@ impl<T> Arc<T> {
         Ok(Arc(block))
     }
 
-    /// Returns one more handle. Ends the process if there are more than `isize::MAX`, as std's does: an error would cost
-    /// each clone more.
+    /// Returns one more handle. Ends the process if there are more than `isize::MAX`, as std's does: an error would
+    /// cost each clone more.
     #[inline]
     pub fn try_clone(this: &Arc<T>) -> Result<Arc<T>, AllocError> {
         let handles = &this.shared().handles;
@@ -52,7 +52,8 @@ impl<T> Arc<T> {
         if this.shared().handles.load(Ordering::Acquire) != 1 {
             return None;
         }
-        // SAFETY: this is the only handle, it is borrowed by the result, and the load happens after all that others did.
+        // SAFETY: this is the only handle, it is borrowed by the result, and the load happens after all that others
+        // did.
         Some(unsafe { &mut this.0.as_mut().value })
     }
 

@@ -1,4 +1,5 @@
-//! The kit's `bytes`: handles of ranges of a shared block. All of a block is readable: it has zeros where nothing was written.
+//! The kit's `bytes`: handles of ranges of a shared block. All of a block is readable: it has zeros where nothing was
+//! written.
 //!
 //! Two handles of a block may have bytes in common, unless one of them may write: a `Writable` has its bytes alone.
 use super::arc::Arc;
@@ -146,8 +147,8 @@ mod block {
             Ok(front)
         }
 
-        /// Moves the first `n` bytes to the block's front, which then is the range as a whole, if the block has no other range,
-        /// these bytes don't overlap there, and `least` bytes fit. Returns whether it did.
+        /// Moves the first `n` bytes to the block's front, which then is the range as a whole, if the block has no
+        /// other range, these bytes don't overlap there, and `least` bytes fit. Returns whether it did.
         pub(super) fn rewind(&mut self, n: usize, least: usize) -> bool {
             let Block { shared, start, len } = &mut self.0;
             assert!(n <= *len);
@@ -181,8 +182,8 @@ mod block {
             reserved.map(|()| true).map_err(|_| AllocError)
         }
 
-        /// Takes the vector with the first `n` bytes of the range at its front, if the block has no other range. An empty block is
-        /// left.
+        /// Takes the vector with the first `n` bytes of the range at its front, if the block has no other range. An
+        /// empty block is left.
         pub(super) fn take_vec(&mut self, n: usize) -> Option<vec::Vec<u8>> {
             assert!(n <= self.0.len);
             let shared = Arc::get_mut(&mut self.0.shared)?;
@@ -434,8 +435,8 @@ impl BytesMut {
         Ok(())
     }
 
-    /// Makes space for `more` bytes without allocating, if the front of the block has it and nothing else shares the block.
-    /// Returns whether there is so much space.
+    /// Makes space for `more` bytes without allocating, if the front of the block has it and nothing else shares the
+    /// block. Returns whether it has that space.
     pub fn try_reclaim(&mut self, more: usize) -> bool {
         if self.capacity() - self.len >= more {
             return true;
@@ -504,7 +505,8 @@ impl BytesMut {
         }
     }
 
-    /// Returns the bytes as a vector. Allocates only if something else shares the block; if that fails, the error has the bytes.
+    /// Returns the bytes as a vector. Allocates only if something else shares the block; if that fails, the error has
+    /// the bytes.
     pub fn into_vec(mut self) -> Result<Vec<u8>, AllocFailed<BytesMut>> {
         let len = self.len;
         if let Some(bytes) = self.block.as_mut().and_then(|block| block.take_vec(len)) {
@@ -516,8 +518,8 @@ impl BytesMut {
         }
     }
 
-    /// Reads once into the space, and returns the number of bytes. Returns an error, and changes nothing, if the reader does, or
-    /// says that it read more than the space.
+    /// Reads once into the space, and returns the number of bytes. Returns an error, and changes nothing, if the reader
+    /// does, or says that it read more than the space.
     pub fn read_from<R: io::Read>(&mut self, from: &mut R) -> io::Result<usize> {
         let n = from.read(self.space())?;
         if n > self.capacity() - self.len {

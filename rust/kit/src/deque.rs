@@ -142,7 +142,8 @@ impl<T> VecDeque<T> {
         self.0.pop_back()
     }
 
-    /// Moves the items from the index `at` on into another deque; `at` is at most the length. If it fails, nothing changes.
+    /// Moves the items from the index `at` on into another deque; `at` is at most the length. If it fails, nothing
+    /// changes.
     #[inline]
     pub fn split_off(&mut self, at: usize) -> Result<VecDeque<T>, AllocError> {
         if ENDS_IF_REFUSED {

@@ -9,11 +9,11 @@ pub trait BufRead: Read {
     /// Returns the bytes of the buffer, after one read into it if it is empty. They are empty only at the end.
     fn fill_buf(&mut self) -> Result<&[u8]>;
 
-    /// Drops so many bytes from the front of the buffer, which has them.
+    /// Drops the first `amount` bytes of the buffer, which has them.
     fn consume(&mut self, amount: usize);
 
-    /// Appends the bytes up to the first that equals `byte`, with it, or up to the end, and returns their number. A read that is
-    /// interrupted is made again. If allocation fails, the error's kind is `OutOfMemory`.
+    /// Appends the bytes up to the first that equals `byte`, with it, or up to the end, and returns their number. A
+    /// read that is interrupted is made again. If allocation fails, the error's kind is `OutOfMemory`.
     fn read_until(&mut self, byte: u8, to: &mut Vec<u8>) -> Result<usize> {
         let mut count = 0;
         loop {
@@ -53,7 +53,8 @@ pub struct BufReader<R> {
 }
 
 impl<R: Read> BufReader<R> {
-    /// Reads at most `n` bytes at once. If allocation fails, the error's kind is `OutOfMemory`, and the reader is dropped.
+    /// Reads at most `n` bytes at once. If allocation fails, the error's kind is `OutOfMemory`, and the reader is
+    /// dropped.
     pub fn with_capacity(alloc: Global, n: usize, inner: R) -> Result<BufReader<R>> {
         Ok(BufReader { inner, block: Vec::from_elem(alloc, 0, n)?, start: 0, end: 0 })
     }
@@ -66,7 +67,8 @@ impl<R: Read> BufReader<R> {
 }
 
 impl<R: Read> Read for BufReader<R> {
-    /// Takes bytes from the buffer, after one read into it if it is empty. Space for a whole block is read into directly.
+    /// Takes bytes from the buffer, after one read into it if it is empty. Space for a whole block is read into
+    /// directly.
     fn read(&mut self, to: &mut [u8]) -> Result<usize> {
         if self.start == self.end && to.len() >= self.block.len() {
             return self.inner.read(to);
@@ -103,7 +105,8 @@ pub struct BufWriter<W> {
 }
 
 impl<W: Write> BufWriter<W> {
-    /// Writes up to `n` bytes at once. If allocation fails, the error's kind is `OutOfMemory`, and the writer is dropped.
+    /// Writes up to `n` bytes at once. If allocation fails, the error's kind is `OutOfMemory`, and the writer is
+    /// dropped.
     pub fn with_capacity(alloc: Global, n: usize, inner: W) -> Result<BufWriter<W>> {
         Ok(BufWriter { inner, block: Vec::with_capacity(alloc, n)? })
     }

@@ -1,5 +1,5 @@
-//! A vector. Std promises at least the capacity that is asked for, where the kit promises exactly that; an item is put without an
-//! allocation into either.
+//! A vector. Std promises at least the capacity that is asked for, where the kit promises exactly that; an item is put
+//! without an allocation into either.
 #![forbid(unsafe_code)]
 use super::base::{AllocError, AllocFailed, Global};
 use std::ops::{Deref, DerefMut, RangeFrom};
@@ -83,7 +83,8 @@ impl<T> Vec<T> {
         self.0.truncate(n);
     }
 
-    /// Moves the items from the index `at` on into another vector; `at` is at most the length. If it fails, nothing changes.
+    /// Moves the items from the index `at` on into another vector; `at` is at most the length. If it fails, nothing
+    /// changes.
     #[inline]
     pub fn split_off(&mut self, at: usize) -> Result<Vec<T>, AllocError> {
         let mut rest = vec::Vec::new();
@@ -119,7 +120,8 @@ impl<T: Clone> Vec<T> {
         Ok(())
     }
 
-    /// Drops the items after the first `n`, or appends copies of `item` up to a length of `n`. If it fails, nothing changes.
+    /// Drops the items after the first `n`, or appends copies of `item` up to a length of `n`. If it fails, nothing
+    /// changes.
     #[inline]
     pub fn resize(&mut self, n: usize, item: T) -> Result<(), AllocError> {
         self.0.try_reserve(n.saturating_sub(self.0.len())).map_err(|_| AllocError)?;

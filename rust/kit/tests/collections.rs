@@ -180,7 +180,8 @@ fn digits() {
     }
 }
 
-/// A stream that reads and writes at most a few bytes at once, is interrupted at each second call, and fails after some bytes.
+/// A stream that reads and writes at most a few bytes at once, is interrupted at each second call, and fails after some
+/// bytes.
 struct Slow {
     bytes: Vec<u8>,
     most: usize,

@@ -45,8 +45,8 @@ unsafe impl GlobalAlloc for Refusing {
 #[global_allocator]
 static ALLOCATOR: Refusing = Refusing;
 
-/// Makes a value, and calls it with its first allocation refused, then its second, up to the number that it makes. The call
-/// returns whether it succeeded; after an error the value has to be as it was.
+/// Makes a value, and calls it with its first allocation refused, then its second, up to the number that it makes. The
+/// call returns whether it succeeded; after an error the value has to be as it was.
 fn refuse<T>(
     name: &str,
     allocations: u64,

@@ -21,14 +21,8 @@ impl File<'_> {
             "#" => self.attribute(i),
             "impl" => self.implementation(i),
             "fn" if self.code.get(i + 1).is_some_and(|it| it.is_word()) => self.function(i),
-            "use" if self.has(i + 1, "thiserror : : Error ;") => {
-                self.replace(i, i + 6, "");
-                Ok(i + 6)
-            }
-            "prove" if self.text(i + 1) == "!" => {
-                self.replace(i, i + 1, "debug_assert");
-                Ok(i + 1)
-            }
+            "use" if self.has(i + 1, "thiserror : : Error ;") => Ok(self.replace(i, i + 6, "")),
+            "prove" if self.text(i + 1) == "!" => Ok(self.replace(i, i + 1, "debug_assert")),
             _ => Ok(self.path(i)),
         }
     }
@@ -36,14 +30,11 @@ impl File<'_> {
     // Drops what begins at `from`, and is ghost at `i`.
     fn ghost(&mut self, from: usize, i: usize) -> Result<usize, Fault> {
         let end = self.after_ghost(i)?;
-        match self.text(i + 1) {
-            "use" => self.replace(from, end, ""),
-            _ => self.drop_item(from, end),
-        }
-        Ok(end)
+        Ok(if self.text(i + 1) == "use" { self.replace(from, end, "") } else { self.drop_item(from, end) })
     }
 
-    // The token after `ghost use ..;`, `ghost name = { .. };`, `ghost name: { .. };`, `ghost name: { .. } = { .. };`, or a field.
+    // The token after `ghost use ..;`, `ghost name = { .. };`, `ghost name: { .. };`, `ghost name: { .. } = { .. };`,
+    // or a field.
     fn after_ghost(&self, i: usize) -> Result<usize, Fault> {
         let mut end = i + 2;
         if self.text(i + 1) == "use" {
@@ -65,7 +56,7 @@ impl File<'_> {
         }
         let end = self.after(open)?;
         match self.text(open + 1) {
-            "tactic" | "error" => self.replace(i, end, ""),
+            "tactic" | "error" => return Ok(self.replace(i, end, "")),
             "derive" => self.derive(i, end),
             name if KEPT.contains(&name) => self.is_marked |= name == "inline",
             _ => return self.fault(open + 1, "an attribute that isn't known"),
@@ -77,10 +68,10 @@ impl File<'_> {
     fn derive(&mut self, i: usize, end: usize) {
         let names: String = self.code[i + 4..end - 2].iter().map(|it| it.text).collect();
         let kept: Vec<_> = names.split(',').filter(|it| !it.is_empty() && !DERIVED.contains(it)).collect();
-        match kept.len() {
-            0 => self.replace(i, end, ""),
-            n if n < names.split(',').count() => self.replace(i + 4, end - 2, &kept.join(", ")),
-            _ => {}
+        if kept.is_empty() {
+            self.replace(i, end, "");
+        } else if kept.len() < names.split(',').count() {
+            self.replace(i + 4, end - 2, &kept.join(", "));
         }
     }
 
@@ -102,8 +93,7 @@ impl File<'_> {
         if at + 1 != end {
             return self.fault(name, "an impl that isn't the trivial one");
         }
-        self.drop_item(i, end);
-        Ok(end)
+        Ok(self.drop_item(i, end))
     }
 
     // The token after `fn drop(self) { let T { a: _, .. } = self; }`, or 0.
@@ -153,8 +143,7 @@ impl File<'_> {
             "requires" => format!("/* {said} */"),
             _ => String::new(),
         };
-        self.replace(i, end, &left);
-        Ok(end)
+        Ok(self.replace(i, end, &left))
     }
 
     // Marks a function that isn't marked, and isn't for C.

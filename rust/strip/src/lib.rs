@@ -26,15 +26,28 @@ use std::{fs, io};
 
 const IMPORT: &str = "use crate::kit::prelude::*;";
 
-/// A file of a proved crate, as in `iobufs/bufs_mut.rt`, and a Rust file by hand that becomes its private module `spare`.
+/// A file of a proved crate, as in `iobufs/bufs_mut.rt`, and a Rust file by hand that becomes its private module
+/// `spare`.
 pub type Spare<'a> = (&'a str, &'a Path);
 
-/// Writes `to/CRATE/*.rs` of `from/CRATE/src/*.rt` for each of these crates, and `to/proved.rs`, which declares each as a module.
-/// A crate may name only others of the list. Prints the lines by which cargo runs a build script again if a source changes.
-/// Returns an error that begins with the file and the line if something in it is refused.
-pub fn write_crates(crates: &[&str], spares: &[Spare<'_>], from: &Path, to: &Path) -> Result<(), String> {
+/// Returns the crates that a crate of the repository uses, by its row of `crates.txt`, and itself.
+pub fn crates_of(name: &str, top: &Path) -> Result<Vec<String>, String> {
+    let table = top.join("crates.txt");
+    println!("cargo:rerun-if-changed={}", table.display());
+    let rows = named(&table, fs::read_to_string(&table))?;
+    let row = rows.lines().filter_map(|row| row.split_once(':')).find(|(of, _)| of.split(' ').next() == Some(name));
+    let (_, used) = row.ok_or(format!("{}: no crate {name}", table.display()))?;
+    let own = used.split(' ').filter(|it| top.join("crates").join(it).join("src").is_dir());
+    Ok(own.chain([name]).map(str::to_owned).collect())
+}
+
+/// Writes `to/CRATE/*.rs` of `from/CRATE/src/*.rt` for each of these crates, and `to/proved.rs`, which declares each as
+/// a module. A crate may name only others of the list. Prints the lines by which cargo runs a build script again if a
+/// source changes. Returns an error that begins with the file and the line if something in it is refused.
+pub fn write_crates<S: AsRef<str>>(crates: &[S], spares: &[Spare<'_>], from: &Path, to: &Path) -> Result<(), String> {
+    let crates: Vec<&str> = crates.iter().map(AsRef::as_ref).collect();
     let mut modules = String::new();
-    for name in crates {
+    for name in &crates {
         let sources = from.join(name).join("src");
         println!("cargo:rerun-if-changed={}", sources.display());
         let mut root = "lib.rs";
@@ -42,7 +55,7 @@ pub fn write_crates(crates: &[&str], spares: &[Spare<'_>], from: &Path, to: &Pat
             let below = file.strip_prefix(&sources).expect("found there");
             let source = named(&file, fs::read_to_string(&file))?;
             let mut rust =
-                rust_of(&source, name, crates).map_err(|(line, why)| format!("{}:{line}: {why}", file.display()))?;
+                rust_of(&source, name, &crates).map_err(|(line, why)| format!("{}:{line}: {why}", file.display()))?;
             for (_, spare) in spares.iter().filter(|(of, _)| Path::new(name).join(below) == Path::new(of)) {
                 rust += &format!("\n#[path = {spare:?}]\nmod spare;\n");
             }
@@ -137,13 +150,14 @@ impl<'a> File<'a> {
         self.fault(open, "a bracket that isn't closed")
     }
 
-    // Puts `rust` in the place of the tokens `from..to`.
-    fn replace(&mut self, from: usize, to: usize, rust: &str) {
+    // Puts `rust` in the place of the tokens `from..to`, and returns `to`.
+    fn replace(&mut self, from: usize, to: usize, rust: &str) -> usize {
         self.edits.push((self.code[from].at, self.code[to - 1].end(), rust.to_owned()));
+        to
     }
 
-    // Drops an item with the comments directly above it.
-    fn drop_item(&mut self, from: usize, to: usize) {
+    // Drops an item with the comments directly above it, and returns `to`.
+    fn drop_item(&mut self, from: usize, to: usize) -> usize {
         let mut first = self.code[from].at;
         let above = self.comments.partition_point(|it| it.at < first);
         for comment in self.comments[..above].iter().rev().filter(|it| !it.text.starts_with("//!")) {
@@ -154,6 +168,7 @@ impl<'a> File<'a> {
             first = comment.at;
         }
         self.edits.push((first, self.code[to - 1].end(), String::new()));
+        to
     }
 
     fn strip(&mut self) -> Result<(), Fault> {

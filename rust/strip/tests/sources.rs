@@ -2,18 +2,6 @@
 use std::fs;
 use std::path::{Path, PathBuf};
 
-const CRATES: [&str; 9] = [
-    "iobufs_core",
-    "iobufs",
-    "iobufs_owner",
-    "iobufs_run",
-    "iobuf_lines",
-    "iobuf",
-    "iobufs_values",
-    "iobufs_frames",
-    "iobufs_c",
-];
-
 fn sources(folder: &Path, found: &mut Vec<PathBuf>) {
     for entry in fs::read_dir(folder).unwrap().map(|it| it.unwrap().path()) {
         if entry.is_dir() {
@@ -44,13 +32,16 @@ fn words(line: &str, name: &str) -> Vec<String> {
 
 #[test]
 fn each_line_is_where_it_was() {
-    for name in CRATES {
+    let crates = ["iobuf", "iobufs_c", "iobufs_values"].map(|it| strip::crates_of(it, Path::new("../..")).unwrap());
+    let crates = crates.concat();
+    let crates: Vec<&str> = crates.iter().map(String::as_str).collect();
+    for name in &crates {
         let mut files = Vec::new();
         sources(&Path::new("../../crates").join(name).join("src"), &mut files);
         assert!(!files.is_empty());
         for file in files {
             let source = fs::read_to_string(&file).unwrap();
-            let rust = strip::rust_of(&source, name, &CRATES).unwrap();
+            let rust = strip::rust_of(&source, name, &crates).unwrap();
             assert_eq!(source.lines().count(), rust.lines().count(), "{}", file.display());
             for (n, (before, after)) in source.lines().zip(rust.lines()).enumerate() {
                 let mut all = words(before, name).into_iter();
