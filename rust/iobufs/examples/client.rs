@@ -1,5 +1,5 @@
 //! A client of records: a codec, frames that are sent by short vectored writes and read from chunks of any size, and a
-//! journal of pages. It needs the feature `bytes`. It is a client of the original too, if these three lines replace the
+//! journal of pages. It is a client of the original too, if these three lines replace the
 //! two that name `iobufs`:
 //!
 //! 1. `use commonware_codec::{Buf, BufsMut, Decode, EncodeSize, Error, RangeCfg, Read, Write};`

@@ -54,7 +54,7 @@ pub mod codec;
 mod commonware;
 mod error;
 mod io;
-#[allow(dead_code, missing_docs, clippy::all)]
+#[allow(dead_code, missing_docs, clippy::new_without_default)]
 mod kit;
 #[allow(unsafe_code)]
 mod lent;

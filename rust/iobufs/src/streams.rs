@@ -307,8 +307,8 @@ impl<W: Write> FrameWriter<W> {
     /// takes no byte, and with `ErrorKind::Other` if it says that it took more than it was given: then it is given the
     /// same again.
     ///
-    /// If the `Drop` of a body's owner panics, its bytes were sent. Then nothing more is written, and each call returns
-    /// an error.
+    /// If the `Drop` of a body's owner panics, its bytes were sent. Then nothing more is written, and each `send`
+    /// returns an error.
     pub fn send(&mut self) -> io::Result<()> {
         if self.is_broken {
             return Err(io::Error::other("an owner of sent bytes panicked as it was dropped"));

@@ -349,18 +349,18 @@ const MORE_PUTS: [Put; 6] = [
         both.put_u32(0x6162_6364);
         assert_eq!(front, *b"ab");
     }),
-    ("what is lent, byte by byte", |buf| {
+    ("spare capacity, byte by byte", |buf| {
         for i in 0..5 {
             buf.chunk_mut()[..1].copy_from_slice(&[i]);
             // SAFETY: this byte was written.
             unsafe { buf.advance_mut(1) };
         }
     }),
-    ("what is lent, at once", |buf| {
+    ("spare capacity, at once", |buf| {
         while buf.has_remaining_mut() {
-            let lent = buf.chunk_mut();
-            (0..lent.len()).for_each(|i| lent.write_byte(i, 5));
-            let n = lent.len();
+            let spare = buf.chunk_mut();
+            (0..spare.len()).for_each(|i| spare.write_byte(i, 5));
+            let n = spare.len();
             assert!(n > 0);
             // SAFETY: these bytes were written.
             unsafe { buf.advance_mut(n) };
@@ -393,17 +393,17 @@ fn each_call_writes_as_of_a_slice() {
 
 // The bytes of `chunk_mut` begin with the next one: a put overwrites the first of them, and the others stay.
 #[test]
-fn what_is_lent_is_the_next_place() {
+fn spare_capacity_begins_with_the_next_byte() {
     for (name, make) in MAKES_MUT {
-        for (lent, put) in [(0, 0), (5, 0), (5, 2), (5, 5), (5, 9), (20, 3)] {
+        for (written, put) in [(0, 0), (5, 0), (5, 2), (5, 5), (5, 9), (20, 3)] {
             let mut buf = make(MOST);
-            let lent = lent.min(buf.chunk_mut().len());
-            buf.chunk_mut()[..lent].copy_from_slice(&pattern(lent));
+            let written = written.min(buf.chunk_mut().len());
+            buf.chunk_mut()[..written].copy_from_slice(&pattern(written));
             buf.put_slice(&vec![1; put]);
             // SAFETY: `n` bytes were written after those that are there.
-            unsafe { buf.advance_mut(lent.saturating_sub(put)) };
-            let wanted: Vec<u8> = vec![1; put].into_iter().chain(pattern(lent).into_iter().skip(put)).collect();
-            assert_eq!(buf.written(), wanted, "{put} over {lent}, {name}");
+            unsafe { buf.advance_mut(written.saturating_sub(put)) };
+            let wanted: Vec<u8> = vec![1; put].into_iter().chain(pattern(written).into_iter().skip(put)).collect();
+            assert_eq!(buf.written(), wanted, "{put} over {written}, {name}");
         }
         let mut buf = make(4);
         // SAFETY: by no bytes it may always be called, and by more than fit it panics.

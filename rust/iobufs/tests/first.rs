@@ -192,7 +192,7 @@ fn a_single_buffer_is_lent() {
     assert_eq!(IoBufs::from("ab").as_single(), Some(&IoBuf::from("ab")));
 }
 
-// With the feature these are the original's `Bytes`, of the same memory if the bytes are in one chunk.
+// These are `Bytes`, of the same memory if the bytes are in one chunk.
 #[test]
 fn bytes_of_the_same_memory() {
     use bytes::Bytes;

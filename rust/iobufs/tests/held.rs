@@ -1,5 +1,4 @@
-//! How much memory readers and writers of frames hold. `malloc` is counted, which the library and Rust's collections
-//! call.
+//! How much memory readers and writers of frames hold. `malloc` is counted, which Rust's collections call.
 use iobufs::{FrameReader, FrameWriter, IoBuf, IoBufs};
 use std::cell::Cell;
 use std::ffi::c_void;

@@ -552,10 +552,24 @@ fn types() {
     fn view<T: AsRef<[u8]> + UnwindSafe + RefUnwindSafe>() {}
     fn source<T: Buf>() {}
     fn sink<T: BufMut>() {}
-    (value::<IoBuf>(), value::<IoBufMut>(), value::<IoBufs>(), value::<IoBufsMut>());
-    (bytes::<IoBuf>(), bytes::<IoBufMut>(), view::<IoBuf>(), view::<IoBufMut>());
-    (source::<IoBuf>(), source::<IoBufMut>(), source::<IoBufs>(), source::<IoBufsMut>());
-    (sink::<IoBufMut>(), sink::<IoBufsMut>(), sink::<Builder>());
+    let checks: [fn(); 15] = [
+        value::<IoBuf>,
+        value::<IoBufMut>,
+        value::<IoBufs>,
+        value::<IoBufsMut>,
+        bytes::<IoBuf>,
+        bytes::<IoBufMut>,
+        view::<IoBuf>,
+        view::<IoBufMut>,
+        source::<IoBuf>,
+        source::<IoBufMut>,
+        source::<IoBufs>,
+        source::<IoBufsMut>,
+        sink::<IoBufMut>,
+        sink::<IoBufsMut>,
+        sink::<Builder>,
+    ];
+    checks.iter().for_each(|check| check());
     fn others<T: Clone + Eq, U: Clone, V: AsMut<[u8]>>() {}
     others::<IoBuf, IoBufs, IoBufMut>();
 }

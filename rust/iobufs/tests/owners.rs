@@ -402,8 +402,8 @@ fn an_owner_whose_drop_panics() {
     ];
     for (call, next) in calls.into_iter().flat_map(|call| then.map(|next| (call, next))) {
         let live = Live::default();
-        let lent = |name, bytes| IoBuf::from_owner(Grenade(live.owner(name, bytes)));
-        let mut text = IoBufs::from([lent(1, b"aaaa"), lent(2, b"bbbb"), IoBuf::from(b"--")]);
+        let owned = |name, bytes| IoBuf::from_owner(Grenade(live.owner(name, bytes)));
+        let mut text = IoBufs::from([owned(1, b"aaaa"), owned(2, b"bbbb"), IoBuf::from(b"--")]);
         assert!(tried(1, || call(&mut text)).is_none());
         assert!(text.chunks().flatten().all(|byte| b"ab-".contains(byte)));
         let _ = catch_unwind(AssertUnwindSafe(|| next(&mut text)));
@@ -466,8 +466,8 @@ fn assert_kept(mut text: IoBufs, live: &Live, advances: &[(usize, &[usize])]) {
 fn views_that_are_refused() {
     let (live, huge) = (Live::default(), huge());
     let refused = |call: &mut dyn FnMut(IoBuf)| {
-        let lent = IoBufs::from([live.view(9, b"x"), huge.clone()]);
-        let views = [huge.clone(), lent.slice(1..).coalesce()];
+        let bufs = IoBufs::from([live.view(9, b"x"), huge.clone()]);
+        let views = [huge.clone(), bufs.slice(1..).coalesce()];
         views.into_iter().for_each(|view| assert!(catch_unwind(AssertUnwindSafe(|| call(view))).is_err()));
     };
     let mut builder = Builder::new(1000);
@@ -513,7 +513,7 @@ impl World {
         tried(nth, || call(self))
     }
 
-    /// A new view: the library's, static, or of an owner.
+    /// A new view: of its own storage, static, or of an owner.
     fn fresh(&mut self) -> View {
         let bytes: Vec<u8> = (0..self.below(24)).map(|_| self.below(20) as u8).collect();
         match self.below(5) {

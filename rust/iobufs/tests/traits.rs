@@ -70,13 +70,13 @@ fn writers() {
 }
 
 #[test]
-fn more_than_is_lent_at_a_time() {
+fn all_of_the_spare_capacity() {
     let mut part = IoBufMut::with_capacity(10_000);
     while part.has_remaining_mut() {
-        let lent = part.chunk_mut();
-        let n = lent.len();
+        let spare = part.chunk_mut();
+        let n = spare.len();
         assert!(n > 0);
-        lent[..n].copy_from_slice(&vec![7; n]);
+        spare[..n].copy_from_slice(&vec![7; n]);
         // SAFETY: these bytes were written.
         unsafe { part.advance_mut(n) };
     }
@@ -161,7 +161,7 @@ fn conversions_share() {
     assert_eq!((back.as_ptr(), &back[..]), (bytes.as_ptr().wrapping_add(1), &[2, 3][..]));
     drop((view, bytes));
     assert!(back.is_unique());
-    // The library's storage does too, and stays while the `Bytes` does.
+    // A view's own storage does too, and stays while the `Bytes` does.
     let mut text = IoBufs::from([IoBuf::copy_from_slice(b"written"), IoBuf::from(BytesMut::from(&b"-more"[..]))]);
     let places: Vec<*const u8> = text.chunks().map(<[u8]>::as_ptr).collect();
     let (a, b) = (Buf::copy_to_bytes(&mut text, 7), Buf::copy_to_bytes(&mut text, 5));
@@ -207,7 +207,7 @@ struct Both<B> {
     /// How many bytes were dropped from the front: offsets count from the first.
     gone: usize,
     /// The offsets that were written by way of `chunk_mut`, and not advanced over.
-    lent: Range<usize>,
+    written: Range<usize>,
 }
 
 impl<B: Buf + BufMut> Both<B> {
@@ -226,11 +226,11 @@ impl<B: Buf + BufMut> Both<B> {
                 let n = n.min(ours.chunk_mut().len());
                 ours.chunk_mut()[..n].copy_from_slice(&bytes[..n]);
                 theirs.chunk_mut()[..n].copy_from_slice(&bytes[..n]);
-                let end = if self.lent.contains(&next) { self.lent.end } else { next };
-                self.lent = next..end.max(next + n);
+                let end = if self.written.contains(&next) { self.written.end } else { next };
+                self.written = next..end.max(next + n);
             }
-            1 if self.lent.contains(&next) => {
-                let n = self.random.below(self.lent.end - next + 1);
+            1 if self.written.contains(&next) => {
+                let n = self.random.below(self.written.end - next + 1);
                 // SAFETY: `n` bytes were written after those that are there.
                 unsafe { (ours.advance_mut(n), theirs.advance_mut(n)) };
             }
@@ -262,7 +262,7 @@ impl<B: Buf + BufMut> Both<B> {
         }
         // All bytes of one buffer are taken with its space.
         if ours.remaining_mut() == 0 {
-            self.lent = 0..0;
+            self.written = 0..0;
         }
     }
 }
@@ -271,7 +271,7 @@ impl<B: Buf + BufMut> Both<B> {
 fn compare<B: Buf + BufMut>(make: fn() -> B, cut: fn(&mut B, usize), bytes: fn(&B) -> Vec<u8>) {
     for seed in 0..500 {
         let theirs = BytesMut::with_capacity(2 * ROOM);
-        let mut both = Both { random: Random(seed), ours: make(), theirs, gone: 0, lent: 0..0 };
+        let mut both = Both { random: Random(seed), ours: make(), theirs, gone: 0, written: 0..0 };
         for _ in 0..60 {
             match both.random.below(7) {
                 0 | 1 => both.read(),

@@ -34,8 +34,8 @@ impl<T> Arc<T> {
         Ok(Arc(block))
     }
 
-    /// Returns one more handle. Ends the process if there are more than `isize::MAX`, as std does: an error costs each
-    /// clone more.
+    /// Returns one more handle. Ends the process if there are more than `isize::MAX`, as std's does: an error would
+    /// cost each clone more.
     #[inline]
     pub fn try_clone(this: &Arc<T>) -> Result<Arc<T>, AllocError> {
         let handles = &this.shared().handles;

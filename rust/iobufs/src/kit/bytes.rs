@@ -38,6 +38,7 @@ pub trait BufMut {
 }
 
 /// Bytes to be read, shared by all clones, slices and splits.
+#[derive(Debug, PartialEq, Eq)]
 pub struct Bytes(pub(crate) bytes::Bytes);
 
 impl Bytes {
@@ -251,7 +252,10 @@ impl BytesMut {
     pub fn read_from<R: io::Read>(&mut self, from: &mut R) -> io::Result<usize> {
         let n = from.read(self.space())?;
         if n > self.capacity() - self.len {
-            return Err(io::Error::other("a reader says that it read more than it was asked for"));
+            return Err(io::Error::new(
+                io::ErrorKind::InvalidData,
+                "a reader says that it read more than it was asked for",
+            ));
         }
         self.len += n;
         Ok(n)

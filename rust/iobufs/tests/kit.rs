@@ -1,0 +1,32 @@
+//! The layer of calls over the crate `bytes`, by the tests of the one that the program and the C library have.
+#![allow(dead_code, clippy::new_without_default)]
+extern crate self as kit;
+
+#[path = "../../kit/src/arc.rs"]
+mod arc;
+#[path = "../../kit/src/base.rs"]
+mod base;
+#[path = "../src/kit/bytes.rs"]
+pub mod bytes;
+#[path = "../../kit/tests/bytes.rs"]
+mod bytes_tests;
+#[path = "../../kit/tests/collections.rs"]
+mod collections_tests;
+#[path = "../../kit/src/deque.rs"]
+mod deque;
+#[path = "../../kit/src/hex.rs"]
+pub mod hex;
+#[path = "../../kit/src/host.rs"]
+mod host;
+#[path = "../../kit/src/io.rs"]
+pub mod io;
+#[path = "../../kit/src/memchr.rs"]
+pub mod memchr;
+#[path = "../../kit/src/names.rs"]
+mod names;
+#[path = "../../kit/src/text.rs"]
+mod text;
+#[path = "../../kit/src/vec.rs"]
+mod vec;
+
+pub use names::{prelude, std};
