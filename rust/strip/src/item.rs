@@ -57,11 +57,22 @@ impl File<'_> {
         let end = self.after(open)?;
         match self.text(open + 1) {
             "tactic" | "error" => return Ok(self.replace(i, end, "")),
+            "test" => return self.test(i, end),
             "derive" => self.derive(i, end),
             name if KEPT.contains(&name) => self.is_marked |= name == "inline",
             _ => return self.fault(open + 1, "an attribute that isn't known"),
         }
         Ok(end)
+    }
+
+    // A function, which the attribute from `i` to `end` marks.
+    fn test(&mut self, i: usize, end: usize) -> Result<usize, Fault> {
+        let body = self.after(end + 2)?;
+        if self.text(end) != "fn" || self.text(body) != "{" {
+            return self.fault(i, "a test of a form that isn't known");
+        }
+        let to = self.after(body)?;
+        Ok(self.drop_item(i, to))
     }
 
     // Drops names from `#[derive(..)]`.
@@ -102,9 +113,8 @@ impl File<'_> {
         while self.has(at + 1, ": _") {
             at += 3 + usize::from(self.text(at + 3) == ",");
         }
-        let is_trivial =
-            self.has(i, "fn drop ( self ) { let") && self.text(i + 8) == "{" && self.has(at, "} = self ; }");
-        if is_trivial { at + 5 } else { 0 }
+        let has_head = self.has(i, "fn drop ( self ) { let") && self.text(i + 8) == "{";
+        if has_head && self.has(at, "} = self ; }") { at + 5 } else { 0 }
     }
 
     // A function's head: its clauses, and what marks it.

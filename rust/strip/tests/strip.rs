@@ -5,7 +5,7 @@ const CRATES: [&str; 2] = ["one", "two"];
 const HEAD: &str = "use crate::kit::prelude::*; ";
 
 /// A source, and what is left of it, but for the import before its first item. `\n` where lines stay empty.
-const LEFT: [(&str, &str); 32] = [
+const LEFT: [(&str, &str); 33] = [
     ("fn f() {\n    g();\n    h();\n}\n", "#[inline] fn f() {\n    g();\n    h();\n}\n"),
     (
         "fn f(n: u8) -> u8\n    requires { n < 9 }\n{\n    n\n}\n",
@@ -18,6 +18,10 @@ const LEFT: [(&str, &str); 32] = [
     (
         "trait T {\n    fn f()\n        requires { a ×\n            b };\n}\n",
         "trait T {\n    fn f()\n        /* requires { a ×\n            b } */;\n}\n",
+    ),
+    (
+        "mod a;\n\n// Goes.\n#[test]\nfn f(rt: HostRuntime) {\n    assert!(rt; a);\n}\n\nmod b;\n",
+        "mod a;\n\n\n\n\n\n\n\nmod b;\n",
     ),
     ("mod a; // Stays.\nghost b = { c };\n", "mod a; // Stays.\n\n"),
     ("const A: &[u8] = br\"\\\";\nghost b = { c };\n", "const A: &[u8] = br\"\\\";\n\n"),
@@ -118,12 +122,13 @@ fn the_import_stands_where_the_first_item_goes() {
 }
 
 /// A source, and the line that is refused.
-const REFUSED: [(&str, usize); 16] = [
+const REFUSED: [(&str, usize); 17] = [
     ("mod a;\nghost fn f() {}\n", 2),
     ("mod a;\nghost a = b;\n", 2),
     ("mod a;\nghost a = { b }\n", 2),
     ("ghost use a.{b}", 1),
-    ("mod a;\n\n#[test]\nfn f() {}\n", 3),
+    ("mod a;\n\n#[test]\npub fn f() {}\n", 3),
+    ("mod a;\n\n#[cfg(test)]\nmod f;\n", 3),
     ("#![allow(a)]\n", 1),
     ("struct S {\n    #[from]\n    a: u8,\n}\n", 2),
     ("impl Drop for S {\n    fn drop(self) {\n        let S { a } = self;\n    }\n}\n", 1),
