@@ -7,7 +7,7 @@
 //! | `requires { .. }` | a comment |
 //! | `impl Drop for T` that drops the fields, `Drop` in a derive list | nothing: Rust does so by itself |
 //! | `thiserror::Error` in a derive list, `#[error(..)]` | nothing: no source shows these errors |
-//! | a `#[test]` function | nothing: the kit runs it |
+//! | `#[test] fn ..` | nothing: the kit runs it |
 //! | `final fn`, `prove!(..)` | `fn`, `debug_assert!(..)` |
 //! | `fn f<W: fmt::Write>(.., f: &mut fmt::Formatter<W>)` | `fn f(.., f: &mut fmt::Formatter<'_>)` |
 //! | `crate::`, `iobufs_core::` and the other proved crates | a module of `crate::proved` |

@@ -19,10 +19,6 @@ const LEFT: [(&str, &str); 33] = [
         "trait T {\n    fn f()\n        requires { a ×\n            b };\n}\n",
         "trait T {\n    fn f()\n        /* requires { a ×\n            b } */;\n}\n",
     ),
-    (
-        "mod a;\n\n// Goes.\n#[test]\nfn f(rt: HostRuntime) {\n    assert!(rt; a);\n}\n\nmod b;\n",
-        "mod a;\n\n\n\n\n\n\n\nmod b;\n",
-    ),
     ("mod a; // Stays.\nghost b = { c };\n", "mod a; // Stays.\n\n"),
     ("const A: &[u8] = br\"\\\";\nghost b = { c };\n", "const A: &[u8] = br\"\\\";\n\n"),
     ("fn f()\n    ensures { a }\n    ensures* b { c {0} }\n{}\n", "#[inline] fn f()\n\n\n{}\n"),
@@ -90,6 +86,7 @@ const LEFT: [(&str, &str); 33] = [
         "fn f(n: std::ops::Bound<u8>) -> bytes::Bytes\n    ensures { a }\n{\n    two::bytes::of(n)\n}\n",
         "#[inline] fn f(n: crate::kit::std::ops::Bound<u8>) -> crate::kit::bytes::Bytes\n\n{\n    crate::proved::two::bytes::of(n)\n}\n",
     ),
+    ("mod a;\n\n// Goes.\n#[test]\nfn f() -> R {\n    g({})\n}\nmod b;\n", "mod a;\n\n\n\n\n\n\nmod b;\n"),
     ("fn f() {\n    prove!(a);\n}\n", "#[inline] fn f() {\n    debug_assert!(a);\n}\n"),
     (
         "fn f<W: fmt::Write>(n: u8, f: &mut fmt::Formatter<W>) -> fmt::Result {}\n",
@@ -122,13 +119,12 @@ fn the_import_stands_where_the_first_item_goes() {
 }
 
 /// A source, and the line that is refused.
-const REFUSED: [(&str, usize); 17] = [
+const REFUSED: [(&str, usize); 16] = [
     ("mod a;\nghost fn f() {}\n", 2),
     ("mod a;\nghost a = b;\n", 2),
     ("mod a;\nghost a = { b }\n", 2),
     ("ghost use a.{b}", 1),
-    ("mod a;\n\n#[test]\npub fn f() {}\n", 3),
-    ("mod a;\n\n#[cfg(test)]\nmod f;\n", 3),
+    ("mod a;\n\n#[ignore]\nfn f() {}\n", 3),
     ("#![allow(a)]\n", 1),
     ("struct S {\n    #[from]\n    a: u8,\n}\n", 2),
     ("impl Drop for S {\n    fn drop(self) {\n        let S { a } = self;\n    }\n}\n", 1),
