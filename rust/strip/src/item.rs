@@ -110,9 +110,8 @@ impl File<'_> {
         while self.has(at + 1, ": _") {
             at += 3 + usize::from(self.text(at + 3) == ",");
         }
-        let is_trivial =
-            self.has(i, "fn drop ( self ) { let") && self.text(i + 8) == "{" && self.has(at, "} = self ; }");
-        if is_trivial { at + 5 } else { 0 }
+        let has_head = self.has(i, "fn drop ( self ) { let") && self.text(i + 8) == "{";
+        if has_head && self.has(at, "} = self ; }") { at + 5 } else { 0 }
     }
 
     // A function's head: its clauses, and what marks it.

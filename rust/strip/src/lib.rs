@@ -61,10 +61,8 @@ pub fn write_crates<S: AsRef<str>>(crates: &[S], spares: &[Spare<'_>], from: &Pa
                 rust += &format!("\n#[path = {spare:?}]\nmod spare;\n");
             }
             let made = to.join(name).join(below).with_extension("rs");
-            named(
-                &made,
-                fs::create_dir_all(made.parent().expect("a file has a folder")).and_then(|()| fs::write(&made, rust)),
-            )?;
+            let folder = made.parent().expect("a file has a folder");
+            named(&made, fs::create_dir_all(folder).and_then(|()| fs::write(&made, rust)))?;
             root = if below == Path::new("main.rt") { "main.rs" } else { root };
         }
         modules += &format!("#[path = {:?}]\npub mod {name};\n", to.join(name).join(root));
@@ -173,8 +171,7 @@ impl<'a> File<'a> {
     }
 
     fn strip(&mut self) -> Result<(), Fault> {
-        let Some(first) = self.code.first() else { return Ok(()) };
-        let at = first.at;
+        let Some(at) = self.code.first().map(|it| it.at) else { return Ok(()) };
         let mut i = self.item(0)?;
         // The import takes the place of the file's first item if that goes.
         match self.edits.first_mut() {
