@@ -6,11 +6,9 @@ use Rattle.iobufs_core.specs.Ranges.{in_range}
 use Rattle.iobufs_core.specs.View.{View, view_of_bytes}
 use Rattle.iobufs_core.specs.WireLaws.{view_of_bytes-bytes}
 use Rattle.iobufs_core.specs.declared.codec.base.RangeCfg.{RangeCfg}
-use Rattle.iobufs_frames.proofs.FrameFacts.{stands}
 use Rattle.iobufs_frames.proofs.PrefixFacts.{length-later}
-use Rattle.iobufs_frames.specs.Frames.{CanFollow, HasBodyBytes, HasFrame, LacksFrame, frame_written}
+use Rattle.iobufs_frames.specs.Frames.{CanFollow, HasBodyBytes, LacksFrame, frame_written}
 use Rattle.iobufs_frames.specs.Prefixes.{IsSeenAt, prefix_limit, prefix_written}
-use Rattle.iobufs_frames.specs.declared.End.{End}
 use Rattle.iobufs_frames.specs.declared.End.TheVariants.{Open}
 use Rattle.iobufs_frames.specs.declared.lengths.Prefix.{Prefix}
 
@@ -53,13 +51,6 @@ front_taken prefix range bytes n k (at, long, within) inside fits =
       sym (take-append-drop (k + n) bytes) ∙ ap (λ w. w ++ drop (k + n) bytes) (sym whole),
     )
 
--- so a whole frame is at the front
-pub front_whole : (prefix : Prefix) (range : RangeCfg) (bytes : List ℕ) (n k : ℕ) → IsSeenAt prefix bytes n k → in_range range n ≡ true
-    → k + n ≤ length bytes → HasFrame prefix range bytes
-front_whole prefix range bytes n k seen inside fits =
-    let (admitted, whole) = front_taken prefix range bytes n k seen inside fits in
-    record { body = drop k (take (k + n) bytes); more = drop (k + n) bytes; admitted = admitted; whole = whole }
-
 -- one with bytes, if the length isn't 0
 pub front_some : (prefix : Prefix) (range : RangeCfg) (bytes : List ℕ) (n k : ℕ) → IsSeenAt prefix bytes n k → in_range range n ≡ true
     → k + n ≤ length bytes → 0 < n → HasBodyBytes prefix range bytes
@@ -72,11 +63,6 @@ front_some prefix range bytes n k seen inside fits some =
       whole = whole;
       some = omega (arith, some, length-drop k (take (k + n) bytes), length-take (k + n) bytes, fits);
     }
-
--- bytes that lack a frame have none
-pub lacks_none : (prefix : Prefix) (range : RangeCfg) (bytes : List ℕ) (end : End) → LacksFrame prefix range bytes end → HasFrame prefix range bytes → ⊥
-lacks_none prefix range bytes end lacks has =
-    stands prefix range has.body has.more end has.admitted (subst (λ (w : List ℕ). LacksFrame prefix range w end) has.whole lacks)
 
 -- the view that a frame is taken as has the bytes of its body
 pub view_taken : (prefix : Prefix) (range : RangeCfg) (bytes left : List ℕ) (n k size : ℕ) (body : View) → IsSeenAt prefix bytes n k

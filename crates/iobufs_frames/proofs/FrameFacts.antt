@@ -9,7 +9,7 @@
 --     written-append,  frames are written in order, and so is one more, which can follow if its length can
 --     written-push,
 --     one_more
-use Rattle.std.proofs.Common.{◌≡◌, ◌⊎◌, inl, inr, ℕ, ◌+◌, true, false, List, [], ◌∷◌, ◌++◌, length, ap, sym, subst, ◌∙◌, refl, arith, append_assoc, length-append}
+use Rattle.std.proofs.Common.{◌≡◌, ◌⊎◌, inl, inr, ℕ, ◌+◌, true, false, Err, List, [], ◌∷◌, ◌++◌, length, ap, sym, subst, ◌∙◌, refl, arith, append_assoc, length-append}
 use Rattle.std.proofs.lemmas.Bool.{false≢true}
 use Rattle.std.proofs.lemmas.List.{append-nil}
 use Rattle.iobufs_core.proofs.LengthFacts.{begun_open, less, no_length_later, still_closed}
@@ -18,7 +18,7 @@ use Rattle.iobufs_core.specs.Spelled.{none_high}
 use Rattle.iobufs_core.specs.declared.codec.base.Error.{Error}
 use Rattle.iobufs_core.specs.declared.codec.base.Error.TheVariants.{EndOfBuffer, InvalidVarint, InvalidLength, Memory, BadLayout, TooLong}
 use Rattle.iobufs_core.specs.declared.codec.base.RangeCfg.{RangeCfg}
-use Rattle.iobufs_frames.specs.Frames.{BadStaysBad, BeginningsAreOpen, CanAllFollow, CanFollow, FirstTaken, IsFramed, LacksFrame, all_written, frame_written}
+use Rattle.iobufs_frames.specs.Frames.{BadStaysBad, BeginningsAreOpen, CanAllFollow, CanFollow, FirstTaken, IsFramed, LacksFrame, TakesFirst, all_written, frame_written}
 use Rattle.iobufs_frames.proofs.PrefixFacts.{form_of, length-before, length-in_front, length-later, length-sooner, one_front, one_length, too_few}
 use Rattle.iobufs_frames.specs.Prefixes.{HasNoLengthAt, IsLengthAt, IsOpenAt, prefix_written, width_size}
 use Rattle.iobufs_frames.specs.declared.End.{End}
@@ -180,6 +180,27 @@ stays_bad prefix range bytes more (InvalidLength n) h = (length-later prefix byt
 stays_bad prefix range bytes more Memory h = absurd h
 stays_bad prefix range bytes more BadLayout h = absurd h
 stays_bad prefix range bytes more TooLong h = absurd h
+
+-- an error of taking the first frame stays, whatever bytes follow
+pub first_stays : (prefix : Prefix) (range : RangeCfg) (bytes left more : List ℕ) (error : Error) → TakesFirst prefix range bytes (Err error) left
+    → TakesFirst prefix range (bytes ++ more) (Err error) (left ++ more)
+first_stays prefix range bytes left more EndOfBuffer h = absurd h.0
+first_stays prefix range bytes left more InvalidVarint (bad, same, is) =
+    (stays_bad prefix range bytes more InvalidVarint bad, ap (λ w. w ++ more) same, is)
+first_stays prefix range bytes left more (InvalidLength n) (bad, same) =
+    (stays_bad prefix range bytes more (InvalidLength n) bad, ap (λ w. w ++ more) same)
+first_stays prefix range bytes left more Memory (has, same) = (
+  record {
+    body = has.body;
+    more = has.more ++ more;
+    admitted = has.admitted;
+    whole = ap (λ w. w ++ more) has.whole ∙ append_assoc (frame_written prefix has.body) has.more more;
+    some = has.some;
+  },
+  ap (λ w. w ++ more) same,
+)
+first_stays prefix range bytes left more BadLayout h = absurd h.0
+first_stays prefix range bytes left more TooLong h = absurd h.0
 
 -- nothing may go on
 pub nothing_is_open : (prefix : Prefix) (range : RangeCfg) → LacksFrame prefix range [] Open
