@@ -12,7 +12,7 @@ use Rattle.iobufs_core.specs.declared.codec.base.Error.TheVariants.{EndOfBuffer,
 use Rattle.iobufs_core.specs.declared.codec.base.RangeCfg.{RangeCfg}
 use Rattle.iobufs.proofs.Joined.{bytes-append}
 use Rattle.iobufs_frames.proofs.FrameFacts.{first_is, first_stays, none_in_front, nothing_is_open, one_end, one_more, stands, stays_bad, written-push}
-use Rattle.iobufs_frames.specs.Frames.{AreSameFrames, AreMoved, BeginsWithBytes, CanAllFollow, CanFollow, FirstIsRead, FirstIsTaken, HasBodyBytes, HasFrame, HasFrames, HaveOneReading, IsFramed, LacksFrame, TakesFirst, all_written, bodies, frame_written}
+use Rattle.iobufs_frames.specs.Frames.{AreSameFrames, AreMoved, BeginsWithBytes, CanAllFollow, FirstIsRead, FirstIsTaken, HasBodyBytes, HasFrame, HasFrames, HaveOneReading, IsFramed, LacksFrame, TakesFirst, all_written, bodies, frame_written}
 use Rattle.iobufs_frames.proofs.PrefixFacts.{form_of, may_be_open, one_front, some_length}
 use Rattle.iobufs_frames.specs.Prefixes.{HasNoLengthAt, IsLengthAt, prefix_limit, prefix_written}
 use Rattle.iobufs_frames.specs.declared.End.{End}
