@@ -47,17 +47,13 @@ impl Decoder for FrameCodec {
     ghost gives = { gives_frames };
 
     fn decode(&mut self, src: &mut BytesMut) -> Result<Option<IoBuf>, FrameError> {
-        match self.take(src) {
-            Ok(found) => Ok(found),
-            Err(error) => Err(FrameError::Frame(error)),
-        }
+        Ok(self.take(src)?)
     }
 
     fn decode_eof(&mut self, src: &mut BytesMut) -> Result<Option<IoBuf>, FrameError> {
-        match self.take(src) {
-            Ok(None) if !src.is_empty() => Err(FrameError::Cut),
-            Ok(found) => Ok(found),
-            Err(error) => Err(FrameError::Frame(error)),
+        match self.take(src)? {
+            None if !src.is_empty() => Err(FrameError::Cut),
+            found => Ok(found),
         }
     }
 

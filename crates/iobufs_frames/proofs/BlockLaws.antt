@@ -14,7 +14,8 @@ use Rattle.iobufs_frames.specs.declared.lengths.Prefix.{Prefix}
 
 -- a length that was decoded stays at the front whatever follows
 pub seen_later : (prefix : Prefix) (bytes more : List ℕ) (n k : ℕ) → IsSeenAt prefix bytes n k → IsSeenAt prefix (bytes ++ more) n k
-seen_later prefix bytes more n k (at, long, within) = (length-later prefix bytes more n at, long, omega (arith, within, length-append bytes more))
+seen_later prefix bytes more n k (at, long, within) =
+    (length-later prefix bytes more n at, long, omega (arith, within, length-append bytes more))
 
 -- bytes that begin with others are these and the rest
 pub grown : (old new : List ℕ) → take (length old) new ≡ old → new ≡ old ++ drop (length old) new
@@ -22,7 +23,8 @@ grown old new front = sym (take-append-drop (length old) new) ∙ ap (λ w. w ++
 
 -- it stays where a read appends bytes, or fails
 pub seen_read : {E : Type 0} (prefix : Prefix) (old new : Filled) (n k : ℕ) (P : List ℕ → Type 0) (Q : Type 0) (result : Result ℕ E)
-    → IfOk result (λ count. (more : List ℕ) × (length more ≡ count) × (new.items ≡ old.items ++ more) × P more) → OnErr result ((new ≡ old) × Q)
+    → IfOk result (λ count. (more : List ℕ) × (length more ≡ count) × (new.items ≡ old.items ++ more) × P more)
+    → OnErr result ((new ≡ old) × Q)
     → IsSeenAt prefix old.items n k → IsSeenAt prefix new.items n k
 seen_read prefix old new n k P Q (Ok count) (more, long, grew, rest) failed seen =
     subst (λ (w : List ℕ). IsSeenAt prefix w n k) (sym grew) (seen_later prefix old.items more n k seen)
@@ -36,7 +38,8 @@ seen_open prefix range bytes n k (at, long, within) inside few = inr (n, (at, in
 -- the body after a length that was decoded is a frame's, and what is after it is left
 pub front_taken : (prefix : Prefix) (range : RangeCfg) (bytes : List ℕ) (n k : ℕ) → IsSeenAt prefix bytes n k → in_range range n ≡ true
     → k + n ≤ length bytes
-    → CanFollow prefix range (drop k (take (k + n) bytes)) × (bytes ≡ frame_written prefix (drop k (take (k + n) bytes)) ++ drop (k + n) bytes)
+    → CanFollow prefix range (drop k (take (k + n) bytes))
+    × (bytes ≡ frame_written prefix (drop k (take (k + n) bytes)) ++ drop (k + n) bytes)
 front_taken prefix range bytes n k (at, long, within) inside fits =
     let front = take (k + n) bytes in
     let body = drop k front in
@@ -66,7 +69,8 @@ front_some prefix range bytes n k seen inside fits some =
 
 -- the view that a frame is taken as has the bytes of its body
 pub view_taken : (prefix : Prefix) (range : RangeCfg) (bytes left : List ℕ) (n k size : ℕ) (body : View) → IsSeenAt prefix bytes n k
-    → in_range range n ≡ true → size ≡ k + n → size ≤ length bytes → body ≡ view_of_bytes (drop k (take size bytes)) → left ≡ drop size bytes
+    → in_range range n ≡ true → size ≡ k + n → size ≤ length bytes → body ≡ view_of_bytes (drop k (take size bytes))
+    → left ≡ drop size bytes
     → CanFollow prefix range body.bytes × (bytes ≡ frame_written prefix body.bytes ++ left)
 view_taken prefix range bytes left n k size body seen inside is within made rest =
     let taken = front_taken prefix range bytes n k seen inside (omega (arith, is, within)) in

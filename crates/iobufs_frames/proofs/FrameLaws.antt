@@ -36,15 +36,20 @@ framed_once prefix range text [] [] a b x y e p h e' q h' =
       same_rest = same;
     }
 framed_once prefix range text [] (g ∷ gs) a b x y e p h e' q h' =
-    let front : x ≡ frame_written prefix g ++ (all_written prefix gs ++ y) = sym e ∙ e' ∙ append_assoc (frame_written prefix g) (all_written prefix gs) y in
+    let front : x ≡ frame_written prefix g ++ (all_written prefix gs ++ y) = sym e ∙ e'
+    ∙ append_assoc (frame_written prefix g) (all_written prefix gs) y in
     absurd (stands prefix range g (all_written prefix gs ++ y) a q.0 (subst (λ (xs : List ℕ). LacksFrame prefix range xs a) front h))
 framed_once prefix range text (f ∷ fs) [] a b x y e p h e' q h' =
-    let front : y ≡ frame_written prefix f ++ (all_written prefix fs ++ x) = sym e' ∙ e ∙ append_assoc (frame_written prefix f) (all_written prefix fs) x in
+    let front : y ≡ frame_written prefix f ++ (all_written prefix fs ++ x) = sym e' ∙ e
+    ∙ append_assoc (frame_written prefix f) (all_written prefix fs) x in
     absurd (stands prefix range f (all_written prefix fs ++ x) b p.0 (subst (λ (xs : List ℕ). LacksFrame prefix range xs b) front h'))
 framed_once prefix range text (f ∷ fs) (g ∷ gs) a b x y e (fits, p) h e' (fits', q) h' =
-    let left : text ≡ frame_written prefix f ++ (all_written prefix fs ++ x) = e ∙ append_assoc (frame_written prefix f) (all_written prefix fs) x in
-    let right : text ≡ frame_written prefix g ++ (all_written prefix gs ++ y) = e' ∙ append_assoc (frame_written prefix g) (all_written prefix gs) y in
-    let (first, behind) = one_front prefix f g (all_written prefix fs ++ x) (all_written prefix gs ++ y) fits.small fits'.small (sym left ∙ right) in
+    let left : text ≡ frame_written prefix f ++ (all_written prefix fs ++ x) = e
+    ∙ append_assoc (frame_written prefix f) (all_written prefix fs) x in
+    let right : text ≡ frame_written prefix g ++ (all_written prefix gs ++ y) = e'
+    ∙ append_assoc (frame_written prefix g) (all_written prefix gs) y in
+    let (first, behind) = one_front prefix f g (all_written prefix fs ++ x) (all_written prefix gs ++ y) fits.small fits'.small
+    (sym left ∙ right) in
     let others = framed_once prefix range (all_written prefix fs ++ x) fs gs a b x y refl p h behind q h' in record {
       same_frames = ap (λ body. body ∷ fs) first ∙ ap (λ more. g ∷ more) others.same_frames;
       same_end = others.same_end;
@@ -69,7 +74,8 @@ prefix_long (Fixed U24 order) n small = omega (arith, (form_of U24 order).long n
 prefix_long (Fixed U32 order) n small = omega (arith, (form_of U32 order).long n)
 prefix_long (Fixed U64 order) n small = omega (arith, (form_of U64 order).long n)
 
-shorter : (prefix : Prefix) (body old new : List ℕ) → length body < prefix_limit prefix → old ≡ frame_written prefix body ++ new → length new < length old
+shorter : (prefix : Prefix) (body old new : List ℕ) → length body < prefix_limit prefix → old ≡ frame_written prefix body ++ new
+    → length new < length old
 shorter prefix body old new small e =
     let some = prefix_long prefix (length body) small in
     omega (
@@ -89,7 +95,8 @@ none_in prefix range text none = elim (may_be_open prefix text) [
 ]
 
 -- a frame is at the front, or there is a reason that none is
-front_by : (prefix : Prefix) (range : RangeCfg) (text : List ℕ) (n : ℕ) (inside : Bool) → IsLengthAt prefix text n → in_range range n ≡ inside
+front_by : (prefix : Prefix) (range : RangeCfg) (text : List ℕ) (n : ℕ) (inside : Bool) → IsLengthAt prefix text n
+    → in_range range n ≡ inside
     → HasFrame prefix range text ⊎ ((end : End) × LacksFrame prefix range text end)
 front_by prefix range text n false at is = inr (Bad (InvalidLength n), (at, is))
 front_by prefix range text n true at is = elim (less (length text) (length (prefix_written prefix n) + n)) [
@@ -146,7 +153,8 @@ framed prefix range text = framed_within prefix range (suc (length text)) text (
 
 -- ---- one frame taken
 
-first_wanted : (prefix : Prefix) (range : RangeCfg) (old : List ℕ) (end : End) (frames : List (List ℕ)) (rest : List ℕ) → HasBodyBytes prefix range old
+first_wanted : (prefix : Prefix) (range : RangeCfg) (old : List ℕ) (end : End) (frames : List (List ℕ)) (rest : List ℕ)
+    → HasBodyBytes prefix range old
     → IsFramed prefix range old frames end rest → BeginsWithBytes frames
 first_wanted prefix range old end frames rest has is =
     let taken = first_is prefix range old has.more has.body end frames rest has.admitted has.whole is in
@@ -154,10 +162,12 @@ first_wanted prefix range old end frames rest has is =
 
 -- the next frame of a text is the first of its frames and leaves the others; where there is none, the answer is by the end
 pub first_of_next : (prefix : Prefix) → FirstIsTaken prefix
-first_of_next prefix range old new (Ok (Some view)) h frames end rest is = first_is prefix range old new view.bytes end frames rest h.0 h.1 is
+first_of_next prefix range old new (Ok (Some view)) h frames end rest is =
+    first_is prefix range old new view.bytes end frames rest h.0 h.1 is
 first_of_next prefix range old new (Ok None) h frames end rest is = none_in_front prefix range old end Open frames rest h.0 is
 first_of_next prefix range old new (Err EndOfBuffer) h frames end rest is = absurd h.0
-first_of_next prefix range old new (Err InvalidVarint) h frames end rest is = none_in_front prefix range old end (Bad InvalidVarint) frames rest h.0 is
+first_of_next prefix range old new (Err InvalidVarint) h frames end rest is =
+    none_in_front prefix range old end (Bad InvalidVarint) frames rest h.0 is
 first_of_next prefix range old new (Err (InvalidLength n)) h frames end rest is =
     none_in_front prefix range old end (Bad (InvalidLength n)) frames rest h.0 is
 first_of_next prefix range old new (Err Memory) h frames end rest is = first_wanted prefix range old end frames rest h.0 is
@@ -165,7 +175,8 @@ first_of_next prefix range old new (Err BadLayout) h frames end rest is = absurd
 first_of_next prefix range old new (Err TooLong) h frames end rest is = absurd h.0
 
 -- an error leaves all bytes
-error_leaves : (prefix : Prefix) (range : RangeCfg) (bytes left : List ℕ) (error : Error) → TakesFirst prefix range bytes (Err error) left → left ≡ bytes
+error_leaves : (prefix : Prefix) (range : RangeCfg) (bytes left : List ℕ) (error : Error) → TakesFirst prefix range bytes (Err error) left
+    → left ≡ bytes
 error_leaves prefix range bytes left EndOfBuffer h = h.1
 error_leaves prefix range bytes left InvalidVarint h = h.1
 error_leaves prefix range bytes left (InvalidLength n) h = h.1
@@ -197,7 +208,8 @@ first_of_read prefix range bytes left more (Err Cut) ((open_front, same), some, 
 first_of_read prefix range bytes left more (Err (Frame error)) h frames end rest is =
     let later = first_stays prefix range bytes left more error h in (
       first_of_next prefix range (bytes ++ more) (left ++ more) (Err error) later frames end rest is,
-      subst (λ (w : List ℕ). IsFramed prefix range w frames end rest) (sym (error_leaves prefix range (bytes ++ more) (left ++ more) error later)) is,
+      subst (λ (w : List ℕ). IsFramed prefix range w frames end rest)
+          (sym (error_leaves prefix range (bytes ++ more) (left ++ more) error later)) is,
     )
 first_of_read prefix range bytes left more (Err (Io error)) same frames end rest is =
     subst (λ (w : List ℕ). IsFramed prefix range w frames end rest) (ap (λ w. w ++ more) (sym same)) is
@@ -220,7 +232,8 @@ moved_body prefix range old new body views more (admitted, whole) e =
     let written : all_written prefix (bodies more) ≡ all_written prefix (bodies views) ++ frame_written prefix body.bytes =
     ap (all_written prefix) listed ∙ written-push prefix (bodies views) body.bytes in (
       (
-        ap (λ xs. all_written prefix (bodies views) ++ xs) whole ∙ sym (append_assoc (all_written prefix (bodies views)) (frame_written prefix body.bytes) new)
+        ap (λ xs. all_written prefix (bodies views) ++ xs) whole
+            ∙ sym (append_assoc (all_written prefix (bodies views)) (frame_written prefix body.bytes) new)
             ∙ ap (λ xs. xs ++ new) (sym written),
         λ fine. subst (CanAllFollow prefix range) (sym listed) (one_more prefix range (bodies views) body.bytes admitted fine),
       ),
@@ -228,7 +241,8 @@ moved_body prefix range old new body views more (admitted, whole) e =
     )
 
 -- a frame that is taken from the front of a text follows those that went before it, and the text is shorter
-pub moved_one : (prefix : Prefix) (range : RangeCfg) (old new : List ℕ) (body : View) (found : Option View) (views more : List View) → found ≡ Some body
+pub moved_one : (prefix : Prefix) (range : RangeCfg) (old new : List ℕ) (body : View) (found : Option View) (views more : List View)
+    → found ≡ Some body
     → TakesFirst prefix range old (Ok found) new → more ≡ views ++ body ∷ []
     → AreMoved prefix range (bodies views) old (bodies more) new × (length new < length old)
 moved_one prefix range old new body found views more is h e =
@@ -257,7 +271,8 @@ pub fed_bad : (prefix : Prefix) (range : RangeCfg) (text piece rest new : List �
     → new ≡ rest ++ piece → IsFramed prefix range (text ++ piece) frames end new
 fed_bad prefix range text piece rest new frames end error is bad e =
     record {
-      whole = ap (λ xs. xs ++ piece) is.whole ∙ append_assoc (all_written prefix frames) rest piece ∙ ap (λ xs. all_written prefix frames ++ xs) (sym e);
+      whole = ap (λ xs. xs ++ piece) is.whole ∙ append_assoc (all_written prefix frames) rest piece
+          ∙ ap (λ xs. all_written prefix frames ++ xs) (sym e);
       admitted = is.admitted;
       ends =
           subst (λ (xs : List ℕ). LacksFrame prefix range xs end) (sym e)

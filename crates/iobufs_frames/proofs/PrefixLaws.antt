@@ -49,7 +49,8 @@ there-with prefix text n view (small, at) within is =
 
 -- a view that is taken from after its length, in the range, is a frame's body, and leaves what is after it
 pub taken-with : (prefix : Prefix) (range : RangeCfg) (old new : MarkedText) (n k : ℕ) (view : View) → IsLengthAt prefix old.bytes n
-    → in_range range n ≡ true → k ≡ length (prefix_written prefix n) → k + n ≤ text_len old → view ≡ taken_view old k n → new ≡ text_rest old (k + n)
+    → in_range range n ≡ true → k ≡ length (prefix_written prefix n) → k + n ≤ text_len old → view ≡ taken_view old k n
+    → new ≡ text_rest old (k + n)
     → (CanFollow prefix range view.bytes × (old.bytes ≡ frame_written prefix view.bytes ++ new.bytes)) × IsCutFrom prefix old new view
 taken-with prefix range old new n k view at inside size within is left =
     let there = there-with prefix old n view at (omega (arith, size, within)) (is ∙ ap (λ m. taken_view old m n) size) in
@@ -91,5 +92,6 @@ pub copied_length : (prefix : Prefix) (n : ℕ) (src : List ℕ) (result : Resul
     → IfOk result (λ view. view ≡ (if length src == 0 then default_view else record { bytes = src; mark = native_mark (length src) }))
     → IfOk result (λ view. view ≡ prefix_view prefix n)
 copied_length prefix n src (Ok view) is some made =
-    made ∙ ap (λ w. if length w == 0 then default_view else record { bytes = w; mark = native_mark (length w) }) is ∙ grind (arith, nat_tests, common_steps, some)
+    made ∙ ap (λ w. if length w == 0 then default_view else record { bytes = w; mark = native_mark (length w) }) is
+    ∙ grind (arith, nat_tests, common_steps, some)
 copied_length prefix n src (Err error) is some made = tt

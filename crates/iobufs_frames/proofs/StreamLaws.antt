@@ -31,7 +31,8 @@ pub record Waits {R : Type 0} (remaining : R → Option (List ℕ)) (old now : F
   pub prefix : now.held.prefix ≡ old.held.prefix
   pub range : now.range ≡ old.range
 
-first_of_known : (prefix : Prefix) (range : RangeCfg) (had has : Option (List ℕ)) (held read left : List ℕ) (result : Result (Option View) FrameError)
+first_of_known : (prefix : Prefix) (range : RangeCfg) (had has : Option (List ℕ)) (held read left : List ℕ)
+    (result : Result (Option View) FrameError)
     → Consumes had has read → ReadsFirst prefix range (IsAtEnd has) (held ++ read) result left
     → IfSome had (λ text. IfSome has (λ more. (frames : List (List ℕ)) (end : End) (rest : List ℕ)
     → IsFramed prefix range (held ++ text) frames end rest → IsFirstOf prefix range frames end rest result (left ++ more)))
@@ -45,4 +46,5 @@ first_of_known prefix range (Some text) (Some more) held read left result took f
 pub first_of_all : {R : Type 0} (remaining : R → Option (List ℕ)) (old new : FrameReader R) (result : Result (Option View) FrameError)
     → TakesFrame remaining old result new → IsFirstOfAll remaining old result new
 first_of_all remaining old new result is =
-    first_of_known old.held.prefix old.range (remaining old.from) (remaining new.from) old.held.bytes is.read new.held.bytes result is.took is.first
+    first_of_known old.held.prefix old.range (remaining old.from) (remaining new.from) old.held.bytes is.read new.held.bytes
+    result is.took is.first

@@ -17,7 +17,8 @@ body_goes u gone left n is more within none rest =
     let bytes : gone ++ left.bytes ≡ drop n u.bytes =
     ap (λ w. w ++ left.bytes) nothing ∙ ap (λ (t : MarkedText). t.bytes) rest
     ∙ bytes-rest u.body (n - ahead) (omega (arith, within, more, ap (λ (w : List ℕ). length w) is, length-append u.head u.body.bytes))
-    ∙ sym (drop-append-add u.head u.body.bytes (n - ahead)) ∙ ap (λ k. drop k (u.head ++ u.body.bytes)) (omega (arith, more)) ∙ ap (drop n) is in
+    ∙ sym (drop-append-add u.head u.body.bytes (n - ahead)) ∙ ap (λ k. drop k (u.head ++ u.body.bytes)) (omega (arith, more))
+    ∙ ap (drop n) is in
     λ i. record { head = head i; body = rest i; bytes = bytes i }
 
 -- some bytes more went

@@ -133,7 +133,8 @@ abbrev pub TakesFirst : Prefix → RangeCfg → List ℕ → Result (Option View
 TakesFirst prefix range bytes (Ok (Some body)) left = CanFollow prefix range body.bytes × (bytes ≡ frame_written prefix body.bytes ++ left)
 TakesFirst prefix range bytes (Ok None) left = LacksFrame prefix range bytes Open × (left ≡ bytes)
 TakesFirst prefix range bytes (Err Memory) left = HasBodyBytes prefix range bytes × (left ≡ bytes)
-TakesFirst prefix range bytes (Err InvalidVarint) left = LacksFrame prefix range bytes (Bad InvalidVarint) × (left ≡ bytes) × (prefix ≡ Spelled)
+TakesFirst prefix range bytes (Err InvalidVarint) left = LacksFrame prefix range bytes (Bad InvalidVarint) × (left ≡ bytes)
+    × (prefix ≡ Spelled)
 TakesFirst prefix range bytes (Err error) left = LacksFrame prefix range bytes (Bad error) × (left ≡ bytes)
 
 -- one thing of a body that is taken, and another if none is
@@ -173,7 +174,8 @@ IsFirst prefix range frames end rest (Err error) new = (frames ≡ []) × (end �
 
 -- what takes the first frame of some bytes takes the first of their frames
 abbrev pub FirstIsTaken : Prefix → Type 0
-FirstIsTaken prefix = (range : RangeCfg) (bytes left : List ℕ) (result : Result (Option View) Error) → TakesFirst prefix range bytes result left
+FirstIsTaken prefix = (range : RangeCfg) (bytes left : List ℕ) (result : Result (Option View) Error)
+    → TakesFirst prefix range bytes result left
     → (frames : List (List ℕ)) (end : End) (rest : List ℕ) → IsFramed prefix range bytes frames end rest
     → IsFirst prefix range frames end rest result left
 
@@ -196,7 +198,8 @@ FirstIsRead prefix = (range : RangeCfg) (bytes left more : List ℕ) (result : R
 -- frames went over from the front of a text after others
 abbrev pub AreMoved : Prefix → RangeCfg → List (List ℕ) → List ℕ → List (List ℕ) → List ℕ → Type 0
 AreMoved prefix range frames text more rest =
-    (all_written prefix frames ++ text ≡ all_written prefix more ++ rest) × (CanAllFollow prefix range frames → CanAllFollow prefix range more)
+    (all_written prefix frames ++ text ≡ all_written prefix more ++ rest)
+    × (CanAllFollow prefix range frames → CanAllFollow prefix range more)
 
 -- two readings of a text are the same
 pub record AreSameFrames (frames others : List (List ℕ)) (end stop : End) (rest left : List ℕ) : Type 0 where
@@ -208,7 +211,8 @@ pub record AreSameFrames (frames others : List (List ℕ)) (end stop : End) (res
 abbrev pub HaveOneReading : Prefix → Type 0
 HaveOneReading prefix =
     (range : RangeCfg) (text : List ℕ) (frames others : List (List ℕ)) (end stop : End) (rest left : List ℕ)
-    → IsFramed prefix range text frames end rest → IsFramed prefix range text others stop left → AreSameFrames frames others end stop rest left
+    → IsFramed prefix range text frames end rest → IsFramed prefix range text others stop left
+    → AreSameFrames frames others end stop rest left
 
 -- bytes have a list of frames, an end and a rest
 pub record HasFrames (prefix : Prefix) (range : RangeCfg) (text : List ℕ) : Type 0 where
@@ -219,7 +223,8 @@ pub record HasFrames (prefix : Prefix) (range : RangeCfg) (text : List ℕ) : Ty
 
 -- a beginning of a frame is open
 abbrev pub BeginningsAreOpen : Prefix → Type 0
-BeginningsAreOpen prefix = (range : RangeCfg) (body front back : List ℕ) → CanFollow prefix range body → frame_written prefix body ≡ front ++ back
+BeginningsAreOpen prefix = (range : RangeCfg) (body front back : List ℕ) → CanFollow prefix range body
+    → frame_written prefix body ≡ front ++ back
     → 0 < length back → LacksFrame prefix range front Open
 
 -- bad bytes stay bad, whatever follows them

@@ -80,11 +80,13 @@ Fills remaining old (Ok none) new =
     × (none ≡ true → (read ≡ []) × IsAtEnd (remaining new.from)) × (none ≡ false → 0 < length read))
     × (new.held.prefix ≡ old.held.prefix) × (new.range ≡ old.range)
 Fills remaining old (Err error) new =
-    Consumes (remaining old.from) (remaining new.from) [] × (new.held ≡ old.held) × (new.range ≡ old.range) × (error_kind error ≢ Interrupted)
+    Consumes (remaining old.from) (remaining new.from) [] × (new.held ≡ old.held) × (new.range ≡ old.range)
+    × (error_kind error ≢ Interrupted)
 
 -- `put`: a frame was begun, of which nothing is sent; a body that can't be sent is handed back, and all stays
 abbrev pub PutsFrame : {W : Type 0} → FrameWriter W → MarkedText → Result (Unit {0}) (Refused MarkedText) → FrameWriter W → Type 0
-PutsFrame old body (Ok done) new = CanBeSent old.prefix old.range (length body.bytes) × (new ≡ record old { rest = unsent_frame old.prefix body })
+PutsFrame old body (Ok done) new = CanBeSent old.prefix old.range (length body.bytes)
+    × (new ≡ record old { rest = unsent_frame old.prefix body })
 PutsFrame old body (Err refused) new =
     (CanBeSent old.prefix old.range (length body.bytes) → ⊥) × (new ≡ old) × (refused ≡ record { cause = TooLong; value = body })
 

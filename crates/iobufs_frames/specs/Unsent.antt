@@ -30,7 +30,11 @@ unsent_frame prefix body = record {
 
 -- the unsent bytes after the first n of them
 abbrev pub unsent_rest : UnsentBytes → ℕ → UnsentBytes
-unsent_rest unsent n = record { head = drop n unsent.head; body = text_rest unsent.body (n - length unsent.head); bytes = drop n unsent.bytes }
+unsent_rest unsent n = record {
+  head = drop n unsent.head;
+  body = text_rest unsent.body (n - length unsent.head);
+  bytes = drop n unsent.bytes;
+}
 
 -- so after several counts in turn, the last first
 abbrev pub unsent_after : UnsentBytes → List ℕ → UnsentBytes

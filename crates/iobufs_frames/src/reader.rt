@@ -74,20 +74,14 @@ impl<R: Read + Drop> FrameReader<R> {
         ensures { TakesFrame R.remaining self.old result self.new }
     {
         loop {
-            match self.held.next(&self.range) {
-                Ok(Some(body)) => return Ok(Some(body)),
-                Ok(None) => {}
-                Err(error) => return Err(FrameError::Frame(error)),
+            if let Some(body) = self.held.next(&self.range)? {
+                return Ok(Some(body));
             }
             let len = self.held.len();
             if let Err(error) = self.held.make_space() {
                 return Err(FrameError::Io(io::Error::from(error)));
             }
-            let is_end = match self.fill() {
-                Ok(is_end) => is_end,
-                Err(error) => return Err(FrameError::Io(error)),
-            };
-            if is_end {
+            if self.fill()? {
                 return if len == 0 {
                     Ok(None)
                 } else {

@@ -28,6 +28,7 @@ loop-piece-preserved c =
       text = text ++ piece;
       framed = (rw same at c.in_ok-stop.ensures.framed) text c.loop-piece.invariant.framed;
       spelled = (rw same at c.in_ok-stop.ensures.spelled) c.loop-piece.invariant.spelled;
-      whole = append_assoc text piece (joined_bytes c.next.new.self.rest.items) ∙ ap (λ xs. text ++ xs) (sym taken) ∙ c.loop-piece.invariant.whole;
+      whole = append_assoc text piece (joined_bytes c.next.new.self.rest.items) ∙ ap (λ xs. text ++ xs) (sym taken)
+          ∙ c.loop-piece.invariant.whole;
       fewer = omega (arith, ap (λ (views : List View). length views) c.in-Some.ensures.steps.0, c.loop-piece.invariant.fewer);
     }

@@ -11,6 +11,7 @@ returns c =
     let body = c.args.body in
     let n = length body.bytes in
     let (size, head) = rw c.len.ensures.value at c.in-Some.ensures in
-    let view = copied_length prefix n c.as_slice.result.now (Ok c.in-Ok.length) (c.as_slice.ensures ∙ head) (prefix_long prefix n size.small) c.in-Ok.ensures.ok in
+    let view = copied_length prefix n c.as_slice.result.now (Ok c.in-Ok.length) (c.as_slice.ensures ∙ head)
+    (prefix_long prefix n size.small) c.in-Ok.ensures.ok in
     let done = c.in-Ok-prepend.ensures.done ∙ ap (text_prepend body) view in
     (size, done, ap (λ (t : MarkedText). t.bytes) done ∙ bytes-prepend body (prefix_view prefix n))

@@ -14,7 +14,8 @@ returns-in-Ok-clause-next c =
     let same : c.self.inside.block.items ≡ c.args.self.now.bytes = ap (λ (r : ReceivedBytes). r.bytes) c.self.view_is in
     view_taken c.args.self.now.prefix c.args.range.now c.args.self.now.bytes c.take.new.self.bytes l.value l.len c.in-Some-2.size c.in-Ok.body seen
     c.in_ok-size.ensures.inside size (omega (arith, within, c.len.ensures.value, ap (λ (w : List ℕ). length w) same))
-    (c.in-Ok.ensures.body ∙ ap (λ w. view_of_bytes (drop l.len (take c.in-Some-2.size w))) same) (c.in-Ok.ensures.rest ∙ ap (drop c.in-Some-2.size) same)
+    (c.in-Ok.ensures.body ∙ ap (λ w. view_of_bytes (drop l.len (take c.in-Some-2.size w))) same)
+    (c.in-Ok.ensures.rest ∙ ap (drop c.in-Some-2.size) same)
 
 pub returns-in-Err-clause-next : goal.returns-in-Err-clause-next
 returns-in-Err-clause-next c =

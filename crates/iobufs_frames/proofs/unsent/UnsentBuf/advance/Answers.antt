@@ -10,7 +10,13 @@ invariant_of-self-2 c =
     let u = c.self.inside in
     let n = c.args.cnt - c.len-ahead.result in
     let within : n ≤ length u.body.bytes =
-    omega (arith, c.requires, ap (λ (v : UnsentBytes). length v.bytes) c.self.view_is, length-append u.head.filled u.body.bytes, c.len-ahead.ensures.value) in
+    omega (
+      arith,
+      c.requires,
+      ap (λ (v : UnsentBytes). length v.bytes) c.self.view_is,
+      length-append u.head.filled u.body.bytes,
+      c.len-ahead.ensures.value,
+    ) in
     omega (
       arith,
       c.self.invariant,
