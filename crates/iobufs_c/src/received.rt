@@ -175,7 +175,7 @@ pub extern "C" fn iobufs_frames_filled(received: &mut ReceivedAt, n: usize) -> u
 fn next_of(received: &mut Option<Received>, range: &RangeCfg) -> Result<Option<IoBuf>, Error>
     ensures next { TakesFirst (received_or_none received.old).prefix range.now (received_or_none received.old).bytes
         result (received_or_none received.new).bytes }
-    ensures rest { MatchTaken result (λ body. AreBoth (λ had has. (has.prefix ≡ had.prefix) × KeepsSpace had has)
+    ensures left { MatchTaken result (λ body. AreBoth (λ had has. (has.prefix ≡ had.prefix) × KeepsSpace had has)
         received.old received.new × (body ≡ view_of_bytes body.bytes)) (received.new ≡ received.old) }
 {
     match received {

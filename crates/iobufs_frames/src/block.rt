@@ -149,7 +149,7 @@ impl Received {
     #[inline(always)]
     pub fn next(&mut self, range: &RangeCfg) -> Result<Option<IoBuf>, Error>
         ensures next { TakesFirst self.old.prefix range.now self.old.bytes result self.new.bytes }
-        ensures rest { MatchTaken result (λ body. (self.new.prefix ≡ self.old.prefix) × KeepsSpace self.old self.new
+        ensures left { MatchTaken result (λ body. (self.new.prefix ≡ self.old.prefix) × KeepsSpace self.old self.new
             × (body ≡ view_of_bytes body.bytes))
             (self.new ≡ self.old) }
     {

@@ -105,7 +105,7 @@ impl Frames {
     /// the rest is unchanged.
     pub fn next(&mut self, alloc: Global, range: &RangeCfg) -> Result<Option<IoBuf>, Error>
         ensures next { TakesFirst self.old.prefix range.now self.old.rest.bytes result self.new.rest.bytes }
-        ensures rest { MatchTaken result (λ body. (self.new.prefix ≡ self.old.prefix)
+        ensures left { MatchTaken result (λ body. (self.new.prefix ≡ self.old.prefix)
             × IsCutFrom self.old.prefix self.old.rest self.new.rest body) (self.new ≡ self.old) }
     {
         let Some(found) = self.prefix.length_in(&self.rest)? else {

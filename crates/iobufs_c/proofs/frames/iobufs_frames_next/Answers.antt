@@ -4,6 +4,6 @@ pub returns-clause-next : goal.returns-clause-next
 returns-clause-next c = record {
   found = c.next-found.result;
   told = c.tell.ensures.told;
-  next = c.next-found.ensures.next;
-  rest = c.next-found.ensures.rest;
+  next = rw c.get.ensures.value at c.next-found.ensures.next;
+  rest = rw c.get.ensures.value at c.next-found.ensures.left;
 }
