@@ -4,6 +4,7 @@
 #![tactic(auto)]
 
 mod codec;
+mod frames;
 mod lists;
 mod run;
 mod single;

@@ -1,6 +1,6 @@
 // The workloads by their names.
 use crate::run::{CHUNK, Run, RunError, copies, lists, native, pattern, texts};
-use crate::{codec, lists, single, texts, turns};
+use crate::{codec, frames, lists, single, texts, turns};
 use bytes::Bytes;
 use iobufs_core::buf::IoBuf;
 
@@ -44,6 +44,7 @@ fn run_wire(rt: &HostRuntime, name: &str) -> Result<Run, RunError> {
         "decode64_chunks48_take" => codec::decoding(rt, 1024, 64, 48, true),
         "decode16k_chunks1024" => codec::decoding(rt, 16, 16384, 1024, false),
         "decode16k_chunks1024_take" => codec::decoding(rt, 16, 16384, 1024, true),
+        "frames_echo64" => frames::echo(rt, 16384, 64),
         "frames_there_and_back" => codec::there_and_back(rt, false),
         "frames_there_and_back_take" => codec::there_and_back(rt, true),
         _ => run_sized(rt, name),

@@ -4,17 +4,27 @@
 --     received_row        what the memory holds: a receive block, or none
 --     received_or_none    what the handle shows: none reads as one that holds nothing, with varints
 --     AreBoth             a receive block became another one; none stays none
+--     IsTold              the status of taking a frame, the view and the invalid length that are written
+--     TakesFrameOf,       so of frames, and of a receive block: the first frame is taken, and nothing else changes
+--     TakesReceived
 use denote.RattleType.{RattleType}
-use Rattle.std.specs.Prelude.{ℕ, ◌==◌, if◌then◌else◌, Option, Some, None}
+use Rattle.std.specs.Prelude.{◌≡◌, ℕ, ◌==◌, if◌then◌else◌, Option, Some, None, Result, Ok, Err}
 use Rattle.std.specs.contracts.option.Option.{the_row as option_row}
 use Rattle.iobufs_core.specs.MarkedText.{default_text}
-use Rattle.iobufs_frames.specs.Receiving.{ReceivedBytes, none_received}
+use Rattle.iobufs_core.specs.View.{View, view_of_bytes}
+use Rattle.iobufs_core.specs.declared.codec.base.Error.{Error}
+use Rattle.iobufs_core.specs.declared.codec.base.Error.TheVariants as error
+use Rattle.iobufs_core.specs.declared.codec.base.RangeCfg.{RangeCfg}
+use Rattle.iobufs_frames.specs.Frames.{IsCutFrom, MatchTaken, TakesFirst}
+use Rattle.iobufs_frames.specs.Receiving.{KeepsSpace, ReceivedBytes, none_received}
 use Rattle.iobufs_frames.specs.contracts.block.Received.{the_row as of_received}
 use Rattle.iobufs_frames.specs.declared.Frames.{Frames}
 use Rattle.iobufs_frames.specs.declared.lengths.Prefix.{Prefix}
 use Rattle.iobufs_frames.specs.declared.lengths.Prefix.TheVariants.{Spelled, Fixed}
 use Rattle.iobufs_frames.specs.declared.lengths.Width.TheVariants.{U8, U16, U24, U32, U64}
 use Rattle.iobufs_frames.specs.declared.lengths.ByteOrder.TheVariants.{Big, Little}
+use Rattle.iobufs_c.specs.Codes.{code_of, of_error}
+use Rattle.iobufs_c.specs.declared.status.Status.TheVariants.{EndOfBuffer, InvalidLength}
 
 -- nothing was fed, and lengths are varints
 abbrev pub default_frames : Frames
@@ -50,3 +60,25 @@ AreBoth R (Some old) (Some new) = R old new
 AreBoth R (Some old) None = ⊥
 AreBoth R None (Some new) = ⊥
 AreBoth R None None = Unit {0}
+
+-- the status of taking a frame, the view that it is written to, and the length that can't be one
+abbrev pub IsTold : Result (Option View) Error → ℕ → View → View → ℕ → ℕ → Type 0
+IsTold (Ok (Some body)) code out now wrong length = (code ≡ 0) × (now ≡ body) × (length ≡ wrong)
+IsTold (Ok None) code out now wrong length = (code ≡ code_of EndOfBuffer) × (now ≡ out) × (length ≡ wrong)
+IsTold (Err (error.InvalidLength n)) code out now wrong length = (code ≡ code_of InvalidLength) × (now ≡ out) × (length ≡ n)
+IsTold (Err error) code out now wrong length = (code ≡ code_of (of_error error)) × (now ≡ out) × (length ≡ wrong)
+
+-- the first frame is taken from frames; the body is the view after its length, of its piece
+pub record TakesFrameOf (range : RangeCfg) (old new : Frames) (code : ℕ) (out now : View) (wrong length : ℕ) : Type 0 where
+  pub found : Result (Option View) Error
+  pub told : IsTold found code out now wrong length
+  pub next : TakesFirst old.prefix range old.rest.bytes found new.rest.bytes
+  pub rest : MatchTaken found (λ body. (new.prefix ≡ old.prefix) × IsCutFrom old.prefix old.rest new.rest body) (new ≡ old)
+
+-- the first frame is taken from a receive block; the body shares it
+pub record TakesReceived (range : RangeCfg) (old new : Option ReceivedBytes) (code : ℕ) (out now : View) (wrong length : ℕ) : Type 0 where
+  pub found : Result (Option View) Error
+  pub told : IsTold found code out now wrong length
+  pub next : TakesFirst (received_or_none old).prefix range (received_or_none old).bytes found (received_or_none new).bytes
+  pub rest : MatchTaken found (λ body. AreBoth (λ had has. (has.prefix ≡ had.prefix) × KeepsSpace had has) old new
+      × (body ≡ view_of_bytes body.bytes)) (new ≡ old)

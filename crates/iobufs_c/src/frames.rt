@@ -1,21 +1,21 @@
 // Frames at their places.
-ghost use Rattle.std.specs.Prelude.{◌≡◌, ◌⊎◌, ℕ, ◌+◌, ◌≤◌, ◌<◌, ◌^◌, ◌==◌, if◌then◌else◌, ◌++◌, length, drop, nat_le, false, true, Ok, Some, IfNone, IfSome};
+ghost use Rattle.std.specs.Prelude.{◌≡◌, ◌⊎◌, ℕ, ◌+◌, ◌≤◌, ◌<◌, ◌^◌, ◌==◌, if◌then◌else◌, ◌++◌, length, drop, nat_le, false, true, IfNone, IfSome};
 ghost use Rattle.std.specs.Borrow.{sem, Lends, full_share};
 ghost use Rattle.std.specs.Ptr.{lies_at, room_at};
-ghost use Rattle.iobufs_core.specs.MarkedText.{is_single, text_append, text_len, text_rest};
+ghost use Rattle.iobufs_core.specs.MarkedText.{is_single, text_append, text_len};
 ghost use Rattle.iobufs_core.specs.View.{IsFreelyShared, default_view};
-ghost use Rattle.iobufs_frames.specs.Frames.{HasBodyBytes, IsBehindLength, IsNext, LacksFrame, frame_written};
 ghost use Rattle.iobufs_frames.specs.Prefixes.{prefix_limit, prefix_written};
 ghost use Rattle.iobufs_frames.specs.contracts.Frames.{the_row as frames_row};
 ghost use Rattle.iobufs_frames.specs.declared.Frames.{Frames as AllFrames};
-ghost use Rattle.iobufs_c.specs.FrameRows.{default_frames, prefix_from_c};
-ghost use Rattle.iobufs_c.specs.Codes.{IsDoneUnless, IsViewReadCode, code_of};
+ghost use Rattle.iobufs_c.specs.FrameRows.{IsTold, TakesFrameOf, default_frames, prefix_from_c};
+ghost use Rattle.iobufs_c.specs.Codes.{IsDoneUnless, code_of};
 
 use crate::status::{Status, fault, refusal};
 use crate::text::TextAt;
 use crate::view::ViewAt;
+use iobufs_core::buf::IoBuf;
 use iobufs_core::codec::{Error, RangeCfg};
-use iobufs_frames::{ByteOrder, End, Frames, Prefix, Width};
+use iobufs_frames::{ByteOrder, Frames, Prefix, Width};
 use std::alloc::Global;
 use std::marker::{Model, Send};
 use std::mem;
@@ -43,7 +43,8 @@ impl FramesAt {
 
     /// Borrows the frames of the handle.
     pub(crate) fn get(&mut self) -> &mut Frames
-        ensures* writes_back { sem 𝓛 (Lends the_row frames_row self.entry result (λ v. record { at = self.old.at; value = v })) }
+        ensures* writes_back { sem 𝓛 (Lends the_row frames_row self.entry result
+            (λ v. record { at = self.old.at; value = v })) }
         ensures value { result.now ≡ self.old.value }
     {
         unsafe { &mut *(self.at as *mut Frames) }
@@ -99,8 +100,8 @@ pub extern "C" fn iobufs_frames_len(frames: &mut FramesAt) -> usize
     frames.get().rest().len()
 }
 
-/// Clones the bytes that were fed and not taken, in their storage. Returns `Status::Memory` if an allocation fails; then
-/// `out` is unchanged.
+/// Clones the bytes that were fed and not taken, in their storage. Returns `Status::Memory` if an allocation fails;
+/// then `out` is unchanged.
 #[unsafe(no_mangle)]
 pub extern "C" fn iobufs_frames_rest(frames: &mut FramesAt, out: &mut TextAt) -> u8
     ensures same { (frames.new.at ≡ frames.old.at) × (frames.new.value ≡ frames.old.value) }
@@ -108,7 +109,8 @@ pub extern "C" fn iobufs_frames_rest(frames: &mut FramesAt, out: &mut TextAt) ->
     ensures value { out.new.value ≡ (if result == 0 then frames.old.value.rest else out.old.value) }
     ensures memory { IsDoneUnless result Status.Memory }
     ensures free { is_single frames.old.value.rest ≡ true
-        → IsFreelyShared (record { bytes = frames.old.value.rest.bytes; mark = frames.old.value.rest.mark }) → result ≡ 0 }
+        → IsFreelyShared (record { bytes = frames.old.value.rest.bytes; mark = frames.old.value.rest.mark })
+        → result ≡ 0 }
 {
     match frames.get().rest().clone() {
         Ok(text) => {
@@ -119,15 +121,20 @@ pub extern "C" fn iobufs_frames_rest(frames: &mut FramesAt, out: &mut TextAt) ->
     }
 }
 
-/// Feeds a view at the end, and leaves its handle empty. Returns `Status::TooLong` or `Status::Memory` if that fails; then
-/// both are unchanged.
+/// Feeds a view at the end, and leaves its handle empty. Returns `Status::TooLong` or `Status::Memory` if that fails;
+/// then both are unchanged.
 #[unsafe(no_mangle)]
 pub extern "C" fn iobufs_frames_feed(alloc: Global, frames: &mut FramesAt, piece: &mut ViewAt) -> u8
     ensures at { (frames.new.at ≡ frames.old.at) × (piece.new.at ≡ piece.old.at) }
-    ensures frames { frames.new.value ≡ (if result == 0 then record { prefix = frames.old.value.prefix; rest = text_append frames.old.value.rest piece.old.value } else frames.old.value) }
+    ensures frames { frames.new.value
+        ≡ (if result == 0
+        then record { prefix = frames.old.value.prefix; rest = text_append frames.old.value.rest piece.old.value }
+        else frames.old.value) }
     ensures piece { piece.new.value ≡ (if result == 0 then default_view else piece.old.value) }
-    ensures too_long { 2 ^ 64 ≤ text_len frames.old.value.rest + length piece.old.value.bytes → result ≡ code_of Status.TooLong }
-    ensures memory { text_len frames.old.value.rest + length piece.old.value.bytes < 2 ^ 64 → IsDoneUnless result Status.Memory }
+    ensures too_long { 2 ^ 64 ≤ text_len frames.old.value.rest + length piece.old.value.bytes
+        → result ≡ code_of Status.TooLong }
+    ensures memory { text_len frames.old.value.rest + length piece.old.value.bytes < 2 ^ 64
+        → IsDoneUnless result Status.Memory }
     ensures nothing { length piece.old.value.bytes ≡ 0 → result ≡ 0 }
     ensures onto_nothing { length frames.old.value.rest.bytes ≡ 0 → result ≡ 0 }
 {
@@ -160,14 +167,16 @@ pub(crate) fn prefix_of(kind: u8) -> Option<Prefix>
     }
 }
 
-/// Says how the lengths before the frames are written, from the next frame on. `Status::BadKind` if the kind is unknown.
+/// Says how the lengths before the frames are written, from the next frame on. `Status::BadKind` if the kind is
+/// unknown.
 #[unsafe(no_mangle)]
 pub extern "C" fn iobufs_frames_set_prefix(frames: &mut FramesAt, kind: u8) -> u8
     ensures at { frames.new.at ≡ frames.old.at }
     ensures rest { frames.new.value.rest ≡ frames.old.value.rest }
     ensures status { (result ≡ 0) ⊎ (result ≡ code_of Status.BadKind) }
     ensures known { IfSome (prefix_from_c kind) (λ prefix. (result ≡ 0) × (frames.new.value.prefix ≡ prefix)) }
-    ensures unknown { IfNone (prefix_from_c kind) ((result ≡ code_of Status.BadKind) × (frames.new.value ≡ frames.old.value)) }
+    ensures unknown { IfNone (prefix_from_c kind) ((result ≡ code_of Status.BadKind)
+        × (frames.new.value ≡ frames.old.value)) }
 {
     let Some(prefix) = prefix_of(kind) else {
         return Status::BadKind.code();
@@ -177,14 +186,16 @@ pub extern "C" fn iobufs_frames_set_prefix(frames: &mut FramesAt, kind: u8) -> u
 }
 
 /// Encodes a length as a prefix does, to be sent before a body, and writes how many bytes it has: at most ten. Returns
-/// `Status::BadKind` if the prefix is unknown, `Status::TooLong` if the length can't be written so, `Status::OutOfRange` if
-/// it doesn't fit into `out`. Unless it is done, nothing is written.
+/// `Status::BadKind` if the prefix is unknown, `Status::TooLong` if the length can't be written so,
+/// `Status::OutOfRange` if it doesn't fit into `out`. Unless it is done, nothing is written.
 #[unsafe(no_mangle)]
 pub extern "C" fn iobufs_frames_head(prefix: u8, n: usize, out: &mut [u8], len: &mut usize) -> u8
     ensures unknown { IfNone (prefix_from_c prefix) (result ≡ code_of Status.BadKind) }
-    ensures too_long { IfSome (prefix_from_c prefix) (λ known. prefix_limit known ≤ n → result ≡ code_of Status.TooLong) }
+    ensures too_long { IfSome (prefix_from_c prefix) (λ known. prefix_limit known ≤ n
+        → result ≡ code_of Status.TooLong) }
     ensures known { IfSome (prefix_from_c prefix) (λ known. n < prefix_limit known
-        → result ≡ (if nat_le (length (prefix_written known n)) (length out.old) then 0 else code_of Status.OutOfRange)) }
+        → result ≡ (if nat_le (length (prefix_written known n))
+        (length out.old) then 0 else code_of Status.OutOfRange)) }
     ensures written { result ≡ 0 → IfSome (prefix_from_c prefix) (λ known. (len.new ≡ length (prefix_written known n))
         × (out.new ≡ prefix_written known n ++ drop (length (prefix_written known n)) out.old)) }
     ensures unchanged { (result == 0) ≡ false → (out.new ≡ out.old) × (len.new ≡ len.old) }
@@ -204,6 +215,25 @@ pub extern "C" fn iobufs_frames_head(prefix: u8, n: usize, out: &mut [u8], len: 
     Status::Done.code()
 }
 
+// Writes what taking a frame gave, and returns its status.
+pub(crate) fn tell(found: Result<Option<IoBuf>, Error>, out: &mut ViewAt, wrong: &mut usize) -> u8
+    ensures at { out.new.at ≡ out.old.at }
+    ensures told { IsTold found result out.old.value out.new.value wrong.old wrong.new }
+{
+    match found {
+        Ok(Some(view)) => {
+            *out.get() = view;
+            Status::Done.code()
+        }
+        Ok(None) => Status::EndOfBuffer.code(),
+        Err(Error::InvalidLength(n)) => {
+            *wrong = n;
+            Status::InvalidLength.code()
+        }
+        Err(error) => fault(error),
+    }
+}
+
 /// Takes the first frame, whose length is from `lo` to `hi`. Returns `Status::EndOfBuffer` if it is not whole yet,
 /// `Status::InvalidVarint` or `Status::InvalidLength` if no further bytes can make it whole, or `Status::Memory`; an
 /// invalid length is written to `wrong`. Unless a frame is taken, both handles are unchanged.
@@ -217,33 +247,10 @@ pub extern "C" fn iobufs_frames_next(
     wrong: &mut usize,
 ) -> u8
     ensures at { (frames.new.at ≡ frames.old.at) × (out.new.at ≡ out.old.at) }
-    ensures prefix { frames.new.value.prefix ≡ frames.old.value.prefix }
-    ensures taken { result ≡ 0 → IsNext frames.old.value.prefix (record { lo = lo; hi = hi }) frames.old.value.rest.bytes (Ok (Some out.new.value))
-        frames.new.value.rest.bytes }
-    ensures left { result ≡ 0 → frames.new.value.rest
-        ≡ text_rest frames.old.value.rest (length (frame_written frames.old.value.prefix out.new.value.bytes)) }
-    ensures body { result ≡ 0 → IsBehindLength frames.old.value.prefix frames.old.value.rest out.new.value }
-    ensures unchanged { (result == 0) ≡ false → (frames.new.value ≡ frames.old.value) × (out.new.value ≡ out.old.value) }
-    ensures open { result ≡ code_of Status.EndOfBuffer → LacksFrame frames.old.value.prefix (record { lo = lo; hi = hi }) frames.old.value.rest.bytes End.Open }
-    ensures invalid { result ≡ code_of Status.InvalidVarint
-        → LacksFrame frames.old.value.prefix (record { lo = lo; hi = hi }) frames.old.value.rest.bytes (End.Bad Error.InvalidVarint) }
-    ensures outside { result ≡ code_of Status.InvalidLength
-        → LacksFrame frames.old.value.prefix (record { lo = lo; hi = hi }) frames.old.value.rest.bytes (End.Bad (Error.InvalidLength wrong.new)) }
-    ensures wrong { (result == code_of Status.InvalidLength) ≡ false → wrong.new ≡ wrong.old }
-    ensures memory { result ≡ code_of Status.Memory → HasBodyBytes frames.old.value.prefix (record { lo = lo; hi = hi }) frames.old.value.rest.bytes }
-    ensures causes { IsViewReadCode result }
+    ensures next { TakesFrameOf
+        (record { lo = lo; hi = hi }) frames.old.value frames.new.value
+        result out.old.value out.new.value wrong.old wrong.new }
 {
-    let range = RangeCfg { lo, hi };
-    match frames.get().next(alloc, &range) {
-        Ok(Some(view)) => {
-            *out.get() = view;
-            Status::Done.code()
-        }
-        Ok(None) => Status::EndOfBuffer.code(),
-        Err(Error::InvalidLength(n)) => {
-            *wrong = n;
-            Status::InvalidLength.code()
-        }
-        Err(error) => fault(error),
-    }
+    let found = frames.get().next(alloc, &RangeCfg { lo, hi });
+    tell(found, out, wrong)
 }

@@ -1,19 +1,20 @@
 // Receive blocks at their places.
-ghost use Rattle.std.specs.Prelude.{◌≡◌, ◌⊎◌, ◌≤◌, ◌<◌, ◌==◌, if◌then◌else◌, length, nat_le, Option, Some, None, Ok, false, IfNone, IfSome};
+ghost use Rattle.std.specs.Prelude.{◌≡◌, ◌⊎◌, ◌≤◌, ◌<◌, ◌==◌, if◌then◌else◌, length, nat_le, Option, Some, None, false, IfNone, IfSome};
 ghost use Rattle.std.specs.Borrow.{sem, Lends, full_share};
 ghost use Rattle.std.specs.Ptr.{lies_at, room_at};
 ghost use Rattle.iobufs_core.specs.View.{view_of_bytes};
-ghost use Rattle.iobufs_frames.specs.Frames.{HasBodyBytes, IsNext, LacksFrame};
+ghost use Rattle.iobufs_frames.specs.Frames.{MatchTaken, TakesFirst};
 ghost use Rattle.iobufs_frames.specs.Receiving.{HasReceived, KeepsSpace, ReceivedBytes, none_received};
-ghost use Rattle.iobufs_c.specs.Codes.{IsDoneUnless, IsViewReadCode, code_of};
-ghost use Rattle.iobufs_c.specs.FrameRows.{AreBoth, prefix_from_c, received_or_none, received_row};
+ghost use Rattle.iobufs_c.specs.Codes.{IsDoneUnless, code_of};
+ghost use Rattle.iobufs_c.specs.FrameRows.{AreBoth, TakesReceived, prefix_from_c, received_or_none, received_row};
 
-use crate::frames::prefix_of;
+use crate::frames::{prefix_of, tell};
 use crate::part::fits;
-use crate::status::{Status, fault};
+use crate::status::Status;
 use crate::view::ViewAt;
+use iobufs_core::buf::IoBuf;
 use iobufs_core::codec::{Error, RangeCfg};
-use iobufs_frames::{End, Received};
+use iobufs_frames::Received;
 use std::alloc::Global;
 use std::marker::{Model, Send};
 use std::mem;
@@ -41,7 +42,8 @@ impl ReceivedAt {
 
     /// Borrows the contents of the handle.
     pub(crate) fn get(&mut self) -> &mut Option<Received>
-        ensures* writes_back { sem 𝓛 (Lends the_row received_row self.entry result (λ v. record { at = self.old.at; value = v })) }
+        ensures* writes_back { sem 𝓛 (Lends the_row received_row self.entry result
+            (λ v. record { at = self.old.at; value = v })) }
         ensures value { result.now ≡ self.old.value }
     {
         unsafe { &mut *(self.at as *mut Option<Received>) }
@@ -94,8 +96,10 @@ pub extern "C" fn iobufs_received_drop(received: &mut ReceivedAt)
 pub extern "C" fn iobufs_received_new(alloc: Global, prefix: u8, out: &mut ReceivedAt) -> u8
     ensures at { out.new.at ≡ out.old.at }
     ensures status { (result ≡ 0) ⊎ (result ≡ code_of Status.BadKind) }
-    ensures known { IfSome (prefix_from_c prefix) (λ known. (result ≡ 0) × (out.new.value ≡ Some (none_received known))) }
-    ensures unknown { IfNone (prefix_from_c prefix) ((result ≡ code_of Status.BadKind) × (out.new.value ≡ out.old.value)) }
+    ensures known { IfSome (prefix_from_c prefix) (λ known. (result ≡ 0)
+        × (out.new.value ≡ Some (none_received known))) }
+    ensures unknown { IfNone (prefix_from_c prefix) ((result ≡ code_of Status.BadKind)
+        × (out.new.value ≡ out.old.value)) }
 {
     let Some(prefix) = prefix_of(prefix) else {
         return Status::BadKind.code();
@@ -116,9 +120,9 @@ pub extern "C" fn iobufs_received_len(received: &mut ReceivedAt) -> usize
     }
 }
 
-/// Makes space for a read, of at least one byte, and writes its address and how many bytes it has. They are zeros, or what
-/// the block held before. Returns `Status::Memory` if an allocation fails, or `Status::Declined` if there is no receive
-/// block; then `n` is unchanged.
+/// Makes space for a read, of at least one byte, and writes its address and how many bytes it has. They are zeros, or
+/// what the block held before. Returns `Status::Memory` if an allocation fails, or `Status::Declined` if there is no
+/// receive block; then `n` is unchanged.
 #[unsafe(no_mangle)]
 pub extern "C" fn iobufs_frames_space(
     received: &mut ReceivedAt,
@@ -126,10 +130,12 @@ pub extern "C" fn iobufs_frames_space(
     n: &mut usize,
 ) -> u8
     ensures at { received.new.at ≡ received.old.at }
-    ensures kept { AreBoth (λ old new. (new.prefix ≡ old.prefix) × (new.bytes ≡ old.bytes)) received.old.value received.new.value }
+    ensures kept { AreBoth (λ old new. (new.prefix ≡ old.prefix)
+        × (new.bytes ≡ old.bytes)) received.old.value received.new.value }
     ensures space { result ≡ 0 → IfSome received.new.value (λ new. (0 < new.space) × (n.new ≡ new.space)) }
     ensures unchanged { (result == 0) ≡ false → n.new ≡ n.old }
-    ensures failed { AreBoth (λ old new. (result == 0) ≡ false → old.space ≤ new.space) received.old.value received.new.value }
+    ensures failed { AreBoth (λ old new. (result == 0) ≡ false
+        → old.space ≤ new.space) received.old.value received.new.value }
     ensures none { received.old.value ≡ None → result ≡ code_of Status.Declined }
     ensures memory { (old : ReceivedBytes) → received.old.value ≡ Some old → IsDoneUnless result Status.Memory }
 {
@@ -145,14 +151,15 @@ pub extern "C" fn iobufs_frames_space(
     }
 }
 
-/// Counts the first `n` bytes of the space as received. Returns `Status::OutOfRange` if the space has fewer; then all is
-/// unchanged.
+/// Counts the first `n` bytes of the space as received. Returns `Status::OutOfRange` if the space has fewer; then all
+/// is unchanged.
 #[unsafe(no_mangle)]
 pub extern "C" fn iobufs_frames_filled(received: &mut ReceivedAt, n: usize) -> u8
     ensures at { received.new.at ≡ received.old.at }
     ensures came { result ≡ 0 → AreBoth (HasReceived n) received.old.value received.new.value }
     ensures unchanged { (result == 0) ≡ false → received.new.value ≡ received.old.value }
-    ensures result { result ≡ (if nat_le n (received_or_none received.old.value).space then 0 else code_of Status.OutOfRange) }
+    ensures result { result
+        ≡ (if nat_le n (received_or_none received.old.value).space then 0 else code_of Status.OutOfRange) }
 {
     let Some(received) = received.get() else {
         return fits(n, 0);
@@ -164,9 +171,22 @@ pub extern "C" fn iobufs_frames_filled(received: &mut ReceivedAt, n: usize) -> u
     Status::Done.code()
 }
 
+// Takes the first frame, if there is a receive block.
+fn next_of(received: &mut Option<Received>, range: &RangeCfg) -> Result<Option<IoBuf>, Error>
+    ensures next { TakesFirst (received_or_none received.old).prefix range.now (received_or_none received.old).bytes
+        result (received_or_none received.new).bytes }
+    ensures left { MatchTaken result (λ body. AreBoth (λ had has. (has.prefix ≡ had.prefix) × KeepsSpace had has)
+        received.old received.new × (body ≡ view_of_bytes body.bytes)) (received.new ≡ received.old) }
+{
+    match received {
+        Some(received) => received.next(range),
+        None => Ok(None),
+    }
+}
+
 /// Takes the first frame, whose length is from `lo` to `hi`. Returns `Status::EndOfBuffer` if it is not whole yet,
-/// `Status::InvalidVarint` or `Status::InvalidLength` if no further bytes can make it whole, or `Status::Memory`; an invalid
-/// length is written to `wrong`. Unless a frame is taken, both handles are unchanged. The body isn't copied.
+/// `Status::InvalidVarint` or `Status::InvalidLength` if no further bytes can make it whole, or `Status::Memory`; an
+/// invalid length is written to `wrong`. Unless a frame is taken, both handles are unchanged. The body isn't copied.
 #[unsafe(no_mangle)]
 pub extern "C" fn iobufs_received_next(
     received: &mut ReceivedAt,
@@ -176,37 +196,10 @@ pub extern "C" fn iobufs_received_next(
     wrong: &mut usize,
 ) -> u8
     ensures at { (received.new.at ≡ received.old.at) × (out.new.at ≡ out.old.at) }
-    ensures prefix { AreBoth (λ old new. new.prefix ≡ old.prefix) received.old.value received.new.value }
-    ensures taken { result ≡ 0 → IsNext (received_or_none received.old.value).prefix (record { lo = lo; hi = hi })
-        (received_or_none received.old.value).bytes (Ok (Some out.new.value)) (received_or_none received.new.value).bytes }
-    ensures body { result ≡ 0 → out.new.value ≡ view_of_bytes out.new.value.bytes }
-    ensures space { AreBoth KeepsSpace received.old.value received.new.value }
-    ensures unchanged { (result == 0) ≡ false → (received.new.value ≡ received.old.value) × (out.new.value ≡ out.old.value) }
-    ensures open { result ≡ code_of Status.EndOfBuffer → LacksFrame (received_or_none received.old.value).prefix (record { lo = lo; hi = hi })
-        (received_or_none received.old.value).bytes End.Open }
-    ensures invalid { result ≡ code_of Status.InvalidVarint → LacksFrame (received_or_none received.old.value).prefix (record { lo = lo; hi = hi })
-        (received_or_none received.old.value).bytes (End.Bad Error.InvalidVarint) }
-    ensures outside { result ≡ code_of Status.InvalidLength → LacksFrame (received_or_none received.old.value).prefix (record { lo = lo; hi = hi })
-        (received_or_none received.old.value).bytes (End.Bad (Error.InvalidLength wrong.new)) }
-    ensures wrong { (result == code_of Status.InvalidLength) ≡ false → wrong.new ≡ wrong.old }
-    ensures memory { result ≡ code_of Status.Memory → HasBodyBytes (received_or_none received.old.value).prefix (record { lo = lo; hi = hi })
-        (received_or_none received.old.value).bytes }
-    ensures causes { IsViewReadCode result }
+    ensures next { TakesReceived
+        (record { lo = lo; hi = hi }) received.old.value received.new.value
+        result out.old.value out.new.value wrong.old wrong.new }
 {
-    let Some(received) = received.get() else {
-        return Status::EndOfBuffer.code();
-    };
-    let range = RangeCfg { lo, hi };
-    match received.next(&range) {
-        Ok(Some(view)) => {
-            *out.get() = view;
-            Status::Done.code()
-        }
-        Ok(None) => Status::EndOfBuffer.code(),
-        Err(Error::InvalidLength(n)) => {
-            *wrong = n;
-            Status::InvalidLength.code()
-        }
-        Err(error) => fault(error),
-    }
+    let found = next_of(received.get(), &RangeCfg { lo, hi });
+    tell(found, out, wrong)
 }

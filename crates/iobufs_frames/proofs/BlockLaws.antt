@@ -6,17 +6,16 @@ use Rattle.iobufs_core.specs.Ranges.{in_range}
 use Rattle.iobufs_core.specs.View.{View, view_of_bytes}
 use Rattle.iobufs_core.specs.WireLaws.{view_of_bytes-bytes}
 use Rattle.iobufs_core.specs.declared.codec.base.RangeCfg.{RangeCfg}
-use Rattle.iobufs_frames.proofs.FrameFacts.{stands}
 use Rattle.iobufs_frames.proofs.PrefixFacts.{length-later}
-use Rattle.iobufs_frames.specs.Frames.{CanFollow, HasBodyBytes, HasFrame, LacksFrame, frame_written}
+use Rattle.iobufs_frames.specs.Frames.{CanFollow, HasBodyBytes, LacksFrame, frame_written}
 use Rattle.iobufs_frames.specs.Prefixes.{IsSeenAt, prefix_limit, prefix_written}
-use Rattle.iobufs_frames.specs.declared.End.{End}
 use Rattle.iobufs_frames.specs.declared.End.TheVariants.{Open}
 use Rattle.iobufs_frames.specs.declared.lengths.Prefix.{Prefix}
 
 -- a length that was decoded stays at the front whatever follows
 pub seen_later : (prefix : Prefix) (bytes more : List ℕ) (n k : ℕ) → IsSeenAt prefix bytes n k → IsSeenAt prefix (bytes ++ more) n k
-seen_later prefix bytes more n k (at, long, within) = (length-later prefix bytes more n at, long, omega (arith, within, length-append bytes more))
+seen_later prefix bytes more n k (at, long, within) =
+    (length-later prefix bytes more n at, long, omega (arith, within, length-append bytes more))
 
 -- bytes that begin with others are these and the rest
 pub grown : (old new : List ℕ) → take (length old) new ≡ old → new ≡ old ++ drop (length old) new
@@ -24,7 +23,8 @@ grown old new front = sym (take-append-drop (length old) new) ∙ ap (λ w. w ++
 
 -- it stays where a read appends bytes, or fails
 pub seen_read : {E : Type 0} (prefix : Prefix) (old new : Filled) (n k : ℕ) (P : List ℕ → Type 0) (Q : Type 0) (result : Result ℕ E)
-    → IfOk result (λ count. (more : List ℕ) × (length more ≡ count) × (new.items ≡ old.items ++ more) × P more) → OnErr result ((new ≡ old) × Q)
+    → IfOk result (λ count. (more : List ℕ) × (length more ≡ count) × (new.items ≡ old.items ++ more) × P more)
+    → OnErr result ((new ≡ old) × Q)
     → IsSeenAt prefix old.items n k → IsSeenAt prefix new.items n k
 seen_read prefix old new n k P Q (Ok count) (more, long, grew, rest) failed seen =
     subst (λ (w : List ℕ). IsSeenAt prefix w n k) (sym grew) (seen_later prefix old.items more n k seen)
@@ -38,7 +38,8 @@ seen_open prefix range bytes n k (at, long, within) inside few = inr (n, (at, in
 -- the body after a length that was decoded is a frame's, and what is after it is left
 pub front_taken : (prefix : Prefix) (range : RangeCfg) (bytes : List ℕ) (n k : ℕ) → IsSeenAt prefix bytes n k → in_range range n ≡ true
     → k + n ≤ length bytes
-    → CanFollow prefix range (drop k (take (k + n) bytes)) × (bytes ≡ frame_written prefix (drop k (take (k + n) bytes)) ++ drop (k + n) bytes)
+    → CanFollow prefix range (drop k (take (k + n) bytes))
+    × (bytes ≡ frame_written prefix (drop k (take (k + n) bytes)) ++ drop (k + n) bytes)
 front_taken prefix range bytes n k (at, long, within) inside fits =
     let front = take (k + n) bytes in
     let body = drop k front in
@@ -53,13 +54,6 @@ front_taken prefix range bytes n k (at, long, within) inside fits =
       sym (take-append-drop (k + n) bytes) ∙ ap (λ w. w ++ drop (k + n) bytes) (sym whole),
     )
 
--- so a whole frame is at the front
-pub front_whole : (prefix : Prefix) (range : RangeCfg) (bytes : List ℕ) (n k : ℕ) → IsSeenAt prefix bytes n k → in_range range n ≡ true
-    → k + n ≤ length bytes → HasFrame prefix range bytes
-front_whole prefix range bytes n k seen inside fits =
-    let (admitted, whole) = front_taken prefix range bytes n k seen inside fits in
-    record { body = drop k (take (k + n) bytes); more = drop (k + n) bytes; admitted = admitted; whole = whole }
-
 -- one with bytes, if the length isn't 0
 pub front_some : (prefix : Prefix) (range : RangeCfg) (bytes : List ℕ) (n k : ℕ) → IsSeenAt prefix bytes n k → in_range range n ≡ true
     → k + n ≤ length bytes → 0 < n → HasBodyBytes prefix range bytes
@@ -73,14 +67,10 @@ front_some prefix range bytes n k seen inside fits some =
       some = omega (arith, some, length-drop k (take (k + n) bytes), length-take (k + n) bytes, fits);
     }
 
--- bytes that lack a frame have none
-pub lacks_none : (prefix : Prefix) (range : RangeCfg) (bytes : List ℕ) (end : End) → LacksFrame prefix range bytes end → HasFrame prefix range bytes → ⊥
-lacks_none prefix range bytes end lacks has =
-    stands prefix range has.body has.more end has.admitted (subst (λ (w : List ℕ). LacksFrame prefix range w end) has.whole lacks)
-
 -- the view that a frame is taken as has the bytes of its body
 pub view_taken : (prefix : Prefix) (range : RangeCfg) (bytes left : List ℕ) (n k size : ℕ) (body : View) → IsSeenAt prefix bytes n k
-    → in_range range n ≡ true → size ≡ k + n → size ≤ length bytes → body ≡ view_of_bytes (drop k (take size bytes)) → left ≡ drop size bytes
+    → in_range range n ≡ true → size ≡ k + n → size ≤ length bytes → body ≡ view_of_bytes (drop k (take size bytes))
+    → left ≡ drop size bytes
     → CanFollow prefix range body.bytes × (bytes ≡ frame_written prefix body.bytes ++ left)
 view_taken prefix range bytes left n k size body seen inside is within made rest =
     let taken = front_taken prefix range bytes n k seen inside (omega (arith, is, within)) in

@@ -9,7 +9,7 @@
 --     written-append,  frames are written in order, and so is one more, which can follow if its length can
 --     written-push,
 --     one_more
-use Rattle.std.proofs.Common.{◌≡◌, ◌⊎◌, inl, inr, ℕ, ◌+◌, true, false, List, [], ◌∷◌, ◌++◌, length, ap, sym, subst, ◌∙◌, refl, arith, append_assoc, length-append}
+use Rattle.std.proofs.Common.{◌≡◌, ◌⊎◌, inl, inr, ℕ, ◌+◌, true, false, Err, List, [], ◌∷◌, ◌++◌, length, ap, sym, subst, ◌∙◌, refl, arith, append_assoc, length-append}
 use Rattle.std.proofs.lemmas.Bool.{false≢true}
 use Rattle.std.proofs.lemmas.List.{append-nil}
 use Rattle.iobufs_core.proofs.LengthFacts.{begun_open, less, no_length_later, still_closed}
@@ -18,7 +18,7 @@ use Rattle.iobufs_core.specs.Spelled.{none_high}
 use Rattle.iobufs_core.specs.declared.codec.base.Error.{Error}
 use Rattle.iobufs_core.specs.declared.codec.base.Error.TheVariants.{EndOfBuffer, InvalidVarint, InvalidLength, Memory, BadLayout, TooLong}
 use Rattle.iobufs_core.specs.declared.codec.base.RangeCfg.{RangeCfg}
-use Rattle.iobufs_frames.specs.Frames.{BadStaysBad, BeginningsAreOpen, CanAllFollow, CanFollow, FirstTaken, IsFramed, LacksFrame, all_written, frame_written}
+use Rattle.iobufs_frames.specs.Frames.{BadStaysBad, BeginningsAreOpen, CanAllFollow, CanFollow, FirstTaken, IsFramed, LacksFrame, TakesFirst, all_written, frame_written}
 use Rattle.iobufs_frames.proofs.PrefixFacts.{form_of, length-before, length-in_front, length-later, length-sooner, one_front, one_length, too_few}
 use Rattle.iobufs_frames.specs.Prefixes.{HasNoLengthAt, IsLengthAt, IsOpenAt, prefix_written, width_size}
 use Rattle.iobufs_frames.specs.declared.End.{End}
@@ -45,7 +45,8 @@ record IsOut (prefix : Prefix) (range : RangeCfg) (bytes : List ℕ) (error : Er
 IsBad : Prefix → RangeCfg → List ℕ → Error → Type 0
 IsBad prefix range bytes error = IsNone prefix bytes error ⊎ IsOut prefix range bytes error
 
-bad : (prefix : Prefix) (range : RangeCfg) (bytes : List ℕ) (error : Error) → LacksFrame prefix range bytes (Bad error) → IsBad prefix range bytes error
+bad : (prefix : Prefix) (range : RangeCfg) (bytes : List ℕ) (error : Error) → LacksFrame prefix range bytes (Bad error)
+    → IsBad prefix range bytes error
 unfolding IsBad
 bad prefix range bytes EndOfBuffer h = absurd h
 bad prefix range bytes InvalidVarint h = inl (record { told = refl; never = h.0; closed = h.1 })
@@ -55,7 +56,8 @@ bad prefix range bytes BadLayout h = absurd h
 bad prefix range bytes TooLong h = absurd h
 
 -- a length in the range isn't outside it
-in_and_out : (prefix : Prefix) (range : RangeCfg) (bytes : List ℕ) (n : ℕ) (error : Error) → IsLengthAt prefix bytes n → in_range range n ≡ true
+in_and_out : (prefix : Prefix) (range : RangeCfg) (bytes : List ℕ) (n : ℕ) (error : Error) → IsLengthAt prefix bytes n
+    → in_range range n ≡ true
     → IsOut prefix range bytes error → ⊥
 in_and_out prefix range bytes n error at inside out =
     false≢true (sym out.outside ∙ ap (in_range range) (one_length prefix bytes out.n n out.at at) ∙ inside)
@@ -85,7 +87,8 @@ one_bad prefix range bytes a b p q =
     ]
 
 -- no frame is at the front for one reason alone
-pub one_end : (prefix : Prefix) (range : RangeCfg) (bytes : List ℕ) (a b : End) → LacksFrame prefix range bytes a → LacksFrame prefix range bytes b → a ≡ b
+pub one_end : (prefix : Prefix) (range : RangeCfg) (bytes : List ℕ) (a b : End) → LacksFrame prefix range bytes a
+    → LacksFrame prefix range bytes b → a ≡ b
 one_end prefix range bytes Open Open p q = refl
 one_end prefix range bytes Open (Bad b) p q = absurd (open_or_bad prefix range bytes b p q)
 one_end prefix range bytes (Bad a) Open p q = absurd (open_or_bad prefix range bytes a q p)
@@ -125,7 +128,8 @@ none_in_front prefix range old end now (f ∷ fs) rest h is =
     let front : old ≡ frame_written prefix f ++ (all_written prefix fs ++ rest) =
     is.whole ∙ append_assoc (frame_written prefix f) (all_written prefix fs) rest in
     let (admitted, others) = is.admitted in
-    absurd (stands prefix range f (all_written prefix fs ++ rest) now admitted (subst (λ (xs : List ℕ). LacksFrame prefix range xs now) front h))
+    absurd (stands prefix range f (all_written prefix fs ++ rest) now admitted
+    (subst (λ (xs : List ℕ). LacksFrame prefix range xs now) front h))
 
 -- a frame at the front is the first
 pub first_is : (prefix : Prefix) (range : RangeCfg) (old new body : List ℕ) (end : End) (frames : List (List ℕ)) (rest : List ℕ)
@@ -160,7 +164,11 @@ begins_open (Fixed width order) range body front back admitted whole some =
       | inr enough ↦
           let at : IsLengthAt prefix (front ++ back) n =
           subst (λ (xs : List ℕ). IsLengthAt prefix xs n) whole (length-before prefix n body admitted.small) in
-          inr (n, (length-sooner prefix front back n (omega (arith, enough, long)) at, admitted.inside), omega (arith, some, sum, parts, ap length whole))
+          inr (
+            n,
+            (length-sooner prefix front back n (omega (arith, enough, long)) at, admitted.inside),
+            omega (arith, some, sum, parts, ap length whole),
+          )
     ]
 
 -- bad bytes stay bad, whatever follows them
@@ -181,6 +189,28 @@ stays_bad prefix range bytes more Memory h = absurd h
 stays_bad prefix range bytes more BadLayout h = absurd h
 stays_bad prefix range bytes more TooLong h = absurd h
 
+-- an error of taking the first frame stays, whatever bytes follow
+pub first_stays : (prefix : Prefix) (range : RangeCfg) (bytes left more : List ℕ) (error : Error)
+    → TakesFirst prefix range bytes (Err error) left
+    → TakesFirst prefix range (bytes ++ more) (Err error) (left ++ more)
+first_stays prefix range bytes left more EndOfBuffer h = absurd h.0
+first_stays prefix range bytes left more InvalidVarint (bad, same, is) =
+    (stays_bad prefix range bytes more InvalidVarint bad, ap (λ w. w ++ more) same, is)
+first_stays prefix range bytes left more (InvalidLength n) (bad, same) =
+    (stays_bad prefix range bytes more (InvalidLength n) bad, ap (λ w. w ++ more) same)
+first_stays prefix range bytes left more Memory (has, same) = (
+  record {
+    body = has.body;
+    more = has.more ++ more;
+    admitted = has.admitted;
+    whole = ap (λ w. w ++ more) has.whole ∙ append_assoc (frame_written prefix has.body) has.more more;
+    some = has.some;
+  },
+  ap (λ w. w ++ more) same,
+)
+first_stays prefix range bytes left more BadLayout h = absurd h.0
+first_stays prefix range bytes left more TooLong h = absurd h.0
+
 -- nothing may go on
 pub nothing_is_open : (prefix : Prefix) (range : RangeCfg) → LacksFrame prefix range [] Open
 nothing_is_open Spelled range = inl (none_high [] tt, (omega arith, tt))
@@ -193,7 +223,8 @@ nothing_is_open (Fixed U64 order) range = inl (too_few U64 order [] (omega arith
 -- ---- frames in order
 
 -- lists of frames are written in order
-pub written-append : (prefix : Prefix) (fs gs : List (List ℕ)) → all_written prefix (fs ++ gs) ≡ all_written prefix fs ++ all_written prefix gs
+pub written-append : (prefix : Prefix) (fs gs : List (List ℕ))
+    → all_written prefix (fs ++ gs) ≡ all_written prefix fs ++ all_written prefix gs
 written-append prefix [] gs = refl
 written-append prefix (f ∷ fs) gs = ap (λ xs. frame_written prefix f ++ xs) (written-append prefix fs gs)
     ∙ sym (append_assoc (frame_written prefix f) (all_written prefix fs) (all_written prefix gs))
@@ -201,10 +232,12 @@ written-append prefix (f ∷ fs) gs = ap (λ xs. frame_written prefix f ++ xs) (
 -- one more frame is written after the others
 pub written-push : (prefix : Prefix) (fs : List (List ℕ)) (body : List ℕ)
     → all_written prefix (fs ++ body ∷ []) ≡ all_written prefix fs ++ frame_written prefix body
-written-push prefix fs body = written-append prefix fs (body ∷ []) ∙ ap (λ xs. all_written prefix fs ++ xs) (append-nil (frame_written prefix body))
+written-push prefix fs body = written-append prefix fs (body ∷ [])
+    ∙ ap (λ xs. all_written prefix fs ++ xs) (append-nil (frame_written prefix body))
 
 -- one more that can follow
-pub one_more : (prefix : Prefix) (range : RangeCfg) (fs : List (List ℕ)) (body : List ℕ) → CanFollow prefix range body → CanAllFollow prefix range fs
+pub one_more : (prefix : Prefix) (range : RangeCfg) (fs : List (List ℕ)) (body : List ℕ) → CanFollow prefix range body
+    → CanAllFollow prefix range fs
     → CanAllFollow prefix range (fs ++ body ∷ [])
 one_more prefix range [] body fits fine = (fits, tt)
 one_more prefix range (f ∷ fs) body fits fine = (fine.0, one_more prefix range fs body fits fine.1)

@@ -52,12 +52,14 @@ number_back : (width : Width) (order : ByteOrder) (n : ℕ) → n < prefix_limit
 unfolding number_of
 number_back U8 Big n small = omega (arith, small)
 number_back U16 Big n small = from_be_bytes-to_be_bytes_2 n small
-number_back U24 Big n small = ap (λ b. from_be_bytes w32 (b ∷ bytes_high_first 3 n)) (sym (fourth n small)) ∙ from_be_bytes-to_be_bytes_4 n (omega (arith, small))
+number_back U24 Big n small = ap (λ b. from_be_bytes w32 (b ∷ bytes_high_first 3 n)) (sym (fourth n small))
+    ∙ from_be_bytes-to_be_bytes_4 n (omega (arith, small))
 number_back U32 Big n small = from_be_bytes-to_be_bytes_4 n small
 number_back U64 Big n small = from_be_bytes-to_be_bytes_8 n small
 number_back U8 Little n small = omega (arith, small)
 number_back U16 Little n small = from_le_bytes-to_le_bytes_2 n small
-number_back U24 Little n small = ap (λ b. from_le_bytes w32 (bytes_low_first 0 3 n ++ b ∷ [])) (sym (fourth n small)) ∙ from_le_bytes-to_le_bytes_4 n (omega (arith, small))
+number_back U24 Little n small = ap (λ b. from_le_bytes w32 (bytes_low_first 0 3 n ++ b ∷ [])) (sym (fourth n small))
+    ∙ from_le_bytes-to_le_bytes_4 n (omega (arith, small))
 number_back U32 Little n small = from_le_bytes-to_le_bytes_4 n small
 number_back U64 Little n small = from_le_bytes-to_le_bytes_8 n small
 
@@ -88,7 +90,8 @@ length-there prefix bytes n (small, is) =
     omega (arith, length-take k bytes, ap length is)
 
 -- where there are fewer bytes than a number has, none stands
-pub too_few : (width : Width) (order : ByteOrder) (bytes : List ℕ) → length bytes < width_size width → HasNoLengthAt (Fixed width order) bytes
+pub too_few : (width : Width) (order : ByteOrder) (bytes : List ℕ) → length bytes < width_size width
+    → HasNoLengthAt (Fixed width order) bytes
 too_few width order bytes few n at =
     let there = length-there (Fixed width order) bytes n at in
     absurd (omega (arith, few, there, (form_of width order).long n))
@@ -101,7 +104,8 @@ one_length (Fixed width order) bytes m n (small, p) (least, q) =
     form.one m n small least (sym p ∙ ap (λ k. take k bytes) (form.long m ∙ sym (form.long n)) ∙ q)
 
 -- a length that was written is at the front
-pub length-before : (prefix : Prefix) (n : ℕ) (rest : List ℕ) → n < prefix_limit prefix → IsLengthAt prefix (prefix_written prefix n ++ rest) n
+pub length-before : (prefix : Prefix) (n : ℕ) (rest : List ℕ) → n < prefix_limit prefix
+    → IsLengthAt prefix (prefix_written prefix n ++ rest) n
 length-before prefix n rest small = (small, take-append_seam (prefix_written prefix n) rest)
 
 -- a frame begins with the length of its body
@@ -116,9 +120,11 @@ pub one_front : (prefix : Prefix) (a b x y : List ℕ) → length a < prefix_lim
     → frame_written prefix a ++ x ≡ frame_written prefix b ++ y → (a ≡ b) × (x ≡ y)
 one_front prefix a b x y small least e =
     let w = prefix_written prefix in
-    let long : length a ≡ length b = one_length prefix (frame_written prefix a ++ x) (length a) (length b) (length-in_front prefix a x small)
+    let long : length a ≡ length b = one_length prefix (frame_written prefix a ++ x) (length a) (length b)
+    (length-in_front prefix a x small)
     (subst (λ (xs : List ℕ). IsLengthAt prefix xs (length b)) (sym e) (length-in_front prefix b y least)) in
-    let whole : w (length a) ++ (a ++ x) ≡ w (length b) ++ (b ++ y) = sym (append_assoc (w (length a)) a x) ∙ e ∙ append_assoc (w (length b)) b y in
+    let whole : w (length a) ++ (a ++ x) ≡ w (length b) ++ (b ++ y) = sym (append_assoc (w (length a)) a x) ∙ e
+    ∙ append_assoc (w (length b)) b y in
     let tail : a ++ x ≡ b ++ y = append_cancel_left (w (length a)) (a ++ x) (b ++ y) (whole ∙ ap (λ n. w n ++ (b ++ y)) (sym long)) in
     let same : a ≡ b = sym (take-append_seam a x) ∙ ap (take (length a)) tail ∙ ap (λ n. take n (b ++ y)) long ∙ take-append_seam b y in
     (same, append_cancel_left a x y (tail ∙ ap (λ w. w ++ y) (sym same)))
@@ -129,7 +135,8 @@ length-later prefix bytes more n at =
     (at.0, take-append-le (length (prefix_written prefix n)) bytes more (length-there prefix bytes n at) ∙ at.1)
 
 -- a length is there once its bytes are
-pub length-sooner : (prefix : Prefix) (bytes more : List ℕ) (n : ℕ) → length (prefix_written prefix n) ≤ length bytes → IsLengthAt prefix (bytes ++ more) n
+pub length-sooner : (prefix : Prefix) (bytes more : List ℕ) (n : ℕ) → length (prefix_written prefix n) ≤ length bytes
+    → IsLengthAt prefix (bytes ++ more) n
     → IsLengthAt prefix bytes n
 length-sooner prefix bytes more n l at = (at.0, sym (take-append-le (length (prefix_written prefix n)) bytes more l) ∙ at.1)
 

@@ -10,7 +10,7 @@ use Rattle.iobufs_core.specs.ReadBytes.{bytes-taken_view, length-taken_view}
 use Rattle.iobufs_core.specs.View.{View, default_view, native_mark}
 use Rattle.iobufs_core.specs.declared.codec.base.BufError.{BufError}
 use Rattle.iobufs_core.specs.declared.codec.base.RangeCfg.{RangeCfg}
-use Rattle.iobufs_frames.specs.Frames.{CanFollow, HasBodyBytes, IsBehindLength, frame_written}
+use Rattle.iobufs_frames.specs.Frames.{CanFollow, HasBodyBytes, IsCutFrom, frame_written}
 use Rattle.iobufs_frames.specs.Prefixes.{IsLengthAt, prefix_view, prefix_written}
 use Rattle.iobufs_frames.specs.declared.lengths.Prefix.{Prefix}
 
@@ -47,30 +47,26 @@ there-with prefix text n view (small, at) within is =
           ∙ ap (λ m. prefix_written prefix n ++ (body ++ drop m text.bytes)) long ∙ whole);
     }
 
--- a view was taken: it is a frame's body, and what is after it is left
-pub record IsTakenWith (prefix : Prefix) (range : RangeCfg) (old new : MarkedText) (view : View) : Type 0 where
-  pub follows : CanFollow prefix range view.bytes
-  pub whole : old.bytes ≡ frame_written prefix view.bytes ++ new.bytes
-  pub behind : IsBehindLength prefix old view
-  pub left : new ≡ text_rest old (length (frame_written prefix view.bytes))
-
 -- a view that is taken from after its length, in the range, is a frame's body, and leaves what is after it
 pub taken-with : (prefix : Prefix) (range : RangeCfg) (old new : MarkedText) (n k : ℕ) (view : View) → IsLengthAt prefix old.bytes n
-    → in_range range n ≡ true → k ≡ length (prefix_written prefix n) → k + n ≤ text_len old → view ≡ taken_view old k n → new ≡ text_rest old (k + n)
-    → IsTakenWith prefix range old new view
+    → in_range range n ≡ true → k ≡ length (prefix_written prefix n) → k + n ≤ text_len old → view ≡ taken_view old k n
+    → new ≡ text_rest old (k + n)
+    → (CanFollow prefix range view.bytes × (old.bytes ≡ frame_written prefix view.bytes ++ new.bytes)) × IsCutFrom prefix old new view
 taken-with prefix range old new n k view at inside size within is left =
     let there = there-with prefix old n view at (omega (arith, size, within)) (is ∙ ap (λ m. taken_view old m n) size) in
     let behind : new ≡ text_rest old (length (frame_written prefix view.bytes)) =
-    left ∙ ap (text_rest old) (ap (λ m. m + n) size ∙ sym there.sized) in record {
-      follows = record { small = omega (arith, there.long, at.0); inside = ap (in_range range) there.long ∙ inside };
-      whole = there.whole ∙ ap (λ xs. frame_written prefix view.bytes ++ xs)
-          (sym (ap (λ (t : MarkedText). t.bytes) behind ∙ bytes-rest old (length (frame_written prefix view.bytes)) there.within));
-      behind = record {
+    left ∙ ap (text_rest old) (ap (λ m. m + n) size ∙ sym there.sized) in (
+      (
+        record { small = omega (arith, there.long, at.0); inside = ap (in_range range) there.long ∙ inside },
+        there.whole ∙ ap (λ xs. frame_written prefix view.bytes ++ xs)
+            (sym (ap (λ (t : MarkedText). t.bytes) behind ∙ bytes-rest old (length (frame_written prefix view.bytes)) there.within)),
+      ),
+      record {
         fits = there.within;
         is = is ∙ (λ i. taken_view old ((size ∙ ap (λ m. length (prefix_written prefix m)) (sym there.long)) i) (sym there.long i));
-      };
-      left = behind;
-    }
+        left = behind;
+      },
+    )
 
 -- a body that finds no memory has bytes
 pub wanted-with : (prefix : Prefix) (range : RangeCfg) (old : MarkedText) (n k : ℕ) → IsLengthAt prefix old.bytes n
@@ -96,5 +92,6 @@ pub copied_length : (prefix : Prefix) (n : ℕ) (src : List ℕ) (result : Resul
     → IfOk result (λ view. view ≡ (if length src == 0 then default_view else record { bytes = src; mark = native_mark (length src) }))
     → IfOk result (λ view. view ≡ prefix_view prefix n)
 copied_length prefix n src (Ok view) is some made =
-    made ∙ ap (λ w. if length w == 0 then default_view else record { bytes = w; mark = native_mark (length w) }) is ∙ grind (arith, nat_tests, common_steps, some)
+    made ∙ ap (λ w. if length w == 0 then default_view else record { bytes = w; mark = native_mark (length w) }) is
+    ∙ grind (arith, nat_tests, common_steps, some)
 copied_length prefix n src (Err error) is some made = tt

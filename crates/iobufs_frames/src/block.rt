@@ -3,7 +3,7 @@ ghost use Rattle.std.specs.Prelude.{◌≡◌, ◌↔◌, ℕ, ◌+◌, ◌^◌,
 ghost use Rattle.std.specs.Borrow.{Lends, sem};
 ghost use Rattle.std.specs.Io.KnownBytes.{Consumes, IsAtEnd, Keeps};
 ghost use Rattle.iobufs_core.specs.View.{view_of_bytes};
-ghost use Rattle.iobufs_frames.specs.Frames.{HasFrame, IsNext};
+ghost use Rattle.iobufs_frames.specs.Frames.{MatchTaken, TakesFirst};
 ghost use Rattle.iobufs_frames.specs.Prefixes.{HasNoLengthAt, IsOpenAt, IsSeenAt};
 ghost use Rattle.iobufs_frames.specs.Receiving.{HasReceived, KeepsSpace, block_row, none_received};
 ghost use Rattle.iobufs_frames.specs.contracts.block.Received.{the_row};
@@ -23,7 +23,8 @@ const FIRST: usize = 1 << 12;
 
 const MOST: usize = 1 << 16;
 
-// How many bytes the kit's block has at least after it grew. A block that grows by no fewer has no byte after its frame.
+// How many bytes the kit's block has at least after it grew. A block that grows by no fewer has no byte after its
+// frame.
 const STEP: usize = 1 << 14;
 
 /// Bytes that were received and not taken, in one block, and space for more after them. A body that is taken shares the
@@ -50,8 +51,8 @@ impl Model for Received {
     ghost invariant = { λ r. ForSome r.known (λ l. IsSeenAt r.prefix r.block.items l.value l.len) };
 }
 
-// Makes a full block, which had `whole` bytes when nothing had been taken from it, one of `size` bytes. It moves the bytes
-// to the front or to a new block, unless they are all that it ever had.
+// Makes a full block, which had `whole` bytes when nothing had been taken from it, one of `size` bytes. It moves the
+// bytes to the front or to a new block, unless they are all that it ever had.
 fn widen(block: &mut BytesMut, whole: usize, size: usize) -> Result<(), AllocError>
     requires { length block.old.items < size }
     ensures items { block.new.items ≡ block.old.items }
@@ -86,7 +87,8 @@ impl Received {
 
     /// Returns how many bytes are held.
     pub fn len(&self) -> usize
-        ensures { result ≡ length self.now.bytes }
+        ensures value { result ≡ length self.now.bytes }
+        ensures bound { result < 2 ^ 63 }
     {
         self.block.len()
     }
@@ -101,9 +103,12 @@ impl Received {
     // The length at the front, if all its bytes are there.
     #[inline(always)]
     fn length(&self) -> Result<Option<Length>, Error>
-        ensures found { IfOk result (λ found. IfSome found (λ l. IsSeenAt self.now.prefix self.now.bytes l.value l.len)) }
-        ensures none { IfOk result (λ found. IfNone found (HasNoLengthAt self.now.prefix self.now.bytes × IsOpenAt self.now.prefix self.now.bytes)) }
-        ensures bad { IfErr result (λ error. (error ≡ Error.InvalidVarint) × HasNoLengthAt self.now.prefix self.now.bytes
+        ensures found { IfOk result (λ found. IfSome found
+            (λ l. IsSeenAt self.now.prefix self.now.bytes l.value l.len)) }
+        ensures none { IfOk result (λ found. IfNone found (HasNoLengthAt self.now.prefix self.now.bytes
+            × IsOpenAt self.now.prefix self.now.bytes)) }
+        ensures bad { IfErr result (λ error. (error ≡ Error.InvalidVarint)
+            × HasNoLengthAt self.now.prefix self.now.bytes
             × (IsOpenAt self.now.prefix self.now.bytes → ⊥) × (self.now.prefix ≡ Prefix.Spelled)) }
     {
         if let Some(found) = self.known {
@@ -143,13 +148,10 @@ impl Received {
     /// all is unchanged. A body isn't copied, and a length that is decoded is remembered.
     #[inline(always)]
     pub fn next(&mut self, range: &RangeCfg) -> Result<Option<IoBuf>, Error>
-        ensures next { IsNext self.old.prefix range.now self.old.bytes result self.new.bytes }
-        ensures body { IfOk result (λ found. IfSome found (λ body. body ≡ view_of_bytes body.bytes)) }
-        ensures space { IfOk result (λ found. IfSome found (λ _. KeepsSpace self.old self.new)) }
-        ensures same { IfOk result (λ found. IfNone found (self.new ≡ self.old)) }
-        ensures unchanged { OnErr result (self.new ≡ self.old) }
-        ensures prefix { self.new.prefix ≡ self.old.prefix }
-        ensures spelled { IfErr result (λ error. error ≡ Error.InvalidVarint → self.old.prefix ≡ Prefix.Spelled) }
+        ensures next { TakesFirst self.old.prefix range.now self.old.bytes result self.new.bytes }
+        ensures left { MatchTaken result (λ body. (self.new.prefix ≡ self.old.prefix) × KeepsSpace self.old self.new
+            × (body ≡ view_of_bytes body.bytes))
+            (self.new ≡ self.old) }
     {
         let Some(found) = self.length()? else {
             return Ok(None);
@@ -164,23 +166,8 @@ impl Received {
         }
     }
 
-    /// Returns whether a whole frame is at the front.
-    pub fn has_frame(&self, range: &RangeCfg) -> bool
-        ensures { IsTrue result ↔ HasFrame self.now.prefix range.now self.now.bytes }
-    {
-        match self.length() {
-            Ok(Some(found)) => match frame_size(found, self.len(), range) {
-                Ok(Some(_)) => true,
-                Ok(None) => false,
-                Err(_) => false,
-            },
-            Ok(None) => false,
-            Err(_) => false,
-        }
-    }
-
-    // How large a block is made next that has `len` bytes: at most `MOST`, or twice as large as they are. A frame that needs
-    // little more gets that.
+    // How large a block is made next that has `len` bytes: at most `MOST`, or twice as large as they are. A frame that
+    // needs little more gets that.
     fn next_size(&self, len: usize) -> usize
         requires { len < 2 ^ 63 }
         ensures { len < result }
@@ -195,8 +182,8 @@ impl Received {
         least.max(if is_near { frame } else { twice })
     }
 
-    /// Makes space for a read, if there is none. A block is used again if no body shares it. It grows if it is full of one
-    /// frame. A block above 64 KiB is left after the frame that it was made for.
+    /// Makes space for a read, if there is none. A block is used again if no body shares it. It grows if it is full of
+    /// one frame. A block above 64 KiB is left after the frame that it was made for.
     pub fn make_space(&mut self) -> Result<(), AllocError>
         ensures bytes { self.new.bytes ≡ self.old.bytes }
         ensures prefix { self.new.prefix ≡ self.old.prefix }

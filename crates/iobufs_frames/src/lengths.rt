@@ -1,8 +1,7 @@
 // How the length before a body is written and read.
-ghost use Rattle.std.specs.Prelude.{◌≡◌, ◌≤◌, ◌<◌, ◌+◌, ◌^◌, length, nat_lt, take, true, false, MatchOption, SomeIff, IfOk, IfErr, IfSome, IfNone, OnOk, IsErrAnd, IsOkUnless};
+ghost use Rattle.std.specs.Prelude.{◌≡◌, ◌≤◌, ◌<◌, ◌+◌, length, nat_lt, take, true, false, MatchOption, IfOk, IfErr, IfSome, IfNone, OnOk, IsOkUnless};
 ghost use Rattle.iobufs_core.specs.Ranges.{in_range};
-ghost use Rattle.iobufs_core.specs.MarkedText.{text_prepend};
-ghost use Rattle.iobufs_frames.specs.Frames.{frame_written};
+ghost use Rattle.iobufs_frames.specs.Frames.{CanBeSent, HasFrameSize, PrependsLength};
 ghost use Rattle.iobufs_frames.specs.Prefixes.{HasNoLengthAt, IsLengthAt, IsOpenAt, IsSeenAt, prefix_limit, prefix_view, prefix_written, width_size};
 
 use crate::heads::Head;
@@ -63,7 +62,8 @@ pub(crate) struct Length {
 
 // The first `N` bytes, if there are so many.
 fn front<B: Buf, const N: usize>(buf: &B) -> Option<[u8; N]>
-    ensures { MatchOption result (length (B.text buf.now) < N) (λ bytes. (N ≤ length (B.text buf.now)) × (bytes ≡ take N (B.text buf.now))) }
+    ensures { MatchOption result (length (B.text buf.now) < N) (λ bytes. (N ≤ length (B.text buf.now))
+        × (bytes ≡ take N (B.text buf.now))) }
 {
     let mut bytes = [0; N];
     for i in 0..N {
@@ -74,7 +74,8 @@ fn front<B: Buf, const N: usize>(buf: &B) -> Option<[u8; N]>
 
 // The big-endian number at the front.
 fn big_in<B: Buf>(buf: &B, width: Width) -> Option<usize>
-    ensures { MatchOption result (IsOpenAt (Prefix.Fixed width ByteOrder.Big) (B.text buf.now)) (IsLengthAt (Prefix.Fixed width ByteOrder.Big) (B.text buf.now)) }
+    ensures { MatchOption result (IsOpenAt (Prefix.Fixed width ByteOrder.Big) (B.text buf.now))
+        (IsLengthAt (Prefix.Fixed width ByteOrder.Big) (B.text buf.now)) }
 {
     match width {
         Width::U8 => Some(u8::from_be_bytes(front(buf)?) as usize),
@@ -124,8 +125,10 @@ fn number_in<B: Buf>(buf: &B, width: Width, order: ByteOrder) -> Option<Length>
 #[inline(always)]
 fn varint_in<B: Buf>(buf: &B) -> Result<Option<Length>, Error>
     ensures found { IfOk result (λ found. IfSome found (λ l. IsSeenAt Prefix.Spelled (B.text buf.now) l.value l.len)) }
-    ensures none { IfOk result (λ found. IfNone found (HasNoLengthAt Prefix.Spelled (B.text buf.now) × IsOpenAt Prefix.Spelled (B.text buf.now))) }
-    ensures bad { IfErr result (λ error. (error ≡ Error.InvalidVarint) × HasNoLengthAt Prefix.Spelled (B.text buf.now) × (IsOpenAt Prefix.Spelled (B.text buf.now) → ⊥)) }
+    ensures none { IfOk result (λ found. IfNone found (HasNoLengthAt Prefix.Spelled (B.text buf.now)
+        × IsOpenAt Prefix.Spelled (B.text buf.now))) }
+    ensures bad { IfErr result (λ error. (error ≡ Error.InvalidVarint) × HasNoLengthAt Prefix.Spelled (B.text buf.now)
+        × (IsOpenAt Prefix.Spelled (B.text buf.now) → ⊥)) }
 {
     let all = RangeCfg {
         lo: 0,
@@ -149,7 +152,8 @@ pub(crate) fn frame_size(
     ensures inside { OnOk result (in_range range.now found.value ≡ true) }
     ensures whole { IfOk result (λ size. IfSome size (λ n. (n ≡ found.len + found.value) × (n ≤ len))) }
     ensures none { IfOk result (λ size. IfNone size (len < found.len + found.value)) }
-    ensures outside { IfErr result (λ error. (error ≡ Error.InvalidLength found.value) × (in_range range.now found.value ≡ false)) }
+    ensures outside { IfErr result (λ error. (error ≡ Error.InvalidLength found.value)
+        × (in_range range.now found.value ≡ false)) }
 {
     if !range.contains(found.value) {
         return Err(Error::InvalidLength(found.value));
@@ -174,12 +178,15 @@ impl Prefix {
         }
     }
 
-    /// Returns the length at the front, if all its bytes are there. Fails with `Error::InvalidVarint`, of varints alone.
+    /// Returns the length at the front, if all its bytes are there. Fails with `Error::InvalidVarint`, of varints
+    /// alone.
     #[inline(always)]
     pub(crate) fn length_in<B: Buf>(self, buf: &B) -> Result<Option<Length>, Error>
         ensures found { IfOk result (λ found. IfSome found (λ l. IsSeenAt self (B.text buf.now) l.value l.len)) }
-        ensures none { IfOk result (λ found. IfNone found (HasNoLengthAt self (B.text buf.now) × IsOpenAt self (B.text buf.now))) }
-        ensures bad { IfErr result (λ error. (error ≡ Error.InvalidVarint) × HasNoLengthAt self (B.text buf.now) × (IsOpenAt self (B.text buf.now) → ⊥)
+        ensures none { IfOk result (λ found. IfNone found (HasNoLengthAt self (B.text buf.now)
+            × IsOpenAt self (B.text buf.now))) }
+        ensures bad { IfErr result (λ error. (error ≡ Error.InvalidVarint) × HasNoLengthAt self (B.text buf.now)
+            × (IsOpenAt self (B.text buf.now) → ⊥)
             × (self ≡ Prefix.Spelled)) }
     {
         match self {
@@ -207,6 +214,33 @@ impl Prefix {
         head
     }
 
+    // Encodes the length of a body of `n` bytes, if both have a size.
+    fn head_of_frame(self, n: usize) -> Option<Head>
+        ensures { MatchOption result (HasFrameSize self n → ⊥) (λ head. HasFrameSize self n
+            × (head.filled ≡ prefix_written self n)) }
+    {
+        if !self.fits(n) {
+            return None;
+        }
+        let head = self.head(n);
+        if usize::MAX - n < head.len() {
+            return None;
+        }
+        Some(head)
+    }
+
+    /// Encodes the length of a body of `n` bytes; `None` if it is outside the range or can't be written so, or both are
+    /// longer than `usize::MAX`.
+    pub fn head_within(self, n: usize, range: &RangeCfg) -> Option<Head>
+        ensures { MatchOption result (CanBeSent self range.now n → ⊥) (λ head. CanBeSent self range.now n
+            × (head.filled ≡ prefix_written self n)) }
+    {
+        if !range.contains(n) {
+            return None;
+        }
+        self.head_of_frame(n)
+    }
+
     /// Encodes a length into a buffer of its own.
     pub fn written(self, alloc: Global, n: usize) -> Result<IoBuf, BufError>
         requires { n < prefix_limit self }
@@ -217,45 +251,26 @@ impl Prefix {
     }
 }
 
-// The size of a frame with a body of `len` bytes; `None` above `usize::MAX`.
-fn framed_size(prefix: Prefix, len: usize) -> Option<usize>
-    requires { len < prefix_limit prefix }
-    ensures { SomeIff result (length (prefix_written prefix len) + len < 2 ^ 64) (length (prefix_written prefix len) + len) }
-{
-    prefix.head(len).len().checked_add(len)
-}
-
 /// Prepends its length to a body, whose chunks aren't copied. Fails with `BufError::TooLong` if the length can't be
-/// written so (see `Prefix::fits`) or only if both are longer than `usize::MAX`, before it allocates.
+/// written so (see `Prefix::fits`) or both are longer than `usize::MAX`, before it allocates; else with
+/// `BufError::Memory`.
 pub fn framed_with(
     alloc: Global,
     prefix: Prefix,
     mut body: IoBufs,
 ) -> Result<IoBufs, Refused<IoBufs>>
-    ensures chunks { IfOk result (λ text. text ≡ text_prepend body (prefix_view prefix (length body.bytes))) }
-    ensures bytes { IfOk result (λ text. text.bytes ≡ frame_written prefix body.bytes) }
-    ensures handed_back { IfErr result (λ refused. refused.value ≡ body) }
-    ensures too_long { prefix_limit prefix ≤ length body.bytes → IsErrAnd result (λ refused. refused.cause ≡ BufError.TooLong) }
-    ensures both_too_long { 2 ^ 64 ≤ length (frame_written prefix body.bytes) → IsErrAnd result (λ refused. refused.cause ≡ BufError.TooLong) }
-    ensures memory { length body.bytes < prefix_limit prefix → length (frame_written prefix body.bytes) < 2 ^ 64
-        → IfErr result (λ refused. refused.cause ≡ BufError.Memory) }
+    ensures { PrependsLength prefix body result }
 {
-    let len = body.len();
-    if !prefix.fits(len) || framed_size(prefix, len).is_none() {
-        return Err(Refused {
-            cause: BufError::TooLong,
-            value: body,
-        });
-    }
-    let length = match prefix.written(alloc, len) {
-        Ok(length) => length,
-        Err(cause) => return Err(Refused { cause, value: body }),
+    let Some(head) = prefix.head_of_frame(body.len()) else {
+        let cause = BufError::TooLong;
+        return Err(Refused { cause, value: body });
     };
-    match body.prepend(alloc, length) {
-        Ok(()) => Ok(body),
-        Err(refused) => Err(Refused {
-            cause: refused.cause,
-            value: body,
-        }),
-    }
+    let cause = BufError::Memory;
+    let Ok(length) = IoBuf::copy_from_slice(alloc, head.as_slice()) else {
+        return Err(Refused { cause, value: body });
+    };
+    let Ok(()) = body.prepend(alloc, length) else {
+        return Err(Refused { cause, value: body });
+    };
+    Ok(body)
 }

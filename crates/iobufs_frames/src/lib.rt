@@ -1,26 +1,34 @@
 // Frames of bytes that come in chunks: each is a length followed by a body.
 #![tactic(auto)]
 
-ghost use Rattle.std.specs.Prelude.{◌≡◌, ◌≢◌, ◌⊎◌, ℕ, ◌+◌, ◌^◌, ◌<◌, ◌≤◌, List, [], ◌∷◌, ◌++◌, length, OnOk, OnErr, IfOk, IfErr, IsOk, IsErrAnd, IsOkUnless, IfNone, IfSome};
-ghost use Rattle.iobufs_core.specs.MarkedText.{MarkedText, default_text, joined, text_append, text_rest};
-ghost use Rattle.iobufs_core.specs.View.{View};
-ghost use Rattle.iobufs_frames.specs.Frames.{AreMoved, IsBehindLength, IsFirst, IsFramed, IsNext, IsTakenApart, LacksFrame, bodies, frame_written, joined_bytes};
+ghost use Rattle.std.specs.Prelude.{◌≡◌, ◌⊎◌, ℕ, ◌+◌, ◌^◌, ◌<◌, ◌≤◌, List, ◌++◌, length, OnOk, OnErr, IfOk, IfErr, IsOk, IsErrAnd, IsOkUnless, IfNone, IfSome};
+ghost use Rattle.iobufs_core.specs.MarkedText.{default_text, text_append};
+ghost use Rattle.iobufs_frames.specs.Frames.{AreMoved, IsCutFrom, IsFramed, LacksFrame, MatchTaken, TakesFirst, bodies, joined_bytes};
 ghost use Rattle.iobufs_frames.specs.declared.lengths.Prefix.TheVariants.{Spelled};
 
+pub mod adapters;
 mod block;
+pub mod error;
 mod heads;
 pub mod laws;
 mod lengths;
+pub mod reader;
 mod shown;
+pub mod unsent;
+pub mod writer;
 
+pub use adapters::Writer;
 pub use block::Received;
+pub use error::FrameError;
 pub use heads::Head;
 use iobufs::bufs::IoBufs;
 use iobufs_core::buf::IoBuf;
 use iobufs_core::codec::{BufError, Error, OwnedBuf, RangeCfg, Refused};
 use lengths::frame_size;
 pub use lengths::{ByteOrder, Prefix, Width, framed_with};
+pub use reader::FrameReader;
 use std::alloc::Global;
+pub use writer::FrameWriter;
 
 /// Why no further frame follows the frames of some bytes.
 #[derive(Clone, Copy, Debug, PartialEq, Eq)]
@@ -82,24 +90,23 @@ impl Frames {
         ensures prefix { self.new.prefix ≡ self.old.prefix }
         ensures unchanged { OnErr result (self.new ≡ self.old) }
         ensures handed_back { IfErr result (λ refused. refused.value ≡ piece) }
-        ensures too_long { 2 ^ 64 ≤ length self.old.rest.bytes + length piece.bytes → IsErrAnd result (λ refused. refused.cause ≡ BufError.TooLong) }
-        ensures memory { length self.old.rest.bytes + length piece.bytes < 2 ^ 64 → IfErr result (λ refused. refused.cause ≡ BufError.Memory) }
+        ensures too_long { 2 ^ 64 ≤ length self.old.rest.bytes + length piece.bytes
+            → IsErrAnd result (λ refused. refused.cause ≡ BufError.TooLong) }
+        ensures memory { length self.old.rest.bytes + length piece.bytes < 2 ^ 64
+            → IfErr result (λ refused. refused.cause ≡ BufError.Memory) }
         ensures nothing { length piece.bytes ≡ 0 → IsOk result }
         ensures onto_nothing { length self.old.rest.bytes ≡ 0 → IsOk result }
     {
         self.rest.append(alloc, piece)
     }
 
-    // Takes the first frame.
-    fn take(&mut self, alloc: Global, range: &RangeCfg) -> Result<Option<IoBuf>, Error>
-        ensures next { IsNext self.old.prefix range.now self.old.rest.bytes result self.new.rest.bytes }
-        ensures body { IfOk result (λ found. IfSome found (λ body. IsBehindLength self.old.prefix self.old.rest body)) }
-        ensures left { IfOk result (λ found. IfSome found (λ body.
-            self.new.rest ≡ text_rest self.old.rest (length (frame_written self.old.prefix body.bytes)))) }
-        ensures same { IfOk result (λ found. IfNone found (self.new ≡ self.old)) }
-        ensures unchanged { OnErr result (self.new ≡ self.old) }
-        ensures prefix { self.new.prefix ≡ self.old.prefix }
-        ensures spelled { IfErr result (λ error. error ≡ Error.InvalidVarint → self.old.prefix ≡ Prefix.Spelled) }
+    /// Takes the first frame; `None` if it is not whole yet. Fails with `Error::InvalidVarint` (of varints alone) or
+    /// `Error::InvalidLength` if no further bytes can make it whole, or with `Error::Memory`. Unless a frame is taken,
+    /// the rest is unchanged.
+    pub fn next(&mut self, alloc: Global, range: &RangeCfg) -> Result<Option<IoBuf>, Error>
+        ensures next { TakesFirst self.old.prefix range.now self.old.rest.bytes result self.new.rest.bytes }
+        ensures left { MatchTaken result (λ body. (self.new.prefix ≡ self.old.prefix)
+            × IsCutFrom self.old.prefix self.old.rest self.new.rest body) (self.new ≡ self.old) }
     {
         let Some(found) = self.prefix.length_in(&self.rest)? else {
             return Ok(None);
@@ -111,24 +118,6 @@ impl Frames {
             Ok(body) => Ok(Some(body)),
             Err(_) => Err(Error::Memory),
         }
-    }
-
-    /// Takes the first frame; `None` if it is not whole yet. Fails with `Error::InvalidVarint` (of varints alone) or
-    /// `Error::InvalidLength` if no further bytes can make it whole, or with `Error::Memory`. Unless a frame is taken,
-    /// the rest is unchanged.
-    pub fn next(&mut self, alloc: Global, range: &RangeCfg) -> Result<Option<IoBuf>, Error>
-        ensures next { IsNext self.old.prefix range.now self.old.rest.bytes result self.new.rest.bytes }
-        ensures body { IfOk result (λ found. IfSome found (λ body. IsBehindLength self.old.prefix self.old.rest body)) }
-        ensures left { IfOk result (λ found. IfSome found (λ body.
-            self.new.rest ≡ text_rest self.old.rest (length (frame_written self.old.prefix body.bytes)))) }
-        ensures same { IfOk result (λ found. IfNone found (self.new ≡ self.old)) }
-        ensures unchanged { OnErr result (self.new ≡ self.old) }
-        ensures prefix { self.new.prefix ≡ self.old.prefix }
-        ensures spelled { IfErr result (λ error. error ≡ Error.InvalidVarint → self.old.prefix ≡ Prefix.Spelled) }
-        ensures first { (frames : List (List ℕ)) (end : End) (rest : List ℕ) → IsFramed self.old.prefix range.now self.old.rest.bytes frames end rest
-            → IsFirst self.old.prefix range.now frames end rest result self.new.rest.bytes }
-    {
-        self.take(alloc, range)
     }
 
     fn into_rest(self) -> IoBufs
@@ -147,13 +136,14 @@ impl Frames {
     ) -> Result<Option<End>, BufError>
         ensures prefix { self.new.prefix ≡ self.old.prefix }
         ensures moved { IfOk result (λ end. IfNone end
-            (AreMoved self.old.prefix range.now (bodies found.old.items) self.old.rest.bytes (bodies found.new.items) self.new.rest.bytes)) }
-        ensures marks { IfOk result (λ end. IfNone end ((text : MarkedText) → IsTakenApart self.old.prefix text found.old.items self.old.rest
-            → IsTakenApart self.old.prefix text found.new.items self.new.rest)) }
+            (AreMoved self.old.prefix range.now (bodies found.old.items) self.old.rest.bytes
+            (bodies found.new.items) self.new.rest.bytes)) }
         ensures shorter { IfOk result (λ end. IfNone end (length self.new.rest.bytes < length self.old.rest.bytes)) }
         ensures ends { IfOk result (λ end. IfSome end (LacksFrame self.old.prefix range.now self.old.rest.bytes)) }
-        ensures spelled { IfOk result (λ end. IfSome end (λ end. end ≡ End.Bad Error.InvalidVarint → self.old.prefix ≡ Prefix.Spelled)) }
-        ensures same { IfOk result (λ end. IfSome end (λ _. (self.new ≡ self.old) × (found.new.items ≡ found.old.items))) }
+        ensures spelled { IfOk result (λ end. IfSome end (λ end. end ≡ End.Bad Error.InvalidVarint
+            → self.old.prefix ≡ Prefix.Spelled)) }
+        ensures same { IfOk result (λ end. IfSome end (λ _. (self.new ≡ self.old)
+            × (found.new.items ≡ found.old.items))) }
         ensures memory { IsOkUnless result BufError.Memory }
     {
         match self.next(alloc, range) {
@@ -175,9 +165,8 @@ impl Frames {
         found: &mut Vec<IoBuf>,
     ) -> Result<End, BufError>
         ensures prefix { self.new.prefix ≡ self.old.prefix }
-        ensures moved { OnOk result (AreMoved self.old.prefix range.now (bodies found.old.items) self.old.rest.bytes (bodies found.new.items) self.new.rest.bytes) }
-        ensures marks { OnOk result ((text : MarkedText) → IsTakenApart self.old.prefix text found.old.items self.old.rest
-            → IsTakenApart self.old.prefix text found.new.items self.new.rest) }
+        ensures moved { OnOk result (AreMoved self.old.prefix range.now (bodies found.old.items) self.old.rest.bytes
+            (bodies found.new.items) self.new.rest.bytes) }
         ensures ends { IfOk result (LacksFrame self.old.prefix range.now self.new.rest.bytes) }
         ensures spelled { IfOk result (λ end. end ≡ End.Bad Error.InvalidVarint → self.old.prefix ≡ Prefix.Spelled) }
         ensures memory { IsOkUnless result BufError.Memory }
@@ -199,10 +188,10 @@ impl Frames {
         piece: IoBuf,
     ) -> Result<End, BufError>
         ensures prefix { self.new.prefix ≡ self.old.prefix }
-        ensures framed { IfOk result (λ end. (text : List ℕ) → IsFramed self.old.prefix range.now text (bodies found.old.items) stop self.old.rest.bytes
-            → IsFramed self.old.prefix range.now (text ++ piece.bytes) (bodies found.new.items) end self.new.rest.bytes) }
-        ensures marks { OnOk result ((fed : List View) → IsTakenApart self.old.prefix (joined fed) found.old.items self.old.rest
-            → IsTakenApart self.old.prefix (joined (fed ++ piece ∷ [])) found.new.items self.new.rest) }
+        ensures framed { IfOk result (λ end. (text : List ℕ)
+            → IsFramed self.old.prefix range.now text (bodies found.old.items) stop self.old.rest.bytes
+            → IsFramed self.old.prefix range.now (text ++ piece.bytes)
+            (bodies found.new.items) end self.new.rest.bytes) }
         ensures spelled { (stop ≡ End.Bad Error.InvalidVarint → self.old.prefix ≡ Prefix.Spelled)
             → IfOk result (λ end. end ≡ End.Bad Error.InvalidVarint → self.old.prefix ≡ Prefix.Spelled) }
         ensures memory { length self.old.rest.bytes + length piece.bytes < 2 ^ 64 → IsOkUnless result BufError.Memory }
@@ -218,8 +207,8 @@ impl Frames {
     /// Takes all frames with varint lengths of bytes that come in chunks, each as soon as it is whole. Fails with
     /// `BufError::TooLong` only if the bytes are more than `usize::MAX`. An error drops the chunks.
     pub fn run(alloc: Global, pieces: Vec<IoBuf>, range: &RangeCfg) -> Result<Run, BufError>
-        ensures framed { IfOk result (λ run. IsFramed Spelled range.now (joined_bytes pieces.items) (bodies run.frames.items) run.stop run.rest.bytes) }
-        ensures marks { IfOk result (λ run. IsTakenApart Spelled (joined pieces.items) run.frames.items run.rest) }
+        ensures framed { IfOk result (λ run. IsFramed Spelled range.now (joined_bytes pieces.items)
+            (bodies run.frames.items) run.stop run.rest.bytes) }
         ensures memory { length (joined_bytes pieces.items) < 2 ^ 64 → IsOkUnless result BufError.Memory }
         ensures nothing { length pieces.items ≡ 0 → IsOk result }
         ensures causes { IfErr result (λ cause. (cause ≡ BufError.Memory) ⊎ (cause ≡ BufError.TooLong)) }
@@ -234,8 +223,8 @@ impl Frames {
         pieces: Vec<IoBuf>,
         range: &RangeCfg,
     ) -> Result<Run, BufError>
-        ensures framed { IfOk result (λ run. IsFramed prefix range.now (joined_bytes pieces.items) (bodies run.frames.items) run.stop run.rest.bytes) }
-        ensures marks { IfOk result (λ run. IsTakenApart prefix (joined pieces.items) run.frames.items run.rest) }
+        ensures framed { IfOk result (λ run. IsFramed prefix range.now (joined_bytes pieces.items)
+            (bodies run.frames.items) run.stop run.rest.bytes) }
         ensures spelled { IfOk result (λ run. run.stop ≡ End.Bad Error.InvalidVarint → prefix ≡ Prefix.Spelled) }
         ensures memory { length (joined_bytes pieces.items) < 2 ^ 64 → IsOkUnless result BufError.Memory }
         ensures nothing { length pieces.items ≡ 0 → IsOk result }

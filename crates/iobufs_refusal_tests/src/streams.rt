@@ -1,39 +1,41 @@
-// Frames to a writer, and from a reader to a writer. `tests/costs` has the numbers that are wanted: a frame that is put, sent
-// and flushed allocates nothing, and an echo allocates blocks, and a header for each that is filled.
+// Frames to a writer, and from a reader to a writer. `tests/costs` has the numbers that are wanted: a frame that is put
+// and sent allocates nothing, and an echo allocates blocks, and a header for each that is filled.
 use crate::word::{Ended, end_case, mark};
 use iobufs::bufs::IoBufs;
 use iobufs_core::buf::IoBuf;
-use iobufs_core::codec::{BufError, RangeCfg};
-use iobufs_frames::{ByteOrder, Prefix, Width};
-use iobufs_streams::echo::echo;
-use iobufs_streams::error::FrameError;
-use iobufs_streams::reader::FrameReader;
-use iobufs_streams::writer::FrameWriter;
+use iobufs_core::codec::{BufError, Error, RangeCfg};
+use iobufs_frames::{ByteOrder, FrameError, FrameReader, FrameWriter, Prefix, Width};
 use std::alloc::Global;
-use std::io::{self, Write};
+use std::io::{self, ErrorKind, Write};
 use std::mem;
 use std::process::Abort;
 
-const RANGE: RangeCfg = RangeCfg { lo: 0, hi: 1024 };
+const RANGE: RangeCfg = RangeCfg { lo: 0, hi: 1 << 18 };
 
 const FIXED: Prefix = Prefix::Fixed(Width::U32, ByteOrder::Big);
 
-// A writer that counts the bytes that it takes, at most `most` at a time.
+// A writer that counts the writes, and the bytes that it takes, at most `most` at a time.
 #[derive(Drop)]
 struct Counter {
     most: usize,
+    writes: usize,
     taken: usize,
 }
 
 impl Counter {
     fn new(most: usize) -> Counter {
-        Counter { most, taken: 0 }
+        Counter {
+            most,
+            writes: 0,
+            taken: 0,
+        }
     }
 }
 
 impl Write for Counter {
     fn write(&mut self, buf: &[u8]) -> io::Result<usize> {
         let n = buf.len().min(self.most);
+        self.writes = self.writes.wrapping_add(1);
         self.taken = self.taken.wrapping_add(n);
         Ok(n)
     }
@@ -43,54 +45,50 @@ impl Write for Counter {
     }
 }
 
-// A name, a prefix, the chunks of a body, how many bytes a write takes at most, and how many the frame has.
-const FRAMES: [(&'static str, Prefix, &'static [&'static [u8]], usize, usize); 4] = rows! {
-    "an_empty_frame_is_sent", Prefix::Spelled, &[], 100, 1;
-    "a_frame_is_sent", Prefix::Spelled, &[b"abc"], 100, 4;
-    "a_frame_is_sent_byte_by_byte", FIXED, &[b"abc"], 1, 7;
-    "a_frame_of_five_chunks_is_sent", FIXED, &[b"ab", b"cd", b"ef", b"gh", b"ij"], 3, 14;
+// A name, a prefix, how many chunks a body has and how long each is, how many bytes a write takes at most, and how many
+// writes and bytes the frame takes.
+const FRAMES: [(&'static str, Prefix, usize, usize, usize, usize, usize); 5] = rows! {
+    "an_empty_frame_is_sent", Prefix::Spelled, 0, 0, 100, 1, 1;
+    "a_frame_is_sent", Prefix::Spelled, 1, 3, 100, 2, 4;
+    "a_frame_is_sent_byte_by_byte", FIXED, 1, 3, 1, 7, 7;
+    "a_frame_of_five_chunks_is_sent", FIXED, 5, 2, 3, 7, 14;
+    "a_frame_of_long_chunks_is_sent", Prefix::Spelled, 2, 100000, usize::MAX, 3, 200003;
 };
 
-fn text(alloc: Global, chunks: &[&'static [u8]]) -> Result<IoBufs, BufError> {
+fn text(alloc: Global, chunks: usize, len: usize) -> Result<IoBufs, BufError> {
+    let mut bytes = Vec::new(alloc);
+    bytes.resize(len, 7)?;
+    let chunk: &'static [u8] = bytes.leak();
     let mut text = IoBufs::default();
-    for chunk in chunks {
-        text.append(alloc, IoBuf::from(*chunk))?;
+    for _ in 0..chunks {
+        text.append(alloc, IoBuf::from(chunk))?;
     }
     Ok(text)
 }
 
-// Puts a frame, sends it, and flushes the writer.
-fn send(
-    alloc: Global,
-    writer: &mut FrameWriter<Counter>,
-    body: &mut IoBufs,
-) -> Result<(), BufError> {
-    if !writer.is_sent() {
+// Puts a frame, and sends it.
+fn send(writer: &mut FrameWriter<Counter>, body: &mut IoBufs) -> Result<(), BufError> {
+    if !writer.rest.is_empty() {
         return Err(BufError::TooLong);
     }
-    writer.put(alloc, mem::take(body))?;
-    if writer.send(alloc).is_err() || writer.flush().is_err() {
-        return Err(BufError::TooLong);
+    writer.put(mem::take(body))?;
+    match writer.send() {
+        Ok(()) => Ok(()),
+        Err(_) => Err(BufError::TooLong),
     }
-    Ok(())
 }
 
 #[test]
 fn sends(rt: HostRuntime) {
-    for (case, prefix, chunks, most, taken) in FRAMES {
-        let mut body = text(rt.alloc(), chunks).expect(&rt, "a fixture");
-        let mut writer = FrameWriter::with_prefix(Counter::new(most), prefix);
-        let ((), word) = lent!(
-            rt,
-            send(rt.alloc(), &mut writer, &mut body),
-            BufError::Memory,
-            true
-        );
+    for (case, prefix, chunks, len, most, writes, taken) in FRAMES {
+        let mut body = text(rt.alloc(), chunks, len).expect(&rt, "a fixture");
+        let mut writer = FrameWriter::with_prefix(Counter::new(most), prefix, RANGE);
+        let ((), word) = lent!(rt, send(&mut writer, &mut body), BufError::Memory, true);
         end_case(
             &rt,
             case,
             word,
-            writer.is_sent() && writer.to.taken == taken,
+            writer.rest.is_empty() && writer.to.writes == writes && writer.to.taken == taken,
         );
     }
 }
@@ -112,20 +110,29 @@ fn frames(alloc: Global, count: usize) -> Result<&'static [u8], BufError> {
     Ok(bytes.leak())
 }
 
+fn cause_of(error: FrameError) -> BufError {
+    match error {
+        FrameError::Frame(Error::Memory) => BufError::Memory,
+        FrameError::Io(error) if error.kind() == ErrorKind::OutOfMemory => BufError::Memory,
+        _ => BufError::TooLong,
+    }
+}
+
 // Sends the frames back that come.
 fn echoed(
-    alloc: Global,
     from: &mut FrameReader<&'static [u8]>,
     to: &mut FrameWriter<Counter>,
 ) -> Result<(), BufError> {
-    if !to.is_sent() {
-        return Err(BufError::TooLong);
+    for _ in 0..u64::MAX {
+        if to.send().is_err() {
+            return Err(BufError::TooLong);
+        }
+        let Some(body) = from.next().map_err(cause_of)? else {
+            return Ok(());
+        };
+        to.put(IoBufs::from(body))?;
     }
-    match echo(alloc, from, to) {
-        Ok(()) => Ok(()),
-        Err(FrameError::Memory) => Err(BufError::Memory),
-        Err(_) => Err(BufError::TooLong),
-    }
+    Ok(())
 }
 
 #[test]
@@ -133,13 +140,8 @@ fn echoes(rt: HostRuntime) {
     for (case, count) in ECHOES {
         let bytes = frames(rt.alloc(), count).expect(&rt, "a fixture");
         let mut from = FrameReader::new(rt.alloc(), bytes, RANGE).expect(&rt, "a fixture");
-        let mut to = FrameWriter::new(Counter::new(usize::MAX));
-        let ((), word) = lent!(
-            rt,
-            echoed(rt.alloc(), &mut from, &mut to),
-            BufError::Memory,
-            true
-        );
+        let mut to = FrameWriter::new(Counter::new(usize::MAX), RANGE);
+        let ((), word) = lent!(rt, echoed(&mut from, &mut to), BufError::Memory, true);
         end_case(&rt, case, word, to.to.taken == bytes.len());
     }
 }

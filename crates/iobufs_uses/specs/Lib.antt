@@ -1,5 +1,3 @@
-pub mod Decoding
-pub mod DecodingLaws
 pub mod InOrder
 pub mod Send
 pub mod Web

@@ -1,15 +1,16 @@
-// A text in chunks, handed to an async writer.
-ghost use Rattle.std.specs.Prelude.{◌≡◌, ◌≤◌, length, drop};
+// A text in chunks, and a frame, handed to an async writer.
+ghost use Rattle.std.specs.Prelude.{◌≡◌, ◌<◌, ◌≤◌, [], length, drop};
 ghost use Rattle.futures.specs.Poll.{OnPending};
 ghost use Rattle.futures.specs.Task.{Covers, Keeps};
-ghost use Rattle.tokio.specs.Io.Moved.{bytes_moved, count_moved};
+ghost use Rattle.tokio.specs.Io.Moved.{IfReadyErr, OnReadyOk, TakesWritten, WriteFails, bytes_moved, count_moved};
 
 use crate::send::batch;
 use futures::task::{Context, Poll};
 use iobufs::bufs::IoBufs;
+use iobufs_frames::FrameWriter;
 use std::alloc::Global;
 use std::io;
-use tokio::io::AsyncWrite;
+use tokio::io::{AsyncWrite, poll_write_all_buf};
 
 // How many chunks are written at a time.
 const MOST: usize = 64;
@@ -50,5 +51,23 @@ pub fn poll_send<W: AsyncWrite>(
         bytes::Buf::advance(text, *n);
     }
     polled
+}
+// [docs end]
+
+// [docs: poll_frame]
+/// Sends the rest of a frame that was put, chunk by chunk: the body isn't copied. If it is pending, or after an error,
+/// no byte is lost or sent twice: the rest is in `frames`, and the next call goes on.
+pub fn poll_frame<W: AsyncWrite>(
+    frames: &mut FrameWriter<W>,
+    cx: &mut Context<'_>,
+) -> Poll<io::Result<()>>
+    ensures sent { TakesWritten W.writes frames.old.to frames.new.to frames.old.rest.bytes frames.new.rest.bytes }
+    ensures all { OnReadyOk result (frames.new.rest.bytes ≡ []) }
+    ensures left { OnPending result (0 < length frames.new.rest.bytes) }
+    ensures failed { IfReadyErr result (WriteFails W.fails W.is_full frames.new.to) }
+    ensures registered { OnPending result (Covers cx.new (W.needs frames.new.to)) }
+    ensures kept { Keeps cx.old cx.new }
+{
+    poll_write_all_buf(&mut frames.to, cx, &mut frames.rest)
 }
 // [docs end]

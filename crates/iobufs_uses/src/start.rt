@@ -7,13 +7,13 @@ ghost use Rattle.iobufs.specs.Sending.{IsSent};
 ghost use Rattle.iobufs_core.specs.View.{View};
 ghost use Rattle.iobufs_core.specs.Wire.{view_written};
 ghost use Rattle.iobufs_frames.specs.Frames.{frame_written};
-ghost use Rattle.iobufs_streams.specs.Streams.{TakesFrame};
+ghost use Rattle.iobufs_frames.specs.Streams.{TakesFrame};
 ghost use Rattle.iobufs_values.specs.Form.{IsDecodedBack};
 
 use iobufs::bufs::IoBufs;
 use iobufs_core::buf::IoBuf;
 use iobufs_core::codec::{Error, RangeCfg};
-use iobufs_streams::{FrameError, FrameReader, FrameWriter};
+use iobufs_frames::{FrameError, FrameReader, FrameWriter};
 use iobufs_values::{ByParts, Fault, IntoParts, Look};
 use std::alloc::Global;
 use std::io::{self, Read, Write};
@@ -69,9 +69,12 @@ pub fn encoded(alloc: Global, entry: Entry) -> Result<IoBufs, Error>
 pub fn decoded(alloc: Global, body: &IoBuf) -> Result<Entry, Fault>
     ensures bytes { IfOk result (λ entry. body.now.bytes
         ≡ to_be_bytes w64 entry.number ++ ((entry.flags ∷ []) ++ (view_written entry.key ++ view_written entry.value))) }
-    ensures back { (entry : Entry) → ⟦<(u64, u8, IoBuf, IoBuf) as Look>⟧.admits CFG (entry.number, entry.flags, entry.key, entry.value)
-        → body.now.bytes ≡ to_be_bytes w64 entry.number ++ ((entry.flags ∷ []) ++ (view_written entry.key ++ view_written entry.value))
-        → IsDecodedBack (λ x y. ⟦<(u64, u8, IoBuf, IoBuf) as Look>⟧.same (x.number, x.flags, x.key, x.value) (y.number, y.flags, y.key, y.value)) entry result }
+    ensures back { (entry : Entry) → ⟦<(u64, u8, IoBuf, IoBuf) as Look>⟧.admits CFG
+        (entry.number, entry.flags, entry.key, entry.value)
+        → body.now.bytes ≡ to_be_bytes w64 entry.number ++
+        ((entry.flags ∷ []) ++ (view_written entry.key ++ view_written entry.value))
+        → IsDecodedBack (λ x y. ⟦<(u64, u8, IoBuf, IoBuf) as Look>⟧.same (x.number, x.flags, x.key, x.value)
+        (y.number, y.flags, y.key, y.value)) entry result }
 {
     Entry::decode_cfg(alloc, body, &CFG)
 }
@@ -99,14 +102,14 @@ pub fn put<W: Write + Drop>(
     ensures before { OnOk result (Appends (W.contents to.old.to) (W.contents to.new.to) to.old.rest.bytes) }
     ensures put { OnOk result (to.new.rest.bytes ≡ frame_written to.old.prefix
         (to_be_bytes w64 entry.number ++ ((entry.flags ∷ []) ++ (view_written entry.key ++ view_written entry.value)))) }
-    ensures dropped { OnErr result (IsSent (W.contents to.old.to) (W.contents to.new.to) to.old.rest.bytes to.new.rest.bytes) }
+    ensures dropped { OnErr result (IsSent (W.contents to.old.to)
+        (W.contents to.new.to) to.old.rest.bytes to.new.rest.bytes) }
     ensures prefix { to.new.prefix ≡ to.old.prefix }
-    ensures most { to.new.most ≡ to.old.most }
+    ensures range { to.new.range ≡ to.old.range }
 {
-    to.send(alloc)?;
+    to.send()?;
     let body = encoded(alloc, entry).map_err(Fault::Codec)?;
-    to.put(alloc, body)
-        .map_err(|refused| Fault::from(refused.cause))?;
+    to.put(body).map_err(|refused| Fault::from(refused.cause))?;
     Ok(())
 }
 
@@ -116,18 +119,15 @@ pub fn receive<R: Read + Drop>(
     alloc: Global,
     from: &mut FrameReader<R>,
 ) -> Result<Option<Entry>, LogError>
-    ensures entry { IfOk result (λ found. IfSome found (λ entry. (body : View) × (body.bytes
-        ≡ to_be_bytes w64 entry.number ++ ((entry.flags ∷ []) ++ (view_written entry.key ++ view_written entry.value)))
-        × TakesFrame from.old.held.prefix from.old.range (R.remaining from.old.from) (R.remaining from.new.from) from.old.held.bytes
-        from.new.held.bytes (Ok (Some body)))) }
-    ensures end { IfOk result (λ found. IfNone found (TakesFrame from.old.held.prefix from.old.range (R.remaining from.old.from)
-        (R.remaining from.new.from) from.old.held.bytes from.new.held.bytes (Ok None))) }
-    ensures failed { OnErr result ((taken : Result (Option View) FrameError) × TakesFrame from.old.held.prefix from.old.range (R.remaining from.old.from)
-        (R.remaining from.new.from) from.old.held.bytes from.new.held.bytes taken) }
-    ensures range { from.new.range ≡ from.old.range }
-    ensures prefix { from.new.held.prefix ≡ from.old.held.prefix }
+    ensures entry { IfOk result (λ found. IfSome found (λ entry. (body : View)
+        × TakesFrame R.remaining from.old (Ok (Some body)) from.new
+        × (body.bytes ≡ to_be_bytes w64 entry.number ++
+        ((entry.flags ∷ []) ++ (view_written entry.key ++ view_written entry.value))))) }
+    ensures end { IfOk result (λ found. IfNone found (TakesFrame R.remaining from.old (Ok None) from.new)) }
+    ensures failed { OnErr result ((taken : Result (Option View) FrameError)
+        × TakesFrame R.remaining from.old taken from.new) }
 {
-    let Some(body) = from.next(alloc)? else {
+    let Some(body) = from.next()? else {
         return Ok(None);
     };
     let entry = decoded(alloc, &body)?;
@@ -136,7 +136,8 @@ pub fn receive<R: Read + Drop>(
 
 #[test]
 fn entries_come_back(rt: HostRuntime) {
-    let mut to = FrameWriter::new(Vec::new(rt.alloc()));
+    let range = RangeCfg { lo: 0, hi: 1 << 17 };
+    let mut to = FrameWriter::new(Vec::new(rt.alloc()), range);
     for number in 0..3 {
         let entry = Entry {
             number,
@@ -145,13 +146,10 @@ fn entries_come_back(rt: HostRuntime) {
             value: IoBuf::from(b"value".as_slice()),
         };
         put(rt.alloc(), &mut to, entry).expect(&rt, "an entry is put");
-        to.send(rt.alloc()).expect(&rt, "an entry is sent");
+        to.send().expect(&rt, "an entry is sent");
     }
     let sent = to.to.as_slice();
-    let mut from = FrameReader::new(rt.alloc(), sent, RangeCfg { lo: 0, hi: 1 << 17 }).expect(
-        &rt,
-        "space for a read",
-    );
+    let mut from = FrameReader::new(rt.alloc(), sent, range).expect(&rt, "space for a read");
     for number in 0..3 {
         let entry = receive(rt.alloc(), &mut from)
             .expect(&rt, "an entry")

@@ -2,21 +2,19 @@
 use crate::frames::{BIG_16, BIG_24, BIG_32, BYTE, LITTLE_16, LITTLE_24, LITTLE_32, VARINT};
 use crate::same::assert_same;
 use iobufs::bufs::IoBufs;
-use iobufs_core::buf::IoBufMut;
+use iobufs_core::buf::{IoBuf, IoBufMut};
 use iobufs_core::codec::{Buf, BufError, Error, RangeCfg};
-use iobufs_frames::Prefix;
+use iobufs_frames::{FrameError, FrameReader, FrameWriter, Prefix, Writer, framed_with};
 use iobufs_made::text;
-use iobufs_streams::adapters::Writer;
-use iobufs_streams::echo::echo;
-use iobufs_streams::error::FrameError;
-use iobufs_streams::reader::FrameReader;
-use iobufs_streams::writer::{FrameWriter, framed};
+use iobufs_uses::echo::echo;
 use std::alloc::{AllocError, Global};
 use std::io::{self, ErrorKind, Read, Write};
 use std::process::Abort;
 use std::test::Fail;
 
 const RANGE: RangeCfg = RangeCfg { lo: 0, hi: 8 };
+
+const LONG: RangeCfg = RangeCfg { lo: 0, hi: 1 << 20 };
 
 // `abc`, nothing and `hello`, as each prefix writes them.
 const FRAMES: &[u8] = b"\x03abc\0\x05hello";
@@ -33,12 +31,36 @@ const FRAMES_BIG_32: &[u8] = b"\0\0\0\x03abc\0\0\0\0\0\0\0\x05hello";
 
 const FRAMES_LITTLE_32: &[u8] = b"\x03\0\0\0abc\0\0\0\0\x05\0\0\0hello";
 
-// A reader that gives at most `most` bytes at a time, after an interruption each, and fails at its end if it is broken.
+// How often each call is interrupted before it is done, and how often this one will still be.
+#[derive(Drop)]
+struct Interruptions {
+    each: usize,
+    left: usize,
+}
+
+impl Interruptions {
+    fn new(each: usize) -> Interruptions {
+        Interruptions { each, left: each }
+    }
+
+    fn next(&mut self) -> io::Result<()> {
+        if self.left == 0 {
+            self.left = self.each;
+            return Ok(());
+        }
+        self.left = self.left.saturating_sub(1);
+        Err(io::Error::from(ErrorKind::Interrupted))
+    }
+}
+
+// A reader that gives at most `most` bytes at a time, after so many interruptions each, and fails at its end if it is
+// broken. It counts the reads that aren't interrupted.
 #[derive(Drop)]
 struct Steps<'a> {
     left: &'a [u8],
     most: usize,
-    was_interrupted: bool,
+    interruptions: Interruptions,
+    reads: usize,
     is_broken: bool,
 }
 
@@ -47,7 +69,8 @@ impl<'a> Steps<'a> {
         Steps {
             left: bytes,
             most,
-            was_interrupted: false,
+            interruptions: Interruptions::new(1),
+            reads: 0,
             is_broken,
         }
     }
@@ -61,10 +84,8 @@ impl<'a> Steps<'a> {
 
 impl Read for Steps<'_> {
     fn read(&mut self, buf: &mut [u8]) -> io::Result<usize> {
-        self.was_interrupted = !self.was_interrupted;
-        if self.was_interrupted {
-            return Err(io::Error::from(ErrorKind::Interrupted));
-        }
+        self.interruptions.next()?;
+        self.reads = self.reads.saturating_add(1);
         if self.left.is_empty() && self.is_broken {
             return Err(io::Error::from(ErrorKind::ConnectionReset));
         }
@@ -75,15 +96,15 @@ impl Read for Steps<'_> {
     }
 }
 
-// A writer that takes at most `most` bytes at a time, after an interruption each, and records `|` for each flush. It fails
-// from its call `fails_at` on, of writes and flushes.
+// A writer that takes at most `most` bytes at a time, after an interruption each, and records `|` for each flush. It
+// fails from its call `fails_at` on, of writes and flushes.
 #[derive(Drop)]
 struct Recorder {
     calls: Vec<u8>,
     most: usize,
     count: usize,
     fails_at: usize,
-    was_interrupted: bool,
+    interruptions: Interruptions,
 }
 
 impl Recorder {
@@ -93,7 +114,7 @@ impl Recorder {
             most,
             count: 0,
             fails_at,
-            was_interrupted: false,
+            interruptions: Interruptions::new(1),
         }
     }
 
@@ -109,10 +130,7 @@ impl Recorder {
 
 impl Write for Recorder {
     fn write(&mut self, buf: &[u8]) -> io::Result<usize> {
-        self.was_interrupted = !self.was_interrupted;
-        if self.was_interrupted {
-            return Err(io::Error::from(ErrorKind::Interrupted));
-        }
+        self.interruptions.next()?;
         let n = buf.len().min(self.most);
         self.record(&buf[..n])?;
         Ok(n)
@@ -136,9 +154,8 @@ enum Ending {
 fn ending_by(error: FrameError) -> Ending {
     match error {
         FrameError::Cut => Ending::Cut,
-        FrameError::Bad(error) => Ending::Bad(error),
+        FrameError::Frame(error) => Ending::Bad(error),
         FrameError::Io(error) => Ending::Io(error.kind()),
-        FrameError::Memory | FrameError::TooLong => Ending::Other,
     }
 }
 
@@ -195,12 +212,11 @@ fn frame_reader<R: Read + Drop>(
 
 // Takes all bodies, with `|` after each, and tells why no further one comes.
 fn take_bodies<R: Read + Drop>(
-    alloc: Global,
     reader: &mut FrameReader<R>,
     bodies: &mut Vec<u8>,
 ) -> Result<Ending, AllocError> {
     for _ in 0..9 {
-        match reader.next(alloc) {
+        match reader.next() {
             Ok(Some(body)) => bodies.extend_from_slice(body.as_ref())?,
             Ok(None) => return Ok(Ending::End),
             Err(error) => return Ok(ending_by(error)),
@@ -220,8 +236,8 @@ fn assert_reading(
     let from = Steps::new(case.bytes, most, case.is_broken);
     let mut reader = frame_reader(rt.alloc(), case.prefix, from)?;
     let mut found = Vec::new(rt.alloc());
-    let first = take_bodies(rt.alloc(), &mut reader, &mut found)?;
-    let second = take_bodies(rt.alloc(), &mut reader, &mut found)?;
+    let first = take_bodies(&mut reader, &mut found)?;
+    let second = take_bodies(&mut reader, &mut found)?;
     assert_same!(rt; found.as_slice(), case.bodies, "{name} by {most}");
     assert_same!(rt; (first, second), (ending, ending), "{name} by {most}");
     Ok(())
@@ -237,7 +253,8 @@ fn frames_are_read(rt: HostRuntime) -> Result<(), Fail> {
     Ok(())
 }
 
-// A prefix, how many bytes the writer takes at most (each number in turn), the chunks of each body, and what is written.
+// A prefix, how many bytes the writer takes at most (each number in turn), the chunks of each body, and what is
+// written.
 type Writing = (
     Prefix,
     &'static [usize],
@@ -258,8 +275,8 @@ const WRITINGS: [Writing; 8] = rows! {
 
 fn frame_writer<W: Write + Drop>(prefix: Prefix, to: W) -> FrameWriter<W> {
     match prefix {
-        Prefix::Spelled => FrameWriter::new(to),
-        _ => FrameWriter::with_prefix(to, prefix),
+        Prefix::Spelled => FrameWriter::new(to, RANGE),
+        _ => FrameWriter::with_prefix(to, prefix, RANGE),
     }
 }
 
@@ -269,10 +286,10 @@ fn send_body<W: Write + Drop>(
     writer: &mut FrameWriter<W>,
     pieces: &[&'static [u8]],
 ) -> Result<(), Fail> {
-    assert!(rt; writer.is_sent());
-    writer.put(rt.alloc(), text(rt.alloc(), pieces)?)?;
-    assert!(rt; !writer.is_sent());
-    writer.send(rt.alloc())?;
+    assert!(rt; writer.rest.is_empty());
+    writer.put(text(rt.alloc(), pieces)?)?;
+    assert!(rt; !writer.rest.is_empty());
+    writer.send()?;
     Ok(())
 }
 
@@ -286,7 +303,7 @@ fn assert_writing(
     for body in bodies {
         send_body(rt, &mut writer, body)?;
     }
-    assert!(rt; writer.is_sent());
+    assert!(rt; writer.rest.is_empty());
     assert_same!(rt; writer.to.calls.as_slice(), written, "{prefix:?} by {most}");
     Ok(())
 }
@@ -304,13 +321,13 @@ fn frames_are_written(rt: HostRuntime) -> Result<(), Fail> {
 #[test]
 fn the_rest_of_a_frame_is_written_later(rt: HostRuntime) -> Result<(), Fail> {
     let alloc = rt.alloc();
-    let mut writer = FrameWriter::new(Recorder::new(alloc, 2, 2));
-    writer.put(alloc, text(alloc, &[b"abc", b"def"])?)?;
-    let refused = writer.send(alloc).map_err(|error| error.kind()).err();
+    let mut writer = FrameWriter::new(Recorder::new(alloc, 2, 2), RANGE);
+    writer.put(text(alloc, &[b"abc", b"def"])?)?;
+    let refused = writer.send().map_err(|error| error.kind()).err();
     assert_same!(rt; (refused, writer.rest.len()), (Some(ErrorKind::BrokenPipe), 4));
     assert_same!(rt; writer.to.calls.as_slice(), b"\x06ab".as_slice());
     writer.to.fails_at = usize::MAX;
-    writer.send(alloc)?;
+    writer.send()?;
     assert_same!(rt; writer.to.calls.as_slice(), b"\x06abcdef".as_slice());
     Ok(())
 }
@@ -319,13 +336,13 @@ fn the_rest_of_a_frame_is_written_later(rt: HostRuntime) -> Result<(), Fail> {
 #[test]
 fn a_flush_comes_before_the_rest_of_a_frame(rt: HostRuntime) -> Result<(), Fail> {
     let alloc = rt.alloc();
-    let mut writer = FrameWriter::new(Recorder::new(alloc, 100, 1));
-    writer.put(alloc, text(alloc, &[b"abc"])?)?;
-    let refused = writer.send(alloc).map_err(|error| error.kind()).err();
+    let mut writer = FrameWriter::new(Recorder::new(alloc, 100, 1), RANGE);
+    writer.put(text(alloc, &[b"abc"])?)?;
+    let refused = writer.send().map_err(|error| error.kind()).err();
     assert_same!(rt; (refused, writer.rest.len()), (Some(ErrorKind::BrokenPipe), 3));
     writer.to.fails_at = usize::MAX;
-    writer.flush()?;
-    writer.send(alloc)?;
+    writer.to.flush()?;
+    writer.send()?;
     assert_same!(rt; writer.to.calls.as_slice(), b"\x03|abc".as_slice());
     Ok(())
 }
@@ -381,28 +398,28 @@ fn an_error_is_returned_at_once(rt: HostRuntime) -> Result<(), Fail> {
     for kind in RETURNED {
         let mut reader = frame_reader(alloc, VARINT, FailsOnce::new(kind))?;
         let mut bodies = Vec::new(alloc);
-        let first = take_bodies(alloc, &mut reader, &mut bodies)?;
-        let second = take_bodies(alloc, &mut reader, &mut bodies)?;
+        let first = take_bodies(&mut reader, &mut bodies)?;
+        let second = take_bodies(&mut reader, &mut bodies)?;
         assert_same!(rt; (first, second), (Ending::Io(kind), Ending::End));
-        let mut writer = FrameWriter::new(FailsOnce::new(kind));
-        writer.put(alloc, text(alloc, &[b"ab"])?)?;
-        let refused = writer.send(alloc).map_err(|error| error.kind()).err();
+        let mut writer = FrameWriter::new(FailsOnce::new(kind), RANGE);
+        writer.put(text(alloc, &[b"ab"])?)?;
+        let refused = writer.send().map_err(|error| error.kind()).err();
         assert_same!(rt; (refused, writer.rest.len()), (Some(kind), 3));
-        writer.send(alloc)?;
-        assert!(rt; writer.is_sent());
+        writer.send()?;
+        assert!(rt; writer.rest.is_empty());
     }
     Ok(())
 }
 
-// `send` doesn't flush, and sends what `framed` returns.
+// `send` doesn't flush, and sends what `framed_with` returns.
 #[test]
 fn a_frame_is_sent_without_a_flush(rt: HostRuntime) -> Result<(), Fail> {
     let alloc = rt.alloc();
-    let frame = framed(alloc, text(alloc, &[b"abc", b"def"])?)?;
+    let frame = framed_with(alloc, VARINT, text(alloc, &[b"abc", b"def"])?)?;
     assert_same!(rt; frame.to_vec(alloc)?.as_slice(), b"\x06abcdef".as_slice());
-    let mut writer = FrameWriter::new(Recorder::new(alloc, 100, usize::MAX));
-    writer.put(alloc, text(alloc, &[b"abc", b"def"])?)?;
-    writer.send(alloc)?;
+    let mut writer = FrameWriter::new(Recorder::new(alloc, 100, usize::MAX), RANGE);
+    writer.put(text(alloc, &[b"abc", b"def"])?)?;
+    writer.send()?;
     assert_same!(rt; writer.to.calls.as_slice(), b"\x06abcdef".as_slice());
     Ok(())
 }
@@ -421,7 +438,7 @@ struct Echo {
     first: Ending,
     calls: &'static [u8],
     rest: usize,
-    // How `echo` ends once the writer is sent and flushed, and all that it took then.
+    // How `echo` ends if it is called again, and all that the writer took then.
     last: Ending,
     all: &'static [u8],
 }
@@ -468,12 +485,10 @@ const ECHOES: [Echo; 20] = echoes! {
 };
 
 fn echoed<R: Read + Drop, W: Write + Drop>(
-    rt: &(impl Abort + AllocGlobal),
     from: &mut FrameReader<R>,
     to: &mut FrameWriter<W>,
 ) -> Ending {
-    assert!(rt; to.is_sent());
-    match echo(rt.alloc(), from, to) {
+    match echo(from, to) {
         Ok(()) => Ending::End,
         Err(error) => ending_by(error),
     }
@@ -484,15 +499,13 @@ fn assert_echoed(rt: &(impl Abort + AllocGlobal), case: &Echo) -> Result<(), Fai
     let steps = Steps::new(case.bytes, 2, case.is_broken);
     let mut from = frame_reader(rt.alloc(), case.prefix, steps)?;
     let mut to = frame_writer(case.other, Recorder::new(rt.alloc(), 100, case.fails_at));
-    let ending = echoed(rt, &mut from, &mut to);
+    let ending = echoed(&mut from, &mut to);
     assert_same!(rt; (ending, to.to.calls.as_slice(), to.rest.len()), (case.first, case.calls, case.rest), "{name}");
     if case.is_broken {
         from.from.resume(case.more);
     }
     to.to.fails_at = usize::MAX;
-    to.send(rt.alloc())?;
-    to.flush()?;
-    let ending = echoed(rt, &mut from, &mut to);
+    let ending = echoed(&mut from, &mut to);
     assert_same!(rt; (ending, to.to.calls.as_slice()), (case.last, case.all), "{name}");
     Ok(())
 }
@@ -502,6 +515,94 @@ fn assert_echoed(rt: &(impl Abort + AllocGlobal), case: &Echo) -> Result<(), Fai
 fn frames_are_echoed(rt: HostRuntime) -> Result<(), Fail> {
     for case in &ECHOES {
         assert_echoed(&rt, case)?;
+    }
+    Ok(())
+}
+
+// How often each call is interrupted, how many bytes it moves at most, the lengths of a body's chunks, and how many
+// reads and writes its frame takes.
+type Counting = (usize, usize, &'static [usize], usize, usize);
+
+const COUNTINGS: [Counting; 7] = rows! {
+    0, usize::MAX, &[], 1, 1;
+    0, usize::MAX, &[1000], 1, 2;
+    0, usize::MAX, &[500, 500], 1, 3;
+    0, 1, &[100], 101, 101;
+    0, 7, &[1000], 144, 144;
+    1000, usize::MAX, &[1000], 1, 2;
+    1000, 7, &[500, 500], 144, 145;
+};
+
+fn is_kept(interruptions: &Interruptions) -> bool {
+    interruptions.each == interruptions.left
+}
+
+// Frames that come one by one, of a reader that fails if it is read past one.
+fn assert_counted(rt: &(impl Abort + AllocGlobal), case: &Counting) -> Result<(), Fail> {
+    let (each, most, lengths, reads, writes) = *case;
+    let mut body = IoBufs::default();
+    for n in lengths {
+        body.append(
+            rt.alloc(),
+            IoBuf::copy_from_slice(rt.alloc(), &[7; 1000][..*n])?,
+        )?;
+    }
+    let framed = framed_with(rt.alloc(), VARINT, body.clone()?)?;
+    let bytes = framed.to_vec(rt.alloc())?.leak();
+    let mut reader = FrameReader::new(rt.alloc(), Steps::new(bytes, most, true), LONG)?;
+    reader.from.interruptions = Interruptions::new(each);
+    let found = reader.next()?.ok_or("no frame")?;
+    assert_same!(rt; (found.len(), reader.from.reads), (body.len(), reads), "{lengths:?} by {most}");
+    let mut writer = FrameWriter::new(Recorder::new(rt.alloc(), most, usize::MAX), LONG);
+    writer.to.interruptions = Interruptions::new(each);
+    writer.put(body)?;
+    writer.send()?;
+    assert_same!(rt; (writer.to.count, writer.to.calls.as_slice()), (writes, bytes), "{lengths:?} by {most}");
+    assert!(rt; is_kept(&reader.from.interruptions) && is_kept(&writer.to.interruptions));
+    Ok(())
+}
+
+// Reads and writes that are interrupted are made again, and no others.
+#[test]
+fn reads_and_writes_are_counted(rt: HostRuntime) -> Result<(), Fail> {
+    for case in &COUNTINGS {
+        assert_counted(&rt, case)?;
+    }
+    Ok(())
+}
+
+// Lengths of bodies, of which some fill a block with their frame.
+const LONG_BODIES: [usize; 12] = [
+    4094,
+    4095,
+    8190,
+    16381,
+    16384,
+    65533,
+    65534,
+    65535,
+    65536,
+    70000,
+    1 << 19,
+    1 << 20,
+];
+
+// Each long frame is sent back before the next comes, in short reads and writes, and none is read past.
+#[test]
+fn long_frames_go_in_turn(rt: HostRuntime) -> Result<(), Fail> {
+    let alloc = rt.alloc();
+    let mut reader = FrameReader::new(alloc, Steps::new(b"", 1000, true), LONG)?;
+    let mut writer = FrameWriter::new(Recorder::new(alloc, 1000, usize::MAX), LONG);
+    for n in LONG_BODIES {
+        let bytes = framed_with(alloc, VARINT, long(alloc, n)?)?
+            .to_vec(alloc)?
+            .leak();
+        reader.from.left = bytes;
+        let body = reader.next()?.ok_or("no frame")?;
+        writer.to.calls.clear();
+        writer.put(IoBufs::from(body))?;
+        writer.send()?;
+        assert!(rt; writer.to.calls.as_slice() == bytes, "{n}");
     }
     Ok(())
 }
@@ -516,12 +617,13 @@ fn long(alloc: Global, len: usize) -> Result<IoBufs, BufError> {
 #[test]
 fn a_body_above_its_length_is_refused(rt: HostRuntime) -> Result<(), Fail> {
     let alloc = rt.alloc();
-    let mut writer = FrameWriter::with_prefix(Recorder::new(alloc, 100, usize::MAX), BIG_16);
-    let refused = writer.put(alloc, long(alloc, 65536)?).err();
+    let to = Recorder::new(alloc, 100, usize::MAX);
+    let mut writer = FrameWriter::with_prefix(to, BIG_16, LONG);
+    let refused = writer.put(long(alloc, 65536)?).err();
     let refused = refused.map(|refused| (refused.cause, refused.value.len()));
     assert_same!(rt; refused, Some((BufError::TooLong, 65536)));
-    assert!(rt; writer.is_sent());
-    writer.put(alloc, long(alloc, 65535)?)?;
+    assert!(rt; writer.rest.is_empty());
+    writer.put(long(alloc, 65535)?)?;
     let rest = &writer.rest;
     let found = (rest.len(), rest.byte_at(0), rest.byte_at(1));
     assert_same!(rt; found, (65537, Some(255), Some(255)));
@@ -531,14 +633,14 @@ fn a_body_above_its_length_is_refused(rt: HostRuntime) -> Result<(), Fail> {
 #[test]
 fn a_body_above_the_limit_is_refused(rt: HostRuntime) -> Result<(), Fail> {
     let alloc = rt.alloc();
-    let mut writer = FrameWriter::new(Recorder::new(alloc, 100, usize::MAX));
-    writer.most = 2;
-    let refused = writer.put(alloc, text(alloc, &[b"ab", b"c"])?).err();
+    let mut writer = FrameWriter::new(Recorder::new(alloc, 100, usize::MAX), RANGE);
+    writer.range.hi = 2;
+    let refused = writer.put(text(alloc, &[b"ab", b"c"])?).err();
     let refused = refused.map(|refused| (refused.cause, refused.value.len()));
     assert_same!(rt; refused, Some((BufError::TooLong, 3)));
-    assert!(rt; writer.is_sent());
-    writer.put(alloc, text(alloc, &[b"ab"])?)?;
-    writer.send(alloc)?;
+    assert!(rt; writer.rest.is_empty());
+    writer.put(text(alloc, &[b"ab"])?)?;
+    writer.send()?;
     assert_same!(rt; writer.to.calls.as_slice(), b"\x02ab".as_slice());
     Ok(())
 }
@@ -549,35 +651,29 @@ fn a_limit_applies_to_the_next_frame(rt: HostRuntime) -> Result<(), Fail> {
     let alloc = rt.alloc();
     let mut reader = frame_reader(alloc, VARINT, Steps::new(b"\x03ab", 100, true))?;
     let mut bodies = Vec::new(alloc);
-    let first = take_bodies(alloc, &mut reader, &mut bodies)?;
+    let first = take_bodies(&mut reader, &mut bodies)?;
     reader.from.resume(b"c\x01d");
     reader.range.hi = 2;
-    let second = take_bodies(alloc, &mut reader, &mut bodies)?;
+    let second = take_bodies(&mut reader, &mut bodies)?;
     reader.range.hi = 3;
-    let third = take_bodies(alloc, &mut reader, &mut bodies)?;
+    let third = take_bodies(&mut reader, &mut bodies)?;
     let above = Ending::Bad(Error::InvalidLength(3));
     assert_same!(rt; (first, second, third), (RESET, above, Ending::End));
     assert_same!(rt; bodies.as_slice(), b"abc|d|".as_slice());
     Ok(())
 }
 
-// Two frames come in one read, and the length of a third.
+// Two frames come in one read, and the length of a third. No frame that is held needs a read.
 #[test]
 fn held_frames_are_taken(rt: HostRuntime) -> Result<(), Fail> {
     let from = Steps::new(b"\x01a\x01b\x01", 100, true);
     let mut reader = frame_reader(rt.alloc(), VARINT, from)?;
-    let before = (
-        reader.has_frame(),
-        reader.next_held().ok().flatten().is_some(),
-    );
-    let first = reader.next(rt.alloc()).ok().flatten();
-    let after = reader.has_frame();
-    let second = reader.next_held().ok().flatten();
-    let last = (
-        reader.has_frame(),
-        reader.next_held().ok().flatten().is_some(),
-    );
-    assert_same!(rt; (before, after, last), ((false, false), true, (false, false)));
+    let before = reader.try_next().ok().flatten().is_some();
+    let first = reader.next().ok().flatten();
+    let reads = reader.from.reads;
+    let second = reader.try_next().ok().flatten();
+    let last = reader.try_next().ok().flatten().is_some();
+    assert_same!(rt; (before, last, reads, reader.from.reads), (false, false, 1, 1));
     let first = first.map(|body| body.len());
     let second = second.map(|body| body.as_ref() == b"b".as_slice());
     assert_same!(rt; (first, second), (Some(1), Some(true)));

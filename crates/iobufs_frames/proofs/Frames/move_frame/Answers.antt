@@ -1,5 +1,4 @@
 use Rattle.iobufs_frames.proofs.FrameLaws.{moved_one}
-use Rattle.iobufs_frames.proofs.MarkLaws.{moved_marks}
 use Rattle.iobufs_frames.proofs.Frames.move_frame.Goals as goal
 
 pub returns-in_ok-push-in-Ok-Some-clause-moved : goal.returns-in_ok-push-in-Ok-Some-clause-moved
@@ -11,8 +10,3 @@ pub returns-in_ok-push-in-Ok-Some-clause-shorter : goal.returns-in_ok-push-in-Ok
 returns-in_ok-push-in-Ok-Some-clause-shorter c =
     (moved_one c.args.self.now.prefix c.args.range.now c.args.self.now.rest.bytes c.next.new.self.rest.bytes c.in-Ok-Some.body c.in-Ok-Some.field-0 c.args.found.now.items
     c.push.new.self.items c.in-Ok-Some.field-0-is c.in-Ok-Some.ensures.next c.in_ok-push-in-Ok-Some.ensures.items).1
-
-pub returns-in_ok-push-in-Ok-Some-clause-marks : goal.returns-in_ok-push-in-Ok-Some-clause-marks
-returns-in_ok-push-in-Ok-Some-clause-marks c =
-    moved_marks c.args.self.now.prefix c.args.self.now.rest c.next.new.self.rest c.in-Ok-Some.body c.in-Ok-Some.field-0 c.args.found.now.items
-    c.push.new.self.items c.in-Ok-Some.field-0-is c.in-Ok-Some.ensures.body c.in-Ok-Some.ensures.left c.in_ok-push-in-Ok-Some.ensures.items

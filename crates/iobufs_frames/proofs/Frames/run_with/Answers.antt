@@ -1,10 +1,9 @@
-use Rattle.std.proofs.Common.{[], ◌∷◌, List, ◌++◌, length, arith, refl, ap, sym, ◌∙◌, append_assoc}
+use Rattle.std.proofs.Common.{[], List, ◌++◌, length, arith, refl, ap, sym, ◌∙◌, append_assoc}
 use Rattle.iobufs_core.specs.MarkedText.{MarkedText}
 use Rattle.iobufs_core.specs.View.{View}
 use Rattle.iobufs_core.specs.declared.codec.base.Error.TheVariants.{InvalidVarint}
 use Rattle.iobufs_frames.specs.Frames.{joined_bytes}
 use Rattle.iobufs_frames.proofs.FrameLaws.{open_is_not_bad, start}
-use Rattle.iobufs_frames.proofs.MarkLaws.{started}
 use Rattle.iobufs_frames.proofs.Frames.run_with.Goals as goal
 
 pub loop-piece-init : goal.loop-piece-init
@@ -13,11 +12,8 @@ loop-piece-init c = record {
   text = [];
   framed = start c.args.prefix c.args.range.now c.new-found.result.items c.new-frames.result.rest.bytes c.new-found.ensures.items
       (ap (λ (t : MarkedText). t.bytes) c.new-frames.ensures.empty);
-  whole = refl;
-  fed = [];
-  marks = started c.args.prefix c.new-found.result.items c.new-frames.result.rest c.new-found.ensures.items c.new-frames.ensures.empty;
   spelled = λ e. absurd (open_is_not_bad InvalidVarint e);
-  listed = refl;
+  whole = refl;
   fewer = omega arith;
 }
 
@@ -26,18 +22,13 @@ loop-piece-preserved c =
     let text = c.loop-piece.invariant.text in
     let taken = ap joined_bytes c.in-Some.ensures.steps.0 in
     let piece = c.in-Some.piece.bytes in
-    let fed = c.loop-piece.invariant.fed in
     let same = c.loop-piece.invariant.same in
     record {
       same = c.feed_and_move.ensures.prefix ∙ same;
       text = text ++ piece;
       framed = (rw same at c.in_ok-stop.ensures.framed) text c.loop-piece.invariant.framed;
-      whole = append_assoc text piece (joined_bytes c.next.new.self.rest.items) ∙ ap (λ xs. text ++ xs) (sym taken) ∙ c.loop-piece.invariant.whole;
-      fed = fed ++ c.in-Some.piece ∷ [];
-      marks = (rw same at c.in_ok-stop.ensures.marks) fed c.loop-piece.invariant.marks;
       spelled = (rw same at c.in_ok-stop.ensures.spelled) c.loop-piece.invariant.spelled;
-      listed =
-          append_assoc fed (c.in-Some.piece ∷ []) c.next.new.self.rest.items ∙ ap (λ views. fed ++ views) (sym c.in-Some.ensures.steps.0)
-          ∙ c.loop-piece.invariant.listed;
+      whole = append_assoc text piece (joined_bytes c.next.new.self.rest.items) ∙ ap (λ xs. text ++ xs) (sym taken)
+          ∙ c.loop-piece.invariant.whole;
       fewer = omega (arith, ap (λ (views : List View). length views) c.in-Some.ensures.steps.0, c.loop-piece.invariant.fewer);
     }

@@ -1,23 +1,18 @@
 use Rattle.std.proofs.Common.{◌≡◌, ◌≤◌, ℕ, List, ◌++◌, length}
-use Rattle.iobufs_core.specs.MarkedText.{joined}
-use Rattle.iobufs_core.specs.View.{View}
-use Rattle.iobufs_frames.specs.Frames.{IsFramed, IsTakenApart, bodies, joined_bytes}
+use Rattle.iobufs_frames.specs.Frames.{IsFramed, bodies, joined_bytes}
 use Rattle.iobufs_core.specs.declared.codec.base.Error.TheVariants.{InvalidVarint}
 use Rattle.iobufs_frames.specs.declared.End.TheVariants.{Bad}
 use Rattle.iobufs_frames.specs.declared.lengths.Prefix.TheVariants.{Spelled}
 use Rattle.iobufs_frames.proofs.Frames.run_with.Given as goal
 
--- the bytes fed so far are these frames and the rest, with their marks; the bytes still to be fed complete the
--- input. No more chunks are to be fed than there were
+-- the bytes fed so far are these frames and the rest; the bytes still to be fed complete the input. No more chunks are to be
+-- fed than there were
 abbrev pub invariant-loop-piece : goal.invariant-loop-piece
 invariant-loop-piece l = record {
   same : l.frames.prefix ≡ l.fn.prefix;
   text : List ℕ;
   framed : IsFramed l.fn.prefix l.range text (bodies l.found.items) l.stop l.frames.rest.bytes;
-  whole : text ++ joined_bytes l.piece-iterator.rest.items ≡ joined_bytes l.initial.piece-iterator.rest.items;
-  fed : List View;
-  marks : IsTakenApart l.fn.prefix (joined fed) l.found.items l.frames.rest;
   spelled : l.stop ≡ Bad InvalidVarint → l.fn.prefix ≡ Spelled;
-  listed : fed ++ l.piece-iterator.rest.items ≡ l.initial.piece-iterator.rest.items;
+  whole : text ++ joined_bytes l.piece-iterator.rest.items ≡ joined_bytes l.initial.piece-iterator.rest.items;
   fewer : length l.piece-iterator.rest.items ≤ length l.initial.piece-iterator.rest.items;
 }

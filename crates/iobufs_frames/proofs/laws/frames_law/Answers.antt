@@ -1,5 +1,5 @@
 use Rattle.iobufs_frames.proofs.FrameFacts.{begins_open, stays_bad}
-use Rattle.iobufs_frames.proofs.FrameLaws.{framed, one_reading}
+use Rattle.iobufs_frames.proofs.FrameLaws.{first_of_read, first_of_next, framed, one_reading}
 use Rattle.iobufs_frames.proofs.laws.frames_law.Goals as goal
 
 pub returns-clause-one : goal.returns-clause-one
@@ -7,6 +7,12 @@ returns-clause-one c = one_reading
 
 pub returns-clause-some : goal.returns-clause-some
 returns-clause-some c = framed
+
+pub returns-clause-first : goal.returns-clause-first
+returns-clause-first c = first_of_next
+
+pub returns-clause-read : goal.returns-clause-read
+returns-clause-read c = first_of_read
 
 pub returns-clause-begun : goal.returns-clause-begun
 returns-clause-begun c = begins_open

@@ -1,16 +1,17 @@
-use Rattle.std.proofs.Common.{ap, ◌∙◌, ◌++◌}
+use Rattle.std.proofs.Common.{Ok, ap, length, ◌∙◌}
 use Rattle.iobufs_core.specs.MarkedText.{MarkedText, text_prepend}
-use Rattle.iobufs_core.specs.View.{View}
 use Rattle.iobufs_frames.specs.Prefixes.{prefix_view}
-use Rattle.iobufs_frames.proofs.PrefixLaws.{bytes-prepend}
+use Rattle.iobufs_frames.proofs.FrameLaws.{prefix_long}
+use Rattle.iobufs_frames.proofs.PrefixLaws.{bytes-prepend, copied_length}
 use Rattle.iobufs_frames.proofs.lengths.framed_with.Goals as goal
 
-pub returns-in-Ok-prepend-clause-chunks : goal.returns-in-Ok-prepend-clause-chunks
-returns-in-Ok-prepend-clause-chunks c =
-    c.in-Ok-prepend.ensures.done
-    ∙ ap (text_prepend c.args.body) (c.in-Ok.ensures.view ∙ ap (prefix_view c.args.prefix) c.len-len.ensures.value)
-
-pub returns-in-Ok-prepend-clause-bytes : goal.returns-in-Ok-prepend-clause-bytes
-returns-in-Ok-prepend-clause-bytes c =
-    ap (λ (t : MarkedText). t.bytes) c.in-Ok-prepend.ensures.done ∙ bytes-prepend c.args.body c.in-Ok.length
-    ∙ ap (λ (v : View). v.bytes ++ c.args.body.bytes) (c.in-Ok.ensures.view ∙ ap (prefix_view c.args.prefix) c.len-len.ensures.value)
+pub returns : goal.returns
+returns c =
+    let prefix = c.args.prefix in
+    let body = c.args.body in
+    let n = length body.bytes in
+    let (size, head) = rw c.len.ensures.value at c.in-Some.ensures in
+    let view = copied_length prefix n c.as_slice.result.now (Ok c.in-Ok.length) (c.as_slice.ensures ∙ head)
+    (prefix_long prefix n size.small) c.in-Ok.ensures.ok in
+    let done = c.in-Ok-prepend.ensures.done ∙ ap (text_prepend body) view in
+    (size, done, ap (λ (t : MarkedText). t.bytes) done ∙ bytes-prepend body (prefix_view prefix n))

@@ -7,6 +7,7 @@ pub invariant_of-self : goal.invariant_of-self
 invariant_of-self c =
     let r = c.self.inside in
     let same : c.truncate.new.self.items ≡ r.block.items = c.truncate.ensures.items
-    ∙ ap (λ n. take n c.advance_mut.new.self.items) (c.len-len.ensures ∙ sym (ap (λ (v : ReceivedBytes). length v.bytes) c.self.view_is))
+    ∙ ap (λ n. take n c.advance_mut.new.self.items) (c.len-len.ensures.value
+    ∙ sym (ap (λ (v : ReceivedBytes). length v.bytes) c.self.view_is))
     ∙ c.advance_mut.ensures.front in
     λ l is. subst (λ (w : List ℕ). IsSeenAt r.prefix w l.value l.len) (sym same) (c.self.invariant l is)

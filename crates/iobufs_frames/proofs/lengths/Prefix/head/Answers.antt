@@ -9,5 +9,6 @@ write-requires c = omega (arith, length-spell c.args.n, ap (λ (p : Part). p.spa
 
 pub returns-in-Spelled : goal.returns-in-Spelled
 returns-in-Spelled c =
-    ap (λ (p : Part). p.filled) c.put_u8.ensures.1 ∙ ap (λ (p : Part). p.filled ++ c.args.n ∷ []) c.new-head.ensures ∙ sym (spell-last c.args.n c.if-n-lt128.true)
+    ap (λ (p : Part). p.filled) c.put_u8.ensures.1 ∙ ap (λ (p : Part). p.filled ++ c.args.n ∷ []) c.new-head.ensures
+    ∙ sym (spell-last c.args.n c.if-n-lt128.true)
     ∙ ap (λ p. prefix_written p c.args.n) (sym c.in-Spelled.is)

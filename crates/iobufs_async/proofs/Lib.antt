@@ -1,2 +1,0 @@
-pub mod PollLaws
-pub mod SinkLaws

@@ -1,3 +1,0 @@
-pub mod Polls
-pub mod Sinks
-pub mod Steps

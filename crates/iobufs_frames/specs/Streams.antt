@@ -1,0 +1,107 @@
+-- Frames on std's readers and writers, over the whole reader or writer before and after a call.
+--     BeginsReading   nothing was read
+--     IsNeeded        nothing was asked of the reader, or before the last read no whole frame was held
+--     TakesFrame      bytes were read, none more than the frame needs, and the frame at the front was taken
+--     IsFirstOfAll    so of a reader whose bytes are known: the frame is the first of all that it holds and may still read
+--     TakesHeld       the frame at the front of the held bytes was taken, without a read
+--     Fills           one read: bytes came, or it is at its end
+--     PutsFrame       a frame was begun, or the body is handed back
+--     SendsRest       bytes of the frame went, in order, and the others are left
+use Rattle.std.specs.Prelude.{◌≡◌, ◌≢◌, ◌⊎◌, ℕ, ◌<◌, Bool, true, false, Option, Result, Ok, Err, IfOk, IfSome, List, [], ◌++◌, length}
+use Rattle.std.specs.IoError.{error_kind}
+use Rattle.std.specs.declared.io.Error.{Error as IoError}
+use Rattle.std.specs.declared.io.ErrorKind.TheVariants.{Interrupted}
+use Rattle.std.specs.Io.KnownBytes.{Consumes, IsAtEnd}
+use Rattle.iobufs.specs.Sending.{IsSent}
+use Rattle.iobufs_core.specs.MarkedText.{MarkedText}
+use Rattle.iobufs_core.specs.View.{View, view_of_bytes}
+use Rattle.iobufs_core.specs.declared.codec.base.BufError.TheVariants.{TooLong}
+use Rattle.iobufs_core.specs.declared.codec.base.Error.{Error}
+use Rattle.iobufs_core.specs.declared.codec.base.RangeCfg.{RangeCfg}
+use Rattle.iobufs_core.specs.declared.codec.base.Refused.{Refused}
+use Rattle.iobufs_frames.specs.Frames.{CanBeSent, IsFirstOf, IsFramed, LacksFrame, ReadsFirst, TakesFirst}
+use Rattle.iobufs_frames.specs.Unsent.{IsAdvanced, unsent_frame}
+use Rattle.iobufs_frames.specs.declared.End.{End}
+use Rattle.iobufs_frames.specs.declared.End.TheVariants.{Open}
+use Rattle.iobufs_frames.specs.declared.error.FrameError.{FrameError}
+use Rattle.iobufs_frames.specs.declared.lengths.Prefix.{Prefix}
+use Rattle.iobufs_frames.specs.declared.reader.FrameReader.{FrameReader}
+use Rattle.iobufs_frames.specs.declared.writer.FrameWriter.{FrameWriter}
+
+-- a reader of which nothing was asked, with space for a read
+pub record BeginsReading {R : Type 0} (from : R) (prefix : Prefix) (range : RangeCfg) (reader : FrameReader R) : Type 0 where
+  pub source : reader.from ≡ from
+  pub written : reader.held.prefix ≡ prefix
+  pub admits : reader.range ≡ range
+  pub empty : reader.held.bytes ≡ []
+  pub space : 0 < reader.held.space
+
+-- before the last of these bytes were read, no whole frame was held
+pub record WasNeeded (prefix : Prefix) (range : RangeCfg) (held read : List ℕ) : Type 0 where
+  pub before : List ℕ
+  pub last : List ℕ
+  pub whole : read ≡ before ++ last
+  pub none : LacksFrame prefix range (held ++ before) Open
+
+-- the reader was not asked, or only for what a frame needed
+abbrev pub IsNeeded : Prefix → RangeCfg → List ℕ → List ℕ → Type 0 → Type 0
+IsNeeded prefix range held read idle = ((read ≡ []) × idle) ⊎ WasNeeded prefix range held read
+
+-- `next`: bytes were read, none more than the frame needs, and the frame at the front of all was taken
+pub record TakesFrame {R : Type 0} (remaining : R → Option (List ℕ)) (old : FrameReader R) (result : Result (Option View) FrameError)
+    (new : FrameReader R) : Type 0 where
+  pub read : List ℕ
+  pub took : Consumes (remaining old.from) (remaining new.from) read
+  pub needed : IsNeeded old.held.prefix old.range old.held.bytes read (new.from ≡ old.from)
+  pub first : ReadsFirst old.held.prefix old.range (IsAtEnd (remaining new.from)) (old.held.bytes ++ read) result new.held.bytes
+  pub shares : IfOk result (λ found. IfSome found (λ body. body ≡ view_of_bytes body.bytes))
+  pub prefix : new.held.prefix ≡ old.held.prefix
+  pub range : new.range ≡ old.range
+
+-- so of a reader whose bytes are known: the first of all frames that it holds and may still read, and the others are left
+abbrev pub IsFirstOfAll : {R : Type 0} → (R → Option (List ℕ)) → FrameReader R → Result (Option View) FrameError → FrameReader R → Type 0
+IsFirstOfAll remaining old result new =
+    IfSome (remaining old.from) (λ had. IfSome (remaining new.from) (λ has. (frames : List (List ℕ)) (end : End) (rest : List ℕ)
+    → IsFramed old.held.prefix old.range (old.held.bytes ++ had) frames end rest
+    → IsFirstOf old.held.prefix old.range frames end rest result (new.held.bytes ++ has)))
+
+-- `try_next`: the frame at the front of the held bytes was taken, without a read
+pub record TakesHeld {R : Type 0} (old : FrameReader R) (result : Result (Option View) Error) (new : FrameReader R) : Type 0 where
+  pub first : TakesFirst old.held.prefix old.range old.held.bytes result new.held.bytes
+  pub shares : IfOk result (λ found. IfSome found (λ body. body ≡ view_of_bytes body.bytes))
+  pub from : new.from ≡ old.from
+  pub prefix : new.held.prefix ≡ old.held.prefix
+  pub range : new.range ≡ old.range
+
+-- one read, which came to these bytes, or none at the end of the input, or failed and was no interruption
+abbrev pub Fills : {R : Type 0} → (R → Option (List ℕ)) → FrameReader R → Result Bool IoError → FrameReader R → Type 0
+Fills remaining old (Ok none) new =
+    ((read : List ℕ) × Consumes (remaining old.from) (remaining new.from) read × (new.held.bytes ≡ old.held.bytes ++ read)
+    × (none ≡ true → (read ≡ []) × IsAtEnd (remaining new.from)) × (none ≡ false → 0 < length read))
+    × (new.held.prefix ≡ old.held.prefix) × (new.range ≡ old.range)
+Fills remaining old (Err error) new =
+    Consumes (remaining old.from) (remaining new.from) [] × (new.held ≡ old.held) × (new.range ≡ old.range)
+    × (error_kind error ≢ Interrupted)
+
+-- `put`: a frame was begun, of which nothing is sent; a body that can't be sent is handed back, and all stays
+abbrev pub PutsFrame : {W : Type 0} → FrameWriter W → MarkedText → Result (Unit {0}) (Refused MarkedText) → FrameWriter W → Type 0
+PutsFrame old body (Ok done) new = CanBeSent old.prefix old.range (length body.bytes)
+    × (new ≡ record old { rest = unsent_frame old.prefix body })
+PutsFrame old body (Err refused) new =
+    (CanBeSent old.prefix old.range (length body.bytes) → ⊥) × (new ≡ old) × (refused ≡ record { cause = TooLong; value = body })
+
+-- how a send ends: all went; or some bytes are left after an error that was no interruption
+abbrev pub EndsSend : List ℕ → Result (Unit {0}) IoError → Type 0
+EndsSend rest (Ok done) = rest ≡ []
+EndsSend rest (Err error) = (0 < length rest) × (error_kind error ≢ Interrupted)
+
+-- `send`: bytes of the frame went, in order; what is left of it stays to be sent
+pub record SendsRest {W : Type 0} (contents : W → Option (List ℕ)) (old : FrameWriter W) (result : Result (Unit {0}) IoError)
+    (new : FrameWriter W) : Type 0 where
+  pub sent : IsSent (contents old.to) (contents new.to) old.rest.bytes new.rest.bytes
+  pub chunks : IsAdvanced old.rest new.rest
+  pub ends : EndsSend new.rest.bytes result
+  pub idle : old.rest.bytes ≡ [] → new ≡ old
+  pub flushed : 0 < length old.rest.bytes → new.is_flushed ≡ false
+  pub prefix : new.prefix ≡ old.prefix
+  pub range : new.range ≡ old.range

@@ -1,0 +1,46 @@
+-- An unsent frame, as contracts see it.
+--     UnsentBytes    what is left of its length and of its body, and the bytes of both
+--     unsent_nothing no frame
+--     unsent_frame   a frame of which nothing was sent
+--     unsent_rest    what is left of them after their first bytes; a body of which all went shares no block
+--     IsAdvanced     some bytes went, a few at a time
+use Rattle.std.specs.Prelude.{◌≡◌, ℕ, ◌-◌, List, [], ◌∷◌, length, drop}
+use Rattle.iobufs_core.specs.MarkedText.{MarkedText, default_text, text_rest}
+use Rattle.iobufs_frames.specs.Frames.{frame_written}
+use Rattle.iobufs_frames.specs.Prefixes.{prefix_written}
+use Rattle.iobufs_frames.specs.declared.lengths.Prefix.{Prefix}
+
+-- the unsent end of a frame's length, its unsent body, and the bytes of both
+pub record UnsentBytes : Type 0 where
+  pub head : List ℕ
+  pub body : MarkedText
+  pub bytes : List ℕ
+
+-- nothing
+abbrev pub unsent_nothing : UnsentBytes
+unsent_nothing = record { head = []; body = default_text; bytes = [] }
+
+-- a whole frame
+abbrev pub unsent_frame : Prefix → MarkedText → UnsentBytes
+unsent_frame prefix body = record {
+  head = prefix_written prefix (length body.bytes);
+  body = body;
+  bytes = frame_written prefix body.bytes;
+}
+
+-- the unsent bytes after the first n of them
+abbrev pub unsent_rest : UnsentBytes → ℕ → UnsentBytes
+unsent_rest unsent n = record {
+  head = drop n unsent.head;
+  body = text_rest unsent.body (n - length unsent.head);
+  bytes = drop n unsent.bytes;
+}
+
+-- so after several counts in turn, the last first
+abbrev pub unsent_after : UnsentBytes → List ℕ → UnsentBytes
+unsent_after unsent [] = unsent
+unsent_after unsent (n ∷ before) = unsent_rest (unsent_after unsent before) n
+
+-- some bytes went, a few at a time
+abbrev pub IsAdvanced : UnsentBytes → UnsentBytes → Type 0
+IsAdvanced old new = (counts : List ℕ) × (new ≡ unsent_after old counts)

@@ -1,3 +1,0 @@
-pub mod EchoLaws
-pub mod StreamLaws
-pub mod UnsentLaws
