@@ -1,3 +1,4 @@
 mod Again
+mod Cut
 mod InOrderLaws
 mod WebLaws

@@ -1,3 +1,4 @@
 pub mod InOrder
+pub mod Records
 pub mod Send
 pub mod Web

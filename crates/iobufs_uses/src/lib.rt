@@ -18,6 +18,7 @@ mod framed_tests;
 pub mod note;
 pub mod polled;
 pub mod pool;
+pub mod records;
 pub mod request;
 pub mod send;
 pub mod start;
