@@ -2,10 +2,10 @@
 use crate::same::assert_same;
 use iobufs_core::buf::IoBuf;
 use iobufs_core::codec::BufError;
+use iobufs_examples::frame::{echo, frame, read_frame};
+use iobufs_examples::send::send;
+use iobufs_examples::store::store;
 use iobufs_made::{chunks, parts, text};
-use iobufs_uses::frame::{echo, frame, read_frame};
-use iobufs_uses::send::send;
-use iobufs_uses::store::store;
 use std::alloc::Global;
 use std::io::{self, ErrorKind, Write};
 use std::test::Fail;

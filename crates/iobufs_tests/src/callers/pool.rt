@@ -1,8 +1,8 @@
 // A pool over a machine, without allocation failure.
 use crate::same::assert_same;
+use iobufs_examples::pool::Pool;
 use iobufs_owner::format::FORMAT_64;
 use iobufs_owner::owner::{Act, Call, Freed, Machine, Reply, Step};
-use iobufs_uses::pool::Pool;
 use std::process::Abort;
 use std::test::Fail;
 

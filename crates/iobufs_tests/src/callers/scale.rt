@@ -3,7 +3,7 @@ use crate::same::assert_same;
 use iobufs::bufs_mut::IoBufsMut;
 use iobufs_core::buf::IoBufMut;
 use iobufs_core::codec::{Buf, BufError, BufMut};
-use iobufs_uses::store::store;
+use iobufs_examples::store::store;
 use std::alloc::Global;
 use std::process::Abort;
 use std::test::Fail;

@@ -7,9 +7,9 @@ use crate::wire::whole::{END, assert_front, assert_prefixes, assert_refused, ass
 use iobufs::bufs::IoBufs;
 use iobufs_core::buf::IoBuf;
 use iobufs_core::codec::{EncodeSize, Error, RangeCfg, Write};
-use iobufs_uses::note::{Letter, Note};
-use iobufs_uses::request::{Request, RequestParts};
-use iobufs_uses::start::Entry;
+use iobufs_examples::note::{Letter, Note};
+use iobufs_examples::request::{Request, RequestParts};
+use iobufs_examples::start::Entry;
 use iobufs_values::{ByParts, Either, Fault, IntoParts, Kind, List, Look, Tagged};
 use std::process::Abort;
 use std::test::Fail;

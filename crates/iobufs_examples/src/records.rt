@@ -1,0 +1,64 @@
+// Records in a file, each a frame.
+ghost use Rattle.std.specs.Prelude.{◌≡◌, ℕ, [], List, ◌++◌, IfOk, OnOk};
+ghost use Rattle.std.specs.Io.KnownBytes.{Appends};
+ghost use Rattle.iobufs_frames.specs.Frames.{CanAllFollow, all_written, bodies, frame_written, joined_bytes};
+ghost use Rattle.iobufs_frames.specs.declared.lengths.Prefix.TheVariants.{Spelled};
+ghost use Rattle.iobufs_examples.specs.Records.{IsReadUpTo};
+
+use iobufs::bufs::IoBufs;
+use iobufs_core::buf::IoBuf;
+use iobufs_core::codec::{BufError, Error, RangeCfg};
+use iobufs_frames::laws::frames_law;
+use iobufs_frames::{End, FrameError, FrameWriter, Frames, Run};
+use std::alloc::Global;
+use std::fs::{self, File};
+use std::io::Write;
+use std::process::Abort;
+use std::test::Fail;
+
+/// Appends a record. After an error of the writer, `to.rest` has what isn't written, and `to.send()` goes on.
+pub fn append<W: Write + Drop>(to: &mut FrameWriter<W>, body: IoBufs) -> Result<(), FrameError>
+    requires { to.old.rest.bytes ≡ [] }
+    ensures { OnOk result (Appends (W.contents to.old.to) (W.contents to.new.to)
+        (frame_written to.old.prefix body.bytes)) }
+{
+    to.put(body).map_err(Error::from)?;
+    to.send()?;
+    Ok(())
+}
+
+/// Reads the records of a file, which comes in chunks. If it was cut, these are the records before the cut, and `rest`
+/// has the first bytes of the next one: it is empty exactly if the cut is between two records.
+pub fn records(alloc: Global, file: Vec<IoBuf>, range: &RangeCfg) -> Result<Run, BufError>
+    ensures { (all : List (List ℕ)) (lost : List ℕ) → CanAllFollow Spelled range.now all
+        → joined_bytes file.items ++ lost ≡ all_written Spelled all
+        → IfOk result (λ run. IsReadUpTo all lost (bodies run.frames.items) run.stop run.rest.bytes) }
+{
+    frames_law();
+    Frames::run(alloc, file, range)
+}
+
+#[test]
+fn a_cut_file_has_the_records_before_the_cut(rt: HostRuntime) -> Result<(), Fail> {
+    let alloc = rt.alloc();
+    let range = RangeCfg { lo: 0, hi: 8 };
+    let mut to = FrameWriter::new(File::create(&rt, "records")?, range);
+    for text in [b"ab".as_slice(), b"cde".as_slice()] {
+        append(&mut to, IoBufs::from(text)).expect(&rt, "a record is appended");
+    }
+    let file = fs::read(&rt, "records")?;
+    assert_eq!(rt; file.as_slice(), b"\x02ab\x03cde".as_slice());
+    for (len, whole, rest) in CUTS {
+        let cut = IoBuf::copy_from_slice(alloc, &file[..len])?;
+        let run = records(alloc, Vec::from_array(alloc, [cut])?, &range)?;
+        assert_eq!(rt;
+            (run.frames.len(), run.rest.len(), run.stop),
+            (whole, rest, End::Open)
+        );
+    }
+    Ok(())
+}
+
+// How many bytes of the file are left, how many records these have, and how many bytes follow.
+#[cfg(test)]
+const CUTS: [(usize, usize, usize); 5] = [(0, 0, 0), (2, 0, 2), (3, 1, 0), (6, 1, 3), (7, 2, 0)];
