@@ -15,7 +15,7 @@ RULES = [
     ("figure in prose", r"(?<![\w`^.\-])\d+[.,]\d+(?![\w`.])", 4),
 ]
 # Words that a sentence may have, and words of README and of all pages, without what is generated: RESULTS.md is as a whole.
-LONGEST, MOST = 40, {"README.md": 900, "all": 15000}
+LONGEST, MOST = 40, {"README.md": 1100, "all": 15000}
 GENERATED = r"(?s)<!-- generated: .*?<!-- end -->"
 # Comments of the crates that begin so, and words of place in a thousand of theirs.
 FIRST, FIRST_MOST, PLACE_MOST = r"(?i)(?:\A|^(?!\s*(?://|--)).*\n)\s*((?://[/!]?|--) (?:the same|and|likewise)\b)", 0, 5

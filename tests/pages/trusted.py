@@ -14,6 +14,7 @@ CONTRACTS = [
     ("`Machine::run`, the promises", "iobufs_owner/src/owner.rt", "run", ("moves",)),
     ("`Machine::run`, with the step tables", "iobufs_owner/src/owner.rt", "run", ()),
     ("`session`", "iobuf/src/serve.rt", "session", ()),
+    ("`Frames::run`", "iobufs_frames/src/lib.rt", "run", ()),
 ]
 
 

@@ -14,7 +14,7 @@ ghost use Rattle.iobufs_c.specs.Rows.{chunk_len, part_or_empty};
 use crate::part::PartAt;
 use crate::status::{Status, refusal};
 use crate::view::{ViewAt, ViewRoom, address};
-use iobufs::bufs::{IoBufs, ChunkSlice};
+use iobufs::bufs::{ChunkSlice, IoBufs};
 use iobufs_core::buf::IoBuf;
 use iobufs_core::codec::{Buf, OwnedBuf, Peek};
 use std::alloc::Global;
