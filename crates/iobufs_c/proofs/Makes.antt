@@ -56,8 +56,10 @@ may_lie V s (block_ptr b o) None = tt
 may_lie V s null_ptr None = tt
 
 module _ (V : RattleType) (name : Sym) (D : Type 0) (at : D → Ptr) (value : D → Option V.Denot)
-    (make : Ptr → Option V.Denot → D) (eta : (d : D) → make (at d) (value d) ≡ d) (at-make : (p : Ptr) (v : Option V.Denot) → at (make p v) ≡ p)
-    (value-make : (p : Ptr) (v : Option V.Denot) → value (make p v) ≡ v) (codes : (v : Ptr × Unit {0}) → Coded (Also (Option V.Denot) (λ _. Done))) where
+    (make : Ptr → Option V.Denot → D) (eta : (d : D) → make (at d) (value d) ≡ d)
+    (at-make : (p : Ptr) (v : Option V.Denot) → at (make p v) ≡ p)
+    (value-make : (p : Ptr) (v : Option V.Denot) → value (make p v) ≡ v)
+    (codes : (v : Ptr × Unit {0}) → Coded (Also (Option V.Denot) (λ _. Done))) where
   abbrev pub struct : Record
   struct = record {
     name = name;
@@ -108,7 +110,8 @@ module _ (V : RattleType) (name : Sym) (D : Type 0) (at : D → Ptr) (value : D 
       ty_params = [];
       givens = 0;
       params = 2;
-      locals = local ty_unit value_local ∷ local (ty_ref (named 0) mut a) value_local ∷ local (lone V.mir) value_local ∷ local ty_ptr value_local ∷
+      locals = local ty_unit value_local ∷ local (ty_ref (named 0) mut a) value_local ∷ local
+          (lone V.mir) value_local ∷ local ty_ptr value_local ∷
           local ty_ptr value_local ∷ local (lone V.mir) value_local ∷ [];
       body = seq (block (seq (assign (place 3 []) (rv_opd (copy (place 1 (deref (lone Row.mir) ∷ field 0 ∷ [])))))
           (seq (assign (place 4 []) (rv_opd (copy (place 3 [])))) (seq (assign (place 5 []) (rv_opd (copy (place 2 []))))
@@ -149,15 +152,18 @@ module _ (V : RattleType) (name : Sym) (D : Type 0) (at : D → Ptr) (value : D 
         abbrev Had : Val → List (Item 𝓤)
         Had v = ‵ (fobs γ (Row.coded.code d)) ∷ ‵ (fbor κ (Borrowed (mem Row) rb ro γ)) ∷ ‵ (flft κ q) ∷ ‵ (V.own_val x (v ∷ [])) ∷ []
 
-        walk : value d ≡ None → (v : Val) → Typed (lone V.mir ∷ []) (v ∷ []) → ent 𝓤 (⋆ 𝓛 (Had v)) (WpFn 𝓤 H 𝓣.C 𝓣.Λ (maker a) (vptr rb ro ∷ v ∷ []) (Post v))
+        walk : value d ≡ None → (v : Val) → Typed (lone V.mir ∷ []) (v ∷ [])
+            → ent 𝓤 (⋆ 𝓛 (Had v)) (WpFn 𝓤 H 𝓣.C 𝓣.Λ (maker a) (vptr rb ro ∷ v ∷ []) (Post v))
         walk none v typed =
             let good = typed.0 in let new : D = with d x in
             qed 𝓛 (Had v) ∵ enter ! 𝓣.C 𝓣.Λ (maker a) (vptr rb ro ∷ v ∷ []) _ $ alloc_all ! (λ l. pass_all ! refl ((tt, tt), (good, tt)) $
             let Ev : Env 𝓤 H = env (maker a).locals l in
-            opens ! tt Row {h = d} rb ro (λ vs. move ! (1 ∷ []) $ fsplit ! $ fpick ! (λ vss. fsplit ! $ feq_l ! (λ ev. fsplit ! $ feq_l ! (λ ep. drop ! $
+            opens ! tt Row {h = d} rb ro (λ vs. move ! (1 ∷ []) $ fsplit ! $ fpick !
+            (λ vss. fsplit ! $ feq_l ! (λ ev. fsplit ! $ feq_l ! (λ ep. drop ! $
             rewrite ! 0 (λ (w : Option V.Denot). ‵ (may_lie_at V (at d) w)) none refl $
             in_a_block ! (at d) (λ p. room_at V p) (id⊢ 𝓤 (never 𝓤)) (λ b o e.
-            let ws : vs ≡ word b o ∷ [] = subst (λ (p : Ptr). vs ≡ vstruct (of_list (ptr_val p ∷ [])) ∷ []) e (subst (λ (ps : List Val). vs ≡ vstruct (of_list
+            let ws : vs ≡ word b o ∷ [] = subst (λ (p : Ptr). vs ≡ vstruct (of_list (ptr_val p ∷ [])) ∷ []) e
+            (subst (λ (ps : List Val). vs ≡ vstruct (of_list
             (ps ++ [])) ∷ []) ep ev) in
             rewrite ! 1 (λ (us : List Val). ‵ (cell_at full_share Row.mir us rb ro)) ws refl $ first ! $ blocks ! $
             sets ! (of_opd ! (load ! (through ! refl (fld ! refl (stop !))) (look_in ! 1 (sub ! 0 refl (whole !))))) refl (tt, tt) $
@@ -197,11 +203,13 @@ module _ (V : RattleType) (name : Sym) (D : Type 0) (at : D → Ptr) (value : D 
           let us0 : List Val = y.0.4.0 in let us1 : List Val = y.0.4.1.0 in
           qed 𝓛 (((‵ (flft κ y.0.1.0) ⊛ ‵ ftrue) ⊛ ‵ (owns (MutRef (named 0) κ Row ∷ V ∷ []) (self, (x, tt)) (us0, (us1, tt)))) ∷
           raw (fact 𝓤 (value self.now ≡ None)) ∷ []) ∵
-          move ! (1 ∷ []) $ heard ! (value self.now ≡ None) (λ none. split ! $ split ! $ move ! (2 ∷ []) $ fsplit ! $ fsplit3 ! $ feq_l ! (λ e0.
+          move ! (1 ∷ []) $ heard ! (value self.now ≡ None)
+          (λ none. split ! $ split ! $ move ! (2 ∷ []) $ fsplit ! $ fsplit3 ! $ feq_l ! (λ e0.
           move ! (2 ∷ []) $ fsplit ! $ peeks ! V (Is V) (shows 𝓛 V) x us1 (λ is.
           let one = alone (lone V.mir) us1 (subst (λ (τs : List Ty). Typed τs us1) laws.one ((laws.lawful 𝓛).typed x us1 is)) in
           rewrite ! 0 (λ (us : List Val). ‵ (V.own_val x us)) one.1 refl $ keep ! (2 ∷ 3 ∷ 4 ∷ 0 ∷ []) $
-          by ! (subst (λ (ws : List Val × List Val). ent 𝓤 (⋆ 𝓛 (Had a κ y.0.1.0 self.ref_ptr.0 self.ref_ptr.1 self.ghost_name self.now x one.0))
+          by ! (subst (λ (ws : List Val × List Val). ent 𝓤
+          (⋆ 𝓛 (Had a κ y.0.1.0 self.ref_ptr.0 self.ref_ptr.1 self.ghost_name self.now x one.0))
           (WpFn 𝓤 H 𝓣.C 𝓣.Λ (maker a) (ws.0 ++ (ws.1 ++ [])) ((walk_of 𝓛 ended stays (clauses 𝓛)).post
           ((y.0.0, y.0.1, y.0.2, y.0.3, (ws.0, (ws.1, tt))), y.1)))) (λ j. (sym e0 j, sym one.1 j))
           (walk a κ y.0.1.0 self.ref_ptr.0 self.ref_ptr.1 self.ghost_name self.now x none one.0 one.2))))))
@@ -209,7 +217,13 @@ module _ (V : RattleType) (name : Sym) (D : Type 0) (at : D → Ptr) (value : D 
     -- `take` reads the buffer out of memory that holds one, which is uninitialized memory then
     abbrev pub take_ended : Ended
     take_ended = record {
-      signature = record { lifetimes = 1; outlives = []; params = RefMutOf (0 ∷ []) tt (plain (λ κs. Row)) (λ κs. tt) ∷ []; result = plain (λ κs. V) };
+      signature = record {
+        lifetimes = 1;
+        outlives = [];
+        params = RefMutOf (0 ∷ []) tt (plain (λ κs. Row)) (λ κs. tt) ∷ [];
+        result = plain
+            (λ κs. V);
+      };
       kept = (yes, tt);
     }
 
@@ -223,10 +237,12 @@ module _ (V : RattleType) (name : Sym) (D : Type 0) (at : D → Ptr) (value : D 
       ty_params = [];
       givens = 0;
       params = 1;
-      locals = local (lone V.mir) value_local ∷ local (ty_ref (named 0) mut a) value_local ∷ local (lone V.mir) value_local ∷ local ty_ptr value_local ∷
+      locals = local (lone V.mir) value_local ∷ local (ty_ref (named 0) mut a) value_local ∷ local
+          (lone V.mir) value_local ∷ local ty_ptr value_local ∷
           local ty_ptr value_local ∷ [];
       body = seq (block (seq (assign (place 3 []) (rv_opd (copy (place 1 (deref (lone Row.mir) ∷ field 0 ∷ [])))))
-          (seq (assign (place 4 []) (rv_opd (copy (place 3 [])))) (assign (place 2 []) (rv_opd (copy (place 4 (deref (lone V.mir) ∷ []))))))))
+          (seq (assign (place 4 []) (rv_opd (copy (place 3 []))))
+          (assign (place 2 []) (rv_opd (copy (place 4 (deref (lone V.mir) ∷ []))))))))
           (seq (assign (place 0 []) (rv_opd (copy (place 2 [])))) return);
     }
 
@@ -266,23 +282,29 @@ module _ (V : RattleType) (name : Sym) (D : Type 0) (at : D → Ptr) (value : D 
             let new : D = make (at d) None in
             qed 𝓛 TakeHad ∵ enter ! 𝓣'.C 𝓣'.Λ (taker a) (vptr rb ro ∷ []) _ $ alloc_all ! (λ l. pass_all ! refl ((tt, tt), tt) $
             let Ev : Env 𝓤 H = env (taker a).locals l in
-            opens ! tt Row {h = d} rb ro (λ vs. move ! (1 ∷ []) $ fsplit ! $ fpick ! (λ vss. fsplit ! $ feq_l ! (λ ev. fsplit ! $ feq_l ! (λ ep. drop ! $
+            opens ! tt Row {h = d} rb ro (λ vs. move ! (1 ∷ []) $ fsplit ! $ fpick !
+            (λ vss. fsplit ! $ feq_l ! (λ ev. fsplit ! $ feq_l ! (λ ep. drop ! $
             rewrite ! 0 (λ (w : Option V.Denot). ‵ (may_lie_at V (at d) w)) has refl $
             in_a_block ! (at d) (λ p. lies_at V full_share p x) (id⊢ 𝓤 (never 𝓤)) (λ b o e.
-            let ws : vs ≡ word b o ∷ [] = subst (λ (p : Ptr). vs ≡ vstruct (of_list (ptr_val p ∷ [])) ∷ []) e (subst (λ (ps : List Val). vs ≡ vstruct (of_list
+            let ws : vs ≡ word b o ∷ [] = subst (λ (p : Ptr). vs ≡ vstruct (of_list (ptr_val p ∷ [])) ∷ []) e
+            (subst (λ (ps : List Val). vs ≡ vstruct (of_list
             (ps ++ [])) ∷ []) ep ev) in
             rewrite ! 1 (λ (us : List Val). ‵ (cell_at full_share Row.mir us rb ro)) ws refl $
-            use1 𝓛 (some (λ (v : Val). ‵ (fat full_share (lone V.mir) b o v) ⊛ ‵ (V.own_val x (v ∷ [])))) (part_out 𝓛 V laws.one full_share x b o) $
+            use1 𝓛 (some (λ (v : Val). ‵ (fat full_share (lone V.mir) b o v) ⊛ ‵ (V.own_val x (v ∷ []))))
+            (part_out 𝓛 V laws.one full_share x b o) $
             pick ! (λ v. split ! $ move ! (1 ∷ []) $ peeks ! V (Is V) (shows 𝓛 V) x (v ∷ []) (λ is.
-            let good = (subst (λ (τs : List Ty). Typed τs (v ∷ [])) laws.one ((laws.lawful 𝓛).typed x (v ∷ []) is)).0 in first ! $ blocks ! $
+            let good = (subst (λ (τs : List Ty). Typed τs (v ∷ [])) laws.one
+            ((laws.lawful 𝓛).typed x (v ∷ []) is)).0 in first ! $ blocks ! $
             sets ! (of_opd ! (load ! (through ! refl (fld ! refl (stop !))) (look_in ! 2 (sub ! 0 refl (whole !))))) refl (tt, tt) $
-            sets ! (of_opd ! (get ! refl)) refl (tt, tt) $ sets_last ! (of_opd ! (load ! (through ! refl (stop !)) (look ! 1 refl))) refl good $
+            sets ! (of_opd ! (get ! refl)) refl (tt, tt) $ sets_last !
+            (of_opd ! (load ! (through ! refl (stop !)) (look ! 1 refl))) refl good $
             exec ! 𝓣'.C 𝓣'.Λ Ev (after 1 (taker a).body) (at_ret Ev TakePost) $ sets ! (of_opd ! (get ! refl)) refl good $
             -- [what the view owns; its cell; the handle's cell; the open borrow, in three entries]
             move ! (1 ∷ []) $ use1 𝓛 (‵ (froom (lone V.mir) b o)) (𝓛.laws.at_room (lone V.mir) b o v) $
             let p : Ptr = at new in let so : block_ptr b o ≡ p = sym (at-make (at d) None ∙ e) in
             rewrite ! 0 (λ (p : Ptr). ‵ (may_lie_at V p None)) so refl $
-            rewrite ! 0 (λ (w : Option V.Denot). ‵ (may_lie_at V p w)) (sym (value-make (at d) None)) refl $ move ! (0 ∷ 2 ∷ 3 ∷ 4 ∷ 5 ∷ []) $
+            rewrite ! 0 (λ (w : Option V.Denot). ‵ (may_lie_at V p w)) (sym (value-make (at d) None)) refl $ move !
+            (0 ∷ 2 ∷ 3 ∷ 4 ∷ 5 ∷ []) $
             nothing ! $ feq_i ! (List Val) (vptr b o ∷ []) (ptr_val p ∷ []) (λ i. ptr_val (so i) ∷ []) $ fjoin ! $
             feq_i ! (List Val) (word b o ∷ []) (word b o ∷ []) refl $ fjoin ! $
             fpack ! (Valss (RawPtr ∷ [])) (within (shape the_type) (p, tt) (word b o ∷ [])) (vptr b o ∷ [], tt) $ fjoin ! $
@@ -293,12 +315,14 @@ module _ (V : RattleType) (name : Sym) (D : Type 0) (at : D → Ptr) (value : D 
             nothing ! $ move ! (3 ∷ 0 ∷ []) $ join ! $ frame ! $ feq_i ! (List Val) (vptr rb ro ∷ []) (vptr rb ro ∷ []) refl $ fjoin3 ! $
             nothing ! $ move ! (1 ∷ 0 ∷ []) $ fjoin ! $ done !))))))))
 
-      pub takes : (k : Callee) (a : Ty) → Closed 𝓤 H 𝓣'.C 𝓣'.Λ k (taker a) → Meets 𝓛 take_ended.signature (𝓣'.C k) (closing 𝓛 take_ended (take_clauses 𝓛))
+      pub takes : (k : Callee) (a : Ty) → Closed 𝓤 H 𝓣'.C 𝓣'.Λ k (taker a)
+          → Meets 𝓛 take_ended.signature (𝓣'.C k) (closing 𝓛 take_ended (take_clauses 𝓛))
       takes k a closed =
           proved 𝓛 take_ended take_stays (take_clauses 𝓛) 𝓜 𝓡 (Goes-ref 𝓛 1 0 tt (plain (λ _. Row)), tt) k (taker a) closed
           (λ κs. (mut_vals, tt)) (λ κs. (mut_Tells (named 0) κs.0 Row, tt)) (λ κs qs bounds y gh are.
           let self : MutBor D = y.0 in
-          qed 𝓛 (((‵ (flft κs.0 qs.0) ⊛ ‵ ftrue) ⊛ ‵ (owns (types_at take_ended.signature.params κs) y (vptr self.ref_ptr.0 self.ref_ptr.1 ∷ [], tt))) ∷
+          qed 𝓛 (((‵ (flft κs.0 qs.0) ⊛ ‵ ftrue) ⊛ ‵
+          (owns (types_at take_ended.signature.params κs) y (vptr self.ref_ptr.0 self.ref_ptr.1 ∷ [], tt))) ∷
           raw (fact 𝓤 (value self.now ≡ None → ⊥)) ∷ []) ∵
           move ! (1 ∷ []) $ heard ! (value self.now ≡ None → ⊥) (λ has. let found = held (value self.now) has in
           split ! $ split ! $ move ! (2 ∷ []) $ fsplit ! $ fsplit3 ! $ keep ! (1 ∷ 2 ∷ 4 ∷ []) $

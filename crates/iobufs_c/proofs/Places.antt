@@ -99,11 +99,13 @@ module _ (V : RattleType) (name : Sym) (D : Type 0) (at : D → Ptr) (value : D 
     ty_params = [];
     givens = 0;
     params = 1;
-    locals = local (ty_ref (named 0) mut a) value_local ∷ local (ty_ref (named 0) mut b) value_local ∷ local (ty_ref erased mut c) value_local ∷
+    locals = local (ty_ref (named 0) mut a) value_local ∷ local (ty_ref (named 0) mut b) value_local ∷ local
+        (ty_ref erased mut c) value_local ∷
         local ty_ptr value_local ∷ local ty_ptr value_local ∷ [];
     body = seq (block (seq (assign (place 3 []) (rv_opd (copy (place 1 (deref (lone Row.mir) ∷ field 0 ∷ [])))))
         (seq (assign (place 4 []) (rv_opd (copy (place 3 []))))
-        (assign (place 2 []) (addr_of (place 4 (deref (lone V.mir) ∷ []))))))) (seq (assign (place 0 []) (rv_opd (copy (place 2 [])))) return);
+        (assign (place 2 []) (addr_of (place 4 (deref (lone V.mir) ∷ []))))))) (seq (assign (place 0 []) (rv_opd
+        (copy (place 2 [])))) return);
   }
 
   abbrev word : ℕ → ℕ → Val
@@ -122,7 +124,8 @@ module _ (V : RattleType) (name : Sym) (D : Type 0) (at : D → Ptr) (value : D 
 
     module _ (d : D) (rb ro b o : ℕ) where
       back : at d ≡ block_ptr b o → (w : V.Denot)
-          → ent 𝓤 (sep 𝓤 (sem 𝓛 ((mem V).own_at w b o)) (sem 𝓛 (cell_at full_share Row.mir (word b o ∷ []) rb ro))) (sem 𝓛 ((mem Row).own_at (with d w) rb ro))
+          → ent 𝓤 (sep 𝓤 (sem 𝓛 ((mem V).own_at w b o)) (sem 𝓛 (cell_at full_share Row.mir (word b o ∷ []) rb ro)))
+          (sem 𝓛 ((mem Row).own_at (with d w) rb ro))
       unfolding part_of
       back e w =
           let p : Ptr = at (with d w) in let so : block_ptr b o ≡ p = sym (at-make (at d) w ∙ e) in
@@ -142,29 +145,37 @@ module _ (V : RattleType) (name : Sym) (D : Type 0) (at : D → Ptr) (value : D 
     pub lends : (k : Callee) (x y z : Ty) → Closed 𝓤 𝓛.H 𝓣.C 𝓣.Λ k (getter x y z) → Meets 𝓛 signature (𝓣.C k) (closing 𝓛 ended (clauses 𝓛))
     lends k x y z closed =
         let c = clauses 𝓛 in let fn : Fn = getter x y z in
-        let self = RefMutOf (0 ∷ []) tt (plain (λ _. Row)) (λ _. tt) in let hs : Stays ended.signature.params ended.kept = (stay_dropped self no, tt) in
+        let self = RefMutOf (0 ∷ []) tt (plain (λ _. Row))
+        (λ _. tt) in let hs : Stays ended.signature.params ended.kept = (stay_dropped self no, tt) in
         proved 𝓛 ended hs c 𝓜 𝓡 (Goes-spent_ref 𝓛 1 (0 ∷ []) tt (plain (λ _. Row)), tt) k fn closed
         (λ κs. (mut_vals, tt)) (λ κs. (mut_Tells (named 0) κs.0 Row, tt)) (λ κs qs bounds a gh are.
         let rb : ℕ = a.0.ref_ptr.0 in let ro : ℕ = a.0.ref_ptr.1 in let κ : Lft = κs.0 in let q : Share = qs.0 in let d : Row.Denot = a.0.now in
         let γ : GName = a.0.ghost_name in
         let at_entry : (walk_of 𝓛 ended hs c).Ghost = ((κs, qs, bounds, a, (vptr rb ro ∷ [], tt)), gh) in
         let Post : Val → SProp 𝓤 = (walk_of 𝓛 ended hs c).post at_entry in
-        qed 𝓛 (((‵ (flft κ q) ⊛ ‵ ftrue) ⊛ ‵ (owns (types_at ended.signature.params κs) a at_entry.0.4)) ∷ raw ((c κs a).requires gh) ∷ []) ∵
+        qed 𝓛 (((‵ (flft κ q) ⊛ ‵ ftrue) ⊛ ‵ (owns (types_at ended.signature.params κs) a at_entry.0.4)) ∷ raw ((c κs a).requires gh) ∷
+        []) ∵
         split ! $ split ! $ move ! (2 ∷ []) $ fsplit ! $ fsplit3 ! $ keep ! (1 ∷ 2 ∷ 4 ∷ []) $
         enter ! 𝓣.C 𝓣.Λ fn (vptr rb ro ∷ []) Post $ alloc_all ! (λ l. pass_all ! refl ((tt, tt), tt) $ let Ev = env fn.locals l in
-        opens ! tt Row {h = d} rb ro (λ vs. move ! (1 ∷ []) $ fsplit ! $ fpick ! (λ vss. fsplit ! $ feq_l ! (λ ev. fsplit ! $ feq_l ! (λ ep. drop ! $
+        opens ! tt Row {h = d} rb ro (λ vs. move ! (1 ∷ []) $ fsplit ! $ fpick !
+        (λ vss. fsplit ! $ feq_l ! (λ ev. fsplit ! $ feq_l ! (λ ep. drop ! $
         in_a_block ! (at d) (λ p. lies_at V full_share p (value d)) (id⊢ 𝓤 (never 𝓤)) (λ b o e.
-        let ws : vs ≡ word b o ∷ [] = subst (λ (p : Ptr). vs ≡ vstruct (of_list (ptr_val p ∷ [])) ∷ []) e (subst (λ (ps : List Val). vs ≡ vstruct (of_list
+        let ws : vs ≡ word b o ∷ [] = subst (λ (p : Ptr). vs ≡ vstruct (of_list (ptr_val p ∷ [])) ∷ []) e
+        (subst (λ (ps : List Val). vs ≡ vstruct (of_list
         (ps ++ [])) ∷ []) ep ev) in
         rewrite ! 1 (λ (us : List Val). ‵ (cell_at full_share Row.mir us rb ro)) ws refl $ first ! $ blocks ! $
         sets ! (of_opd ! (load ! (through ! refl (fld ! refl (stop !))) (look_in ! 1 (sub ! 0 refl (whole !))))) refl (tt, tt) $
         sets ! (of_opd ! (get ! refl)) refl (tt, tt) $ sets_last ! (addr ! (through ! refl (stop !))) refl (tt, tt) $
         exec ! 𝓣.C 𝓣.Λ Ev (after 1 fn.body) (at_ret Ev Post) $ sets ! (of_opd ! (get ! refl)) refl (tt, tt) $
         move ! (2 ∷ 3 ∷ 4 ∷ 0 ∷ 1 ∷ []) $ group ! 5 $
-        use1 𝓛 (later (some (λ (δ : GName). ‵ ((MutRef (named 0) κ V).own_val (record { ref_ptr = (b, o); ghost_name = δ; now = value d }) (vptr b o ∷ []))
+        use1 𝓛 (later (some (λ (δ : GName). ‵ ((MutRef (named 0) κ V).own_val (record { ref_ptr = (b, o); ghost_name = δ; now = value d })
+        (vptr b o ∷ []))
         ⊛ ‵ (flft κ q) ⊛ ‵ (follows Row V γ δ (with d)))))
-        (lends_Part 𝓛 Row V (with d) (named 0) κ q rb ro b o γ (sem 𝓛 (cell_at full_share Row.mir (word b o ∷ []) rb ro)) (back 𝓛 d rb ro b o e)
+        (lends_Part 𝓛 Row V (with d) (named 0) κ q rb ro b o γ (sem 𝓛 (cell_at full_share Row.mir (word b o ∷ []) rb ro))
+        (back 𝓛 d rb ro b o e)
         (Row.coded.code d) (Row.coded.code d) (value d)) $ await ! tt $ pick ! (λ δ. split3 ! $
         returns ! (look_at ! 0 refl) $ free_all ! refl $ keep ! (0 ∷ 1 ∷ 2 ∷ []) $
-        suffices ! _ (ends_at 𝓛 ended hs c at_entry (vptr b o) (record { ref_ptr = (b, o); ghost_name = δ; now = value d }) (tt, tt) (tt, tt)) $
-        nothing ! $ nothing ! $ fjoin ! $ join ! $ nothing ! $ move ! (2 ∷ 0 ∷ []) $ join ! $ join ! $ frame ! $ says ! refl $ done !))))))))
+        suffices ! _ (ends_at 𝓛 ended hs c at_entry (vptr b o) (record { ref_ptr = (b, o); ghost_name = δ; now = value d }) (tt, tt)
+        (tt, tt)) $
+        nothing ! $ nothing ! $ fjoin ! $ join ! $ nothing ! $ move !
+        (2 ∷ 0 ∷ []) $ join ! $ join ! $ frame ! $ says ! refl $ done !))))))))

@@ -39,7 +39,16 @@ module _ (V : RattleType) (laws : Laws V) (default : V.Denot) where
   made = record { signature = record { lifetimes = 0; outlives = []; params = []; result = plain (λ κs. V) }; kept = tt }
 
   abbrev pub inited : Ended
-  inited = record { signature = record { lifetimes = 0; outlives = []; params = plain (λ κs. RawPtr) ∷ []; result = plain (λ κs. unit) }; kept = (yes, tt) }
+  inited = record {
+    signature = record {
+      lifetimes = 0;
+      outlives = [];
+      params = plain (λ κs. RawPtr) ∷ [];
+      result = plain
+          (λ κs. unit);
+    };
+    kept = (yes, tt);
+  }
 
   abbrev pub initer : Callee → Fn
   initer k = record {
@@ -90,14 +99,17 @@ module _ (V : RattleType) (laws : Laws V) (default : V.Denot) where
     at_each : (p : Ptr) → ent 𝓤 (sep 𝓤 (on_entry 𝓛 inited.signature tt tt (p, tt) (rawptr_vals p, tt)) (sem 𝓛 (room_at V p))) (Runs p)
     at_each (block_ptr b o) =
         let k = triple_of 𝓛 made.signature (closing 𝓛 made (makes 𝓛)) in let y : k.Ghost = ((tt, tt, tt, tt, tt), tt) in
-        qed 𝓛 ((‵ ftrue ⊛ ‵ (owns (RawPtr ∷ []) (block_ptr b o, tt) (vptr b o ∷ [], tt))) ∷ ‵ (froom (lone V.mir) b o) ∷ []) ∵ enter ! 𝓣.C 𝓣.Λ (initer of)
+        qed 𝓛 ((‵ ftrue ⊛ ‵ (owns (RawPtr ∷ []) (block_ptr b o, tt) (vptr b o ∷ [], tt))) ∷ ‵ (froom (lone V.mir) b o) ∷
+        []) ∵ enter ! 𝓣.C 𝓣.Λ (initer of)
         (vptr b o ∷ []) _ $
         alloc_all ! (λ l. pass_all ! refl ((tt, tt), tt) $ sets ! (of_opd ! (get ! refl)) refl (tt, tt) $
         use0 𝓛 (raw (emp 𝓤)) (id⊢ 𝓤 (emp 𝓤)) $ nothing ! $ nothing ! $ join ! $ join ! $ use1 𝓛 (raw (k.pre y)) (id⊢ 𝓤 (k.pre y)) $
         calls_at ! fm k met y (no_more !) (λ v.
-        use1 𝓛 (later (some (λ (r : V.Denot). (‵ ftrue ⊛ ‵ (V.own_val r (v ∷ []))) ⊛ raw (ensured 𝓛 made (makes 𝓛) tt tt tt r)))) (id⊢ 𝓤 _) $
+        use1 𝓛 (later (some (λ (r : V.Denot). (‵ ftrue ⊛ ‵ (V.own_val r (v ∷ []))) ⊛ raw (ensured 𝓛 made (makes 𝓛) tt tt tt r))))
+        (id⊢ 𝓤 _) $
         await ! tt $ pick ! (λ r.
-        split ! $ move ! (1 ∷ []) $ use1 𝓛 (raw (fact 𝓤 (r ≡ default))) (ex_e 𝓤 _ (λ ws. snd∗ 𝓤 (sem 𝓛 (lasts made tt tt ws)) (fact 𝓤 (r ≡ default)))) $
+        split ! $ move ! (1 ∷ []) $ use1 𝓛 (raw (fact 𝓤 (r ≡ default)))
+        (ex_e 𝓤 _ (λ ws. snd∗ 𝓤 (sem 𝓛 (lasts made tt tt ws)) (fact 𝓤 (r ≡ default)))) $
         heard ! (r ≡ default) (λ e.
         split ! $ drop ! $ peeks ! V (Is V) (shows 𝓛 V) r (v ∷ []) (λ is.
         let good = (subst (λ (τs : List Ty). Typed τs (v ∷ [])) laws.one ((laws.lawful 𝓛).typed r (v ∷ []) is)).0 in
@@ -107,7 +119,8 @@ module _ (V : RattleType) (laws : Laws V) (default : V.Denot) where
         rewrite ! 0 (λ (x : V.Denot). ‵ (part_at V full_share x b o)) e refl $
         suffices ! _ (ends_at 𝓛 inited stays c (bound (block_ptr b o)) vunit tt (tt, tt) (tt, tt)) $ move ! (1 ∷ []) $ split ! $
         feq_i ! (List Val) (vunit ∷ []) (vunit ∷ []) refl $ move ! (2 ∷ 0 ∷ []) $ join ! $ move ! (1 ∷ 0 ∷ []) $ join ! $ done !)))))
-    at_each null_ptr = via 𝓤 (never 𝓤) (snd∗ 𝓤 (on_entry 𝓛 inited.signature tt tt (null_ptr, tt) (rawptr_vals null_ptr, tt)) (never 𝓤)) (never_e 𝓤 _)
+    at_each null_ptr = via 𝓤 (never 𝓤) (snd∗ 𝓤 (on_entry 𝓛 inited.signature tt tt (null_ptr, tt) (rawptr_vals null_ptr, tt)) (never 𝓤))
+        (never_e 𝓤 _)
 
     pub inits : (k : Callee) → Closed 𝓤 H 𝓣.C 𝓣.Λ k (initer of) → Meets 𝓛 inited.signature (𝓣.C k) (closing 𝓛 inited (writes 𝓛))
     inits k closed = proved 𝓛 inited stays c 𝓜 𝓡 (Goes-none 𝓛 0 (λ _. RawPtr) yes (λ κs x f. refl), tt) k (initer of) closed

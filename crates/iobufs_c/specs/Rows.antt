@@ -67,4 +67,5 @@ held_parts (None ∷ places) = held_parts places
 
 -- a bound as C says it: 0 for one that belongs to the range, 1 for one that doesn't, 2 for no bound
 abbrev pub bound_from_c : ℕ → ℕ → Option (Bound ℕ)
-bound_from_c kind n = if kind == 0 then Some (Included n) else if kind == 1 then Some (Excluded n) else if kind == 2 then Some Unbounded else None
+bound_from_c kind n = if kind == 0 then Some (Included n) else if kind == 1 then Some
+    (Excluded n) else if kind == 2 then Some Unbounded else None

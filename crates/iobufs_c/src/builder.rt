@@ -20,7 +20,8 @@ use std::alloc::Global;
 use std::marker::{Model, Send};
 use std::mem;
 
-/// The handle of a builder, or of none, in the caller's memory. No builder reads as one of capacity 0, and takes nothing.
+/// The handle of a builder, or of none, in the caller's memory. No builder reads as one of capacity 0, and takes
+/// nothing.
 #[repr(C)]
 pub struct BuilderAt {
     at: *mut u8,
@@ -43,7 +44,8 @@ impl BuilderAt {
 
     /// Borrows the contents of the handle.
     pub(crate) fn get(&mut self) -> &mut Option<Builder>
-        ensures* writes_back { sem 𝓛 (Lends the_row builder_row self.entry result (λ v. record { at = self.old.at; value = v })) }
+        ensures* writes_back { sem 𝓛 (Lends the_row builder_row self.entry result
+            (λ v. record { at = self.old.at; value = v })) }
         ensures value { result.now ≡ self.old.value }
     {
         unsafe { &mut *(self.at as *mut Option<Builder>) }
@@ -90,7 +92,8 @@ pub extern "C" fn iobufs_builder_drop(builder: &mut BuilderAt)
     *builder.get() = None;
 }
 
-/// Makes a builder for `capacity` inline bytes. Returns `Status::BadLayout` or `Status::Memory` if that fails; then `out` is
+/// Makes a builder for `capacity` inline bytes. Returns `Status::BadLayout` or `Status::Memory` if that fails; then
+/// `out` is
 /// unchanged.
 #[unsafe(no_mangle)]
 pub extern "C" fn iobufs_builder_new(alloc: Global, capacity: usize, out: &mut BuilderAt) -> u8
@@ -125,8 +128,10 @@ pub extern "C" fn iobufs_builder_remaining_mut(builder: &mut BuilderAt) -> usize
 #[unsafe(no_mangle)]
 pub extern "C" fn iobufs_builder_put_slice(builder: &mut BuilderAt, src: &[u8]) -> u8
     ensures at { builder.new.at ≡ builder.old.at }
-    ensures value { builder.new.value ≡ (if result == 0 then option_map (λ b. building_put b src.now) builder.old.value else builder.old.value) }
-    ensures result { result ≡ (if nat_le (length src.now) (building_room (building_or_empty builder.old.value)) then 0 else code_of Status.OutOfRange) }
+    ensures value { builder.new.value ≡ (if result == 0 then option_map
+        (λ b. building_put b src.now) builder.old.value else builder.old.value) }
+    ensures result { result ≡ (if nat_le (length src.now)
+        (building_room (building_or_empty builder.old.value)) then 0 else code_of Status.OutOfRange) }
 {
     let Some(builder) = builder.get() else {
         return fits(src.len(), 0);
@@ -142,8 +147,10 @@ pub extern "C" fn iobufs_builder_put_slice(builder: &mut BuilderAt, src: &[u8]) 
 #[unsafe(no_mangle)]
 pub extern "C" fn iobufs_builder_put_bytes(builder: &mut BuilderAt, value: u8, n: usize) -> u8
     ensures at { builder.new.at ≡ builder.old.at }
-    ensures value { builder.new.value ≡ (if result == 0 then option_map (λ b. building_put b (replicate n value)) builder.old.value else builder.old.value) }
-    ensures result { result ≡ (if nat_le n (building_room (building_or_empty builder.old.value)) then 0 else code_of Status.OutOfRange) }
+    ensures value { builder.new.value ≡ (if result == 0 then option_map
+        (λ b. building_put b (replicate n value)) builder.old.value else builder.old.value) }
+    ensures result { result ≡ (if nat_le n (building_room
+        (building_or_empty builder.old.value)) then 0 else code_of Status.OutOfRange) }
 {
     let Some(builder) = builder.get() else {
         return fits(n, 0);
@@ -159,8 +166,10 @@ pub extern "C" fn iobufs_builder_put_bytes(builder: &mut BuilderAt, value: u8, n
 #[unsafe(no_mangle)]
 pub extern "C" fn iobufs_builder_put_u8(builder: &mut BuilderAt, n: u8) -> u8
     ensures at { builder.new.at ≡ builder.old.at }
-    ensures value { builder.new.value ≡ (if result == 0 then option_map (λ b. building_put b (n ∷ [])) builder.old.value else builder.old.value) }
-    ensures result { result ≡ (if nat_le 1 (building_room (building_or_empty builder.old.value)) then 0 else code_of Status.OutOfRange) }
+    ensures value { builder.new.value ≡ (if result == 0 then option_map
+        (λ b. building_put b (n ∷ [])) builder.old.value else builder.old.value) }
+    ensures result { result ≡ (if nat_le 1 (building_room
+        (building_or_empty builder.old.value)) then 0 else code_of Status.OutOfRange) }
 {
     let Some(builder) = builder.get() else {
         return fits(1, 0);
@@ -177,11 +186,14 @@ pub extern "C" fn iobufs_builder_put_u8(builder: &mut BuilderAt, n: u8) -> u8
 #[unsafe(no_mangle)]
 pub extern "C" fn iobufs_builder_push(builder: &mut BuilderAt, piece: &mut ViewAt) -> u8
     ensures at { (builder.new.at ≡ builder.old.at) × (piece.new.at ≡ piece.old.at) }
-    ensures value { builder.new.value ≡ (if result == 0 then option_map (λ b. building_push b piece.old.value) builder.old.value else builder.old.value) }
+    ensures value { builder.new.value ≡ (if result == 0 then option_map
+        (λ b. building_push b piece.old.value) builder.old.value else builder.old.value) }
     ensures piece { piece.new.value ≡ (if result == 0 then default_view else piece.old.value) }
     ensures none { builder.old.value ≡ None → result ≡ code_of Status.Declined }
-    ensures too_long { (b : Building) → builder.old.value ≡ Some b → room_for_pushes b < length piece.old.value.bytes → result ≡ code_of Status.TooLong }
-    ensures memory { (b : Building) → builder.old.value ≡ Some b → length piece.old.value.bytes ≤ room_for_pushes b → IsDoneUnless result Status.Memory }
+    ensures too_long { (b : Building) → builder.old.value ≡ Some b → room_for_pushes b < length piece.old.value.bytes
+        → result ≡ code_of Status.TooLong }
+    ensures memory { (b : Building) → builder.old.value ≡ Some b → length piece.old.value.bytes ≤ room_for_pushes b
+        → IsDoneUnless result Status.Memory }
     ensures nothing { (b : Building) → builder.old.value ≡ Some b → length piece.old.value.bytes ≡ 0 → result ≡ 0 }
 {
     let Some(builder) = builder.get() else {
@@ -196,13 +208,15 @@ pub extern "C" fn iobufs_builder_push(builder: &mut BuilderAt, piece: &mut ViewA
     }
 }
 
-/// Finishes the builder to an `IoBufs`; none is left. Returns `Status::Memory` if an allocation fails; then the builder is
+/// Finishes the builder to an `IoBufs`; none is left. Returns `Status::Memory` if an allocation fails; then the builder
+/// is
 /// dropped, and `out` unchanged.
 #[unsafe(no_mangle)]
 pub extern "C" fn iobufs_builder_finish(builder: &mut BuilderAt, out: &mut TextAt) -> u8
     ensures at { (builder.new.at ≡ builder.old.at) × (out.new.at ≡ out.old.at) }
     ensures builder { builder.new.value ≡ None }
-    ensures value { out.new.value ≡ (if result == 0 then finished (building_or_empty builder.old.value) else out.old.value) }
+    ensures value { out.new.value ≡ (if result == 0 then finished
+        (building_or_empty builder.old.value) else out.old.value) }
     ensures memory { IsDoneUnless result Status.Memory }
     ensures nothing { building_items (building_or_empty builder.old.value) ≡ [] → result ≡ 0 }
     ensures no_inline { items_inline (building_items (building_or_empty builder.old.value)) ≡ 0 → result ≡ 0 }

@@ -33,8 +33,10 @@ pub extern "C" fn iobufs_length_size(n: usize) -> usize
 #[unsafe(no_mangle)]
 pub extern "C" fn iobufmut_put_length(part: &mut PartAt, n: usize) -> u8
     ensures at { part.new.at ≡ part.old.at }
-    ensures value { part.new.value ≡ (if result == 0 then option_map (λ part. part_put part (spell n)) part.old.value else part.old.value) }
-    ensures result { result ≡ (if nat_le (length (spell n)) (part_or_empty part.old.value).spare then 0 else code_of Status.OutOfRange) }
+    ensures value { part.new.value ≡ (if result == 0 then option_map
+        (λ part. part_put part (spell n)) part.old.value else part.old.value) }
+    ensures result { result ≡ (if nat_le (length (spell n))
+        (part_or_empty part.old.value).spare then 0 else code_of Status.OutOfRange) }
 {
     let Some(part) = part.get() else {
         return fits(iobufs_length_size(n), 0);
@@ -50,8 +52,10 @@ pub extern "C" fn iobufmut_put_length(part: &mut PartAt, n: usize) -> u8
 #[unsafe(no_mangle)]
 pub extern "C" fn iobufsmut_put_length(parts: &mut PartsAt, n: usize) -> u8
     ensures at { parts.new.at ≡ parts.old.at }
-    ensures value { parts.new.value ≡ (if result == 0 then option_map (λ parts. parts_fill parts (spell n)) parts.old.value else parts.old.value) }
-    ensures result { result ≡ (if nat_le (length (spell n)) (parts_spare (parts_of parts.old.value)) then 0 else code_of Status.OutOfRange) }
+    ensures value { parts.new.value ≡ (if result == 0 then option_map
+        (λ parts. parts_fill parts (spell n)) parts.old.value else parts.old.value) }
+    ensures result { result ≡ (if nat_le (length (spell n))
+        (parts_spare (parts_of parts.old.value)) then 0 else code_of Status.OutOfRange) }
 {
     let Some(parts) = parts.get() else {
         return fits(iobufs_length_size(n), 0);
@@ -67,8 +71,10 @@ pub extern "C" fn iobufsmut_put_length(parts: &mut PartsAt, n: usize) -> u8
 #[unsafe(no_mangle)]
 pub extern "C" fn iobufs_builder_put_length(builder: &mut BuilderAt, n: usize) -> u8
     ensures at { builder.new.at ≡ builder.old.at }
-    ensures value { builder.new.value ≡ (if result == 0 then option_map (λ b. building_put b (spell n)) builder.old.value else builder.old.value) }
-    ensures result { result ≡ (if nat_le (length (spell n)) (building_room (building_or_empty builder.old.value)) then 0 else code_of Status.OutOfRange) }
+    ensures value { builder.new.value ≡ (if result == 0 then option_map
+        (λ b. building_put b (spell n)) builder.old.value else builder.old.value) }
+    ensures result { result ≡ (if nat_le (length (spell n))
+        (building_room (building_or_empty builder.old.value)) then 0 else code_of Status.OutOfRange) }
 {
     let Some(builder) = builder.get() else {
         return fits(iobufs_length_size(n), 0);
@@ -95,8 +101,10 @@ pub extern "C" fn iobufs_read_length(
     ensures read { result ≡ 0 → IsLengthRead text.old.value.bytes (record { lo = lo; hi = hi }) (Ok out.new) }
     ensures rest { result ≡ 0 → text.new.value ≡ text_advanced text.old.value (length (spell out.new)) }
     ensures unchanged { (result == 0) ≡ false → text.new.value ≡ text.old.value }
-    ensures open { result ≡ code_of Status.EndOfBuffer → IsLengthRead text.old.value.bytes (record { lo = lo; hi = hi }) (Err Error.EndOfBuffer) }
-    ensures invalid { result ≡ code_of Status.InvalidVarint → IsLengthRead text.old.value.bytes (record { lo = lo; hi = hi }) (Err Error.InvalidVarint) }
+    ensures open { result ≡ code_of Status.EndOfBuffer
+        → IsLengthRead text.old.value.bytes (record { lo = lo; hi = hi }) (Err Error.EndOfBuffer) }
+    ensures invalid { result ≡ code_of Status.InvalidVarint
+        → IsLengthRead text.old.value.bytes (record { lo = lo; hi = hi }) (Err Error.InvalidVarint) }
     ensures outside { result ≡ code_of Status.InvalidLength
         → IsLengthRead text.old.value.bytes (record { lo = lo; hi = hi }) (Err (Error.InvalidLength out.new)) }
     ensures out { (result == 0) ≡ false → (result == code_of Status.InvalidLength) ≡ false → out.new ≡ out.old }
@@ -129,8 +137,10 @@ pub extern "C" fn iobuf_read_length(
     ensures read { result ≡ 0 → IsLengthRead src.old.value.bytes (record { lo = lo; hi = hi }) (Ok out.new) }
     ensures rest { result ≡ 0 → src.new.value ≡ view_advanced src.old.value (length (spell out.new)) }
     ensures unchanged { (result == 0) ≡ false → src.new.value ≡ src.old.value }
-    ensures open { result ≡ code_of Status.EndOfBuffer → IsLengthRead src.old.value.bytes (record { lo = lo; hi = hi }) (Err Error.EndOfBuffer) }
-    ensures invalid { result ≡ code_of Status.InvalidVarint → IsLengthRead src.old.value.bytes (record { lo = lo; hi = hi }) (Err Error.InvalidVarint) }
+    ensures open { result ≡ code_of Status.EndOfBuffer
+        → IsLengthRead src.old.value.bytes (record { lo = lo; hi = hi }) (Err Error.EndOfBuffer) }
+    ensures invalid { result ≡ code_of Status.InvalidVarint
+        → IsLengthRead src.old.value.bytes (record { lo = lo; hi = hi }) (Err Error.InvalidVarint) }
     ensures outside { result ≡ code_of Status.InvalidLength
         → IsLengthRead src.old.value.bytes (record { lo = lo; hi = hi }) (Err (Error.InvalidLength out.new)) }
     ensures out { (result == 0) ≡ false → (result == code_of Status.InvalidLength) ≡ false → out.new ≡ out.old }
@@ -150,7 +160,8 @@ pub extern "C" fn iobuf_read_length(
     }
 }
 
-/// Reads a varint length from `lo` to `hi` at the front of an `IoBufs`, and the bytes after it as a view. Returns a status
+/// Reads a varint length from `lo` to `hi` at the front of an `IoBufs`, and the bytes after it as a view. Returns a
+/// status
 /// of `iobufs_read_length`, or `Status::Memory`; then both are unchanged.
 #[unsafe(no_mangle)]
 pub extern "C" fn iobufs_read_view(
@@ -164,10 +175,14 @@ pub extern "C" fn iobufs_read_view(
     ensures read { result ≡ 0 → IsViewRead text.old.value (record { lo = lo; hi = hi }) (Ok out.new.value) }
     ensures rest { result ≡ 0 → text.new.value ≡ text_rest text.old.value (length (view_written out.new.value)) }
     ensures unchanged { (result == 0) ≡ false → (text.new.value ≡ text.old.value) × (out.new.value ≡ out.old.value) }
-    ensures open { result ≡ code_of Status.EndOfBuffer → IsViewFault text.old.value (record { lo = lo; hi = hi }) Error.EndOfBuffer }
-    ensures invalid { result ≡ code_of Status.InvalidVarint → IsViewFault text.old.value (record { lo = lo; hi = hi }) Error.InvalidVarint }
-    ensures outside { result ≡ code_of Status.InvalidLength → (n : ℕ) × IsViewFault text.old.value (record { lo = lo; hi = hi }) (Error.InvalidLength n) }
-    ensures memory { result ≡ code_of Status.Memory → IsViewFault text.old.value (record { lo = lo; hi = hi }) Error.Memory }
+    ensures open { result ≡ code_of Status.EndOfBuffer
+        → IsViewFault text.old.value (record { lo = lo; hi = hi }) Error.EndOfBuffer }
+    ensures invalid { result ≡ code_of Status.InvalidVarint
+        → IsViewFault text.old.value (record { lo = lo; hi = hi }) Error.InvalidVarint }
+    ensures outside { result ≡ code_of Status.InvalidLength
+        → (n : ℕ) × IsViewFault text.old.value (record { lo = lo; hi = hi }) (Error.InvalidLength n) }
+    ensures memory { result ≡ code_of Status.Memory
+        → IsViewFault text.old.value (record { lo = lo; hi = hi }) Error.Memory }
     ensures static_text { HasStaticView text.old.value (record { lo = lo; hi = hi }) → result ≡ 0 }
     ensures causes { IsViewReadCode result }
 {
@@ -194,11 +209,14 @@ pub extern "C" fn iobuf_read_view(
     ensures read { result ≡ 0 → IsViewRead (of_view src.old.value) (record { lo = lo; hi = hi }) (Ok out.new.value) }
     ensures rest { result ≡ 0 → src.new.value ≡ view_rest src.old.value (length (view_written out.new.value)) }
     ensures unchanged { (result == 0) ≡ false → (src.new.value ≡ src.old.value) × (out.new.value ≡ out.old.value) }
-    ensures open { result ≡ code_of Status.EndOfBuffer → IsViewFault (of_view src.old.value) (record { lo = lo; hi = hi }) Error.EndOfBuffer }
-    ensures invalid { result ≡ code_of Status.InvalidVarint → IsViewFault (of_view src.old.value) (record { lo = lo; hi = hi }) Error.InvalidVarint }
+    ensures open { result ≡ code_of Status.EndOfBuffer
+        → IsViewFault (of_view src.old.value) (record { lo = lo; hi = hi }) Error.EndOfBuffer }
+    ensures invalid { result ≡ code_of Status.InvalidVarint
+        → IsViewFault (of_view src.old.value) (record { lo = lo; hi = hi }) Error.InvalidVarint }
     ensures outside { result ≡ code_of Status.InvalidLength
         → (n : ℕ) × IsViewFault (of_view src.old.value) (record { lo = lo; hi = hi }) (Error.InvalidLength n) }
-    ensures memory { result ≡ code_of Status.Memory → IsViewFault (of_view src.old.value) (record { lo = lo; hi = hi }) Error.Memory }
+    ensures memory { result ≡ code_of Status.Memory
+        → IsViewFault (of_view src.old.value) (record { lo = lo; hi = hi }) Error.Memory }
     ensures static_text { HasStaticView (of_view src.old.value) (record { lo = lo; hi = hi }) → result ≡ 0 }
     ensures causes { IsViewReadCode result }
 {

@@ -20,23 +20,27 @@ use crate::view::ViewAt;
 use iobufs_core::codec::Read;
 use std::alloc::Global;
 
-/// Writes a big-endian number of two bytes into an `IoBufMut`. Returns `Status::OutOfRange` if it doesn't fit; then nothing
+/// Writes a big-endian number of two bytes into an `IoBufMut`. Returns `Status::OutOfRange` if it doesn't fit; then
+/// nothing
 /// changes.
 #[unsafe(no_mangle)]
 pub extern "C" fn iobufmut_put_u16(part: &mut PartAt, n: u16) -> u8
     ensures at { part.new.at ≡ part.old.at }
-    ensures value { part.new.value ≡ (if result == 0 then option_map (λ part. part_put part (to_be_bytes w16 n)) part.old.value else part.old.value) }
+    ensures value { part.new.value ≡ (if result == 0 then option_map
+        (λ part. part_put part (to_be_bytes w16 n)) part.old.value else part.old.value) }
     ensures result { result ≡ (if nat_le 2 (part_or_empty part.old.value).spare then 0 else code_of Status.OutOfRange) }
 {
     iobufmut_put_slice(part, &u16::to_be_bytes(n))
 }
 
-/// Writes a big-endian number of four bytes into an `IoBufMut`. Returns `Status::OutOfRange` if it doesn't fit; then nothing
+/// Writes a big-endian number of four bytes into an `IoBufMut`. Returns `Status::OutOfRange` if it doesn't fit; then
+/// nothing
 /// changes.
 #[unsafe(no_mangle)]
 pub extern "C" fn iobufmut_put_u32(part: &mut PartAt, n: u32) -> u8
     ensures at { part.new.at ≡ part.old.at }
-    ensures value { part.new.value ≡ (if result == 0 then option_map (λ part. part_put part (to_be_bytes w32 n)) part.old.value else part.old.value) }
+    ensures value { part.new.value ≡ (if result == 0 then option_map
+        (λ part. part_put part (to_be_bytes w32 n)) part.old.value else part.old.value) }
     ensures result { result ≡ (if nat_le 4 (part_or_empty part.old.value).spare then 0 else code_of Status.OutOfRange) }
 {
     iobufmut_put_slice(part, &u32::to_be_bytes(n))
@@ -47,19 +51,23 @@ pub extern "C" fn iobufmut_put_u32(part: &mut PartAt, n: u32) -> u8
 #[unsafe(no_mangle)]
 pub extern "C" fn iobufmut_put_u64(part: &mut PartAt, n: u64) -> u8
     ensures at { part.new.at ≡ part.old.at }
-    ensures value { part.new.value ≡ (if result == 0 then option_map (λ part. part_put part (to_be_bytes w64 n)) part.old.value else part.old.value) }
+    ensures value { part.new.value ≡ (if result == 0 then option_map
+        (λ part. part_put part (to_be_bytes w64 n)) part.old.value else part.old.value) }
     ensures result { result ≡ (if nat_le 8 (part_or_empty part.old.value).spare then 0 else code_of Status.OutOfRange) }
 {
     iobufmut_put_slice(part, &u64::to_be_bytes(n))
 }
 
-/// Writes a big-endian number of two bytes into an `IoBufsMut`. Returns `Status::OutOfRange` if it doesn't fit; then nothing
+/// Writes a big-endian number of two bytes into an `IoBufsMut`. Returns `Status::OutOfRange` if it doesn't fit; then
+/// nothing
 /// changes.
 #[unsafe(no_mangle)]
 pub extern "C" fn iobufsmut_put_u16(parts: &mut PartsAt, n: u16) -> u8
     ensures at { parts.new.at ≡ parts.old.at }
-    ensures value { parts.new.value ≡ (if result == 0 then option_map (λ parts. parts_fill parts (to_be_bytes w16 n)) parts.old.value else parts.old.value) }
-    ensures result { result ≡ (if nat_le 2 (parts_spare (parts_of parts.old.value)) then 0 else code_of Status.OutOfRange) }
+    ensures value { parts.new.value ≡ (if result == 0 then option_map
+        (λ parts. parts_fill parts (to_be_bytes w16 n)) parts.old.value else parts.old.value) }
+    ensures result { result ≡ (if nat_le 2 (parts_spare
+        (parts_of parts.old.value)) then 0 else code_of Status.OutOfRange) }
 {
     iobufsmut_put_slice(parts, &u16::to_be_bytes(n))
 }
@@ -69,8 +77,10 @@ pub extern "C" fn iobufsmut_put_u16(parts: &mut PartsAt, n: u16) -> u8
 #[unsafe(no_mangle)]
 pub extern "C" fn iobufsmut_put_u32(parts: &mut PartsAt, n: u32) -> u8
     ensures at { parts.new.at ≡ parts.old.at }
-    ensures value { parts.new.value ≡ (if result == 0 then option_map (λ parts. parts_fill parts (to_be_bytes w32 n)) parts.old.value else parts.old.value) }
-    ensures result { result ≡ (if nat_le 4 (parts_spare (parts_of parts.old.value)) then 0 else code_of Status.OutOfRange) }
+    ensures value { parts.new.value ≡ (if result == 0 then option_map
+        (λ parts. parts_fill parts (to_be_bytes w32 n)) parts.old.value else parts.old.value) }
+    ensures result { result ≡ (if nat_le 4 (parts_spare
+        (parts_of parts.old.value)) then 0 else code_of Status.OutOfRange) }
 {
     iobufsmut_put_slice(parts, &u32::to_be_bytes(n))
 }
@@ -80,8 +90,10 @@ pub extern "C" fn iobufsmut_put_u32(parts: &mut PartsAt, n: u32) -> u8
 #[unsafe(no_mangle)]
 pub extern "C" fn iobufsmut_put_u64(parts: &mut PartsAt, n: u64) -> u8
     ensures at { parts.new.at ≡ parts.old.at }
-    ensures value { parts.new.value ≡ (if result == 0 then option_map (λ parts. parts_fill parts (to_be_bytes w64 n)) parts.old.value else parts.old.value) }
-    ensures result { result ≡ (if nat_le 8 (parts_spare (parts_of parts.old.value)) then 0 else code_of Status.OutOfRange) }
+    ensures value { parts.new.value ≡ (if result == 0 then option_map
+        (λ parts. parts_fill parts (to_be_bytes w64 n)) parts.old.value else parts.old.value) }
+    ensures result { result ≡ (if nat_le 8 (parts_spare
+        (parts_of parts.old.value)) then 0 else code_of Status.OutOfRange) }
 {
     iobufsmut_put_slice(parts, &u64::to_be_bytes(n))
 }
@@ -91,35 +103,44 @@ pub extern "C" fn iobufsmut_put_u64(parts: &mut PartsAt, n: u64) -> u8
 #[unsafe(no_mangle)]
 pub extern "C" fn iobufs_builder_put_u16(builder: &mut BuilderAt, n: u16) -> u8
     ensures at { builder.new.at ≡ builder.old.at }
-    ensures value { builder.new.value ≡ (if result == 0 then option_map (λ b. building_put b (to_be_bytes w16 n)) builder.old.value else builder.old.value) }
-    ensures result { result ≡ (if nat_le 2 (building_room (building_or_empty builder.old.value)) then 0 else code_of Status.OutOfRange) }
+    ensures value { builder.new.value ≡ (if result == 0 then option_map
+        (λ b. building_put b (to_be_bytes w16 n)) builder.old.value else builder.old.value) }
+    ensures result { result ≡ (if nat_le 2 (building_room
+        (building_or_empty builder.old.value)) then 0 else code_of Status.OutOfRange) }
 {
     iobufs_builder_put_slice(builder, &u16::to_be_bytes(n))
 }
 
-/// Writes a big-endian number of four bytes into a builder. Returns `Status::OutOfRange` if it doesn't fit; then nothing
+/// Writes a big-endian number of four bytes into a builder. Returns `Status::OutOfRange` if it doesn't fit; then
+/// nothing
 /// changes.
 #[unsafe(no_mangle)]
 pub extern "C" fn iobufs_builder_put_u32(builder: &mut BuilderAt, n: u32) -> u8
     ensures at { builder.new.at ≡ builder.old.at }
-    ensures value { builder.new.value ≡ (if result == 0 then option_map (λ b. building_put b (to_be_bytes w32 n)) builder.old.value else builder.old.value) }
-    ensures result { result ≡ (if nat_le 4 (building_room (building_or_empty builder.old.value)) then 0 else code_of Status.OutOfRange) }
+    ensures value { builder.new.value ≡ (if result == 0 then option_map
+        (λ b. building_put b (to_be_bytes w32 n)) builder.old.value else builder.old.value) }
+    ensures result { result ≡ (if nat_le 4 (building_room
+        (building_or_empty builder.old.value)) then 0 else code_of Status.OutOfRange) }
 {
     iobufs_builder_put_slice(builder, &u32::to_be_bytes(n))
 }
 
-/// Writes a big-endian number of eight bytes into a builder. Returns `Status::OutOfRange` if it doesn't fit; then nothing
+/// Writes a big-endian number of eight bytes into a builder. Returns `Status::OutOfRange` if it doesn't fit; then
+/// nothing
 /// changes.
 #[unsafe(no_mangle)]
 pub extern "C" fn iobufs_builder_put_u64(builder: &mut BuilderAt, n: u64) -> u8
     ensures at { builder.new.at ≡ builder.old.at }
-    ensures value { builder.new.value ≡ (if result == 0 then option_map (λ b. building_put b (to_be_bytes w64 n)) builder.old.value else builder.old.value) }
-    ensures result { result ≡ (if nat_le 8 (building_room (building_or_empty builder.old.value)) then 0 else code_of Status.OutOfRange) }
+    ensures value { builder.new.value ≡ (if result == 0 then option_map
+        (λ b. building_put b (to_be_bytes w64 n)) builder.old.value else builder.old.value) }
+    ensures result { result ≡ (if nat_le 8 (building_room
+        (building_or_empty builder.old.value)) then 0 else code_of Status.OutOfRange) }
 {
     iobufs_builder_put_slice(builder, &u64::to_be_bytes(n))
 }
 
-/// Reads a big-endian number of one byte from the front of a view, and drops it. Returns `Status::EndOfBuffer` if there are
+/// Reads a big-endian number of one byte from the front of a view, and drops it. Returns `Status::EndOfBuffer` if there
+/// are
 /// fewer; then nothing changes.
 #[unsafe(no_mangle)]
 #[tactic(auto, using(iobufs_core::proofs::CallerFacts::reading))]
@@ -138,7 +159,8 @@ pub extern "C" fn iobuf_get_u8(alloc: Global, src: &mut ViewAt, out: &mut u8) ->
     Status::Done.code()
 }
 
-/// Reads a big-endian number of two bytes from the front of a view, and drops it. Returns `Status::EndOfBuffer` if there are
+/// Reads a big-endian number of two bytes from the front of a view, and drops it. Returns `Status::EndOfBuffer` if
+/// there are
 /// fewer; then nothing changes.
 #[unsafe(no_mangle)]
 #[tactic(auto, using(iobufs_core::proofs::CallerFacts::reading))]
@@ -157,7 +179,8 @@ pub extern "C" fn iobuf_get_u16(alloc: Global, src: &mut ViewAt, out: &mut u16) 
     Status::Done.code()
 }
 
-/// Reads a big-endian number of four bytes from the front of a view, and drops it. Returns `Status::EndOfBuffer` if there
+/// Reads a big-endian number of four bytes from the front of a view, and drops it. Returns `Status::EndOfBuffer` if
+/// there
 /// are fewer; then nothing changes.
 #[unsafe(no_mangle)]
 #[tactic(auto, using(iobufs_core::proofs::CallerFacts::reading))]
@@ -176,7 +199,8 @@ pub extern "C" fn iobuf_get_u32(alloc: Global, src: &mut ViewAt, out: &mut u32) 
     Status::Done.code()
 }
 
-/// Reads a big-endian number of eight bytes from the front of a view, and drops it. Returns `Status::EndOfBuffer` if there
+/// Reads a big-endian number of eight bytes from the front of a view, and drops it. Returns `Status::EndOfBuffer` if
+/// there
 /// are fewer; then nothing changes.
 #[unsafe(no_mangle)]
 #[tactic(auto, using(iobufs_core::proofs::CallerFacts::reading))]
@@ -195,7 +219,8 @@ pub extern "C" fn iobuf_get_u64(alloc: Global, src: &mut ViewAt, out: &mut u64) 
     Status::Done.code()
 }
 
-/// Reads a big-endian number of one byte from the front of an `IoBufs`, and drops it. Returns `Status::EndOfBuffer` if there
+/// Reads a big-endian number of one byte from the front of an `IoBufs`, and drops it. Returns `Status::EndOfBuffer` if
+/// there
 /// are fewer; then nothing changes.
 #[unsafe(no_mangle)]
 #[tactic(auto, using(iobufs_core::proofs::CallerFacts::reading))]
@@ -233,7 +258,8 @@ pub extern "C" fn iobufs_get_u16(alloc: Global, text: &mut TextAt, out: &mut u16
     Status::Done.code()
 }
 
-/// Reads a big-endian number of four bytes from the front of an `IoBufs`, and drops it. Returns `Status::EndOfBuffer` if
+/// Reads a big-endian number of four bytes from the front of an `IoBufs`, and drops it. Returns `Status::EndOfBuffer`
+/// if
 /// there are fewer; then nothing changes.
 #[unsafe(no_mangle)]
 #[tactic(auto, using(iobufs_core::proofs::CallerFacts::reading))]
@@ -252,7 +278,8 @@ pub extern "C" fn iobufs_get_u32(alloc: Global, text: &mut TextAt, out: &mut u32
     Status::Done.code()
 }
 
-/// Reads a big-endian number of eight bytes from the front of an `IoBufs`, and drops it. Returns `Status::EndOfBuffer` if
+/// Reads a big-endian number of eight bytes from the front of an `IoBufs`, and drops it. Returns `Status::EndOfBuffer`
+/// if
 /// there are fewer; then nothing changes.
 #[unsafe(no_mangle)]
 #[tactic(auto, using(iobufs_core::proofs::CallerFacts::reading))]

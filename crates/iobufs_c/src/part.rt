@@ -40,7 +40,8 @@ impl PartAt {
 
     /// Borrows the contents of the handle.
     pub(crate) fn get(&mut self) -> &mut Option<IoBufMut>
-        ensures* writes_back { sem 𝓛 (Lends the_row part_row self.entry result (λ v. record { at = self.old.at; value = v })) }
+        ensures* writes_back { sem 𝓛 (Lends the_row part_row self.entry result
+            (λ v. record { at = self.old.at; value = v })) }
         ensures value { result.now ≡ self.old.value }
     {
         unsafe { &mut *(self.at as *mut Option<IoBufMut>) }
@@ -113,7 +114,8 @@ pub extern "C" fn iobufmut_drop(part: &mut PartAt)
     *part.get() = None;
 }
 
-/// Allocates an empty buffer of exactly this capacity. Returns `Status::BadLayout` or `Status::Memory` if that fails; then
+/// Allocates an empty buffer of exactly this capacity. Returns `Status::BadLayout` or `Status::Memory` if that fails;
+/// then
 /// `out` is unchanged.
 #[unsafe(no_mangle)]
 pub extern "C" fn iobufmut_with_capacity(alloc: Global, n: usize, out: &mut PartAt) -> u8
@@ -132,7 +134,8 @@ pub extern "C" fn iobufmut_with_capacity(alloc: Global, n: usize, out: &mut Part
     }
 }
 
-/// Allocates an empty buffer, after testing the alignment. Returns `Status::BadLayout` or `Status::Memory` if that fails;
+/// Allocates an empty buffer, after testing the alignment. Returns `Status::BadLayout` or `Status::Memory` if that
+/// fails;
 /// then `out` is unchanged.
 #[unsafe(no_mangle)]
 pub extern "C" fn iobufmut_with_alignment(
@@ -156,11 +159,13 @@ pub extern "C" fn iobufmut_with_alignment(
     }
 }
 
-/// Allocates a buffer of `n` zeros. Returns `Status::BadLayout` or `Status::Memory` if that fails; then `out` is unchanged.
+/// Allocates a buffer of `n` zeros. Returns `Status::BadLayout` or `Status::Memory` if that fails; then `out` is
+/// unchanged.
 #[unsafe(no_mangle)]
 pub extern "C" fn iobufmut_zeroed(alloc: Global, n: usize, out: &mut PartAt) -> u8
     ensures at { out.new.at ≡ out.old.at }
-    ensures value { out.new.value ≡ (if result == 0 then Some (record { filled = replicate n 0; spare = 0 }) else out.old.value) }
+    ensures value { out.new.value ≡ (if result == 0 then Some
+        (record { filled = replicate n 0; spare = 0 }) else out.old.value) }
     ensures bad_layout { IsTrue (bad_layout n 1) → result ≡ code_of Status.BadLayout }
     ensures good_layout { bad_layout n 1 ≡ false → IsDoneUnless result Status.Memory }
     ensures nothing { n ≡ 0 → result ≡ 0 }
@@ -174,7 +179,8 @@ pub extern "C" fn iobufmut_zeroed(alloc: Global, n: usize, out: &mut PartAt) -> 
     }
 }
 
-/// Allocates a buffer of zeros, after testing the alignment. Returns `Status::BadLayout` or `Status::Memory` if that fails;
+/// Allocates a buffer of zeros, after testing the alignment. Returns `Status::BadLayout` or `Status::Memory` if that
+/// fails;
 /// then `out` is unchanged.
 #[unsafe(no_mangle)]
 pub extern "C" fn iobufmut_zeroed_with_alignment(
@@ -184,7 +190,8 @@ pub extern "C" fn iobufmut_zeroed_with_alignment(
     out: &mut PartAt,
 ) -> u8
     ensures at { out.new.at ≡ out.old.at }
-    ensures value { out.new.value ≡ (if result == 0 then Some (record { filled = replicate n 0; spare = 0 }) else out.old.value) }
+    ensures value { out.new.value ≡ (if result == 0 then Some
+        (record { filled = replicate n 0; spare = 0 }) else out.old.value) }
     ensures bad_layout { IsTrue (bad_layout n align) → result ≡ code_of Status.BadLayout }
     ensures good_layout { bad_layout n align ≡ false → IsDoneUnless result Status.Memory }
     ensures nothing { n ≡ 0 → result ≡ 0 }
@@ -203,7 +210,8 @@ pub extern "C" fn iobufmut_zeroed_with_alignment(
 #[unsafe(no_mangle)]
 pub extern "C" fn iobufmut_copy_from_slice(alloc: Global, src: &[u8], out: &mut PartAt) -> u8
     ensures at { out.new.at ≡ out.old.at }
-    ensures value { out.new.value ≡ (if result == 0 then Some (record { filled = src.now; spare = 0 }) else out.old.value) }
+    ensures value { out.new.value ≡ (if result == 0 then Some
+        (record { filled = src.now; spare = 0 }) else out.old.value) }
     ensures memory { IsDoneUnless result Status.Memory }
     ensures nothing { length src.now ≡ 0 → result ≡ 0 }
 {
@@ -221,7 +229,8 @@ pub extern "C" fn iobufmut_copy_from_slice(alloc: Global, src: &[u8], out: &mut 
 #[unsafe(no_mangle)]
 pub extern "C" fn iobuf_try_into_mut(alloc: Global, src: &mut ViewAt, out: &mut PartAt) -> u8
     ensures at { (src.new.at ≡ src.old.at) × (out.new.at ≡ out.old.at) }
-    ensures recovered { result ≡ 0 → (src.new.value ≡ default_view) × MatchOption out.new.value ⊥ (λ part. IsRecovery src.old.value (Ok part)) }
+    ensures recovered { result ≡ 0 → (src.new.value ≡ default_view)
+        × MatchOption out.new.value ⊥ (λ part. IsRecovery src.old.value (Ok part)) }
     ensures declined { (result == 0) ≡ false → (src.new.value ≡ src.old.value) × (out.new.value ≡ out.old.value)
         × IsRecovery src.old.value (Err src.old.value) }
     ensures result { IsDoneUnless result Status.Declined }
@@ -260,7 +269,8 @@ pub extern "C" fn iobuf_try_into_mut_init(alloc: Global, src: &mut ViewAt, out: 
     Status::Done.code()
 }
 
-/// Makes a writable buffer of a view, recovered as by `iobuf_try_into_mut`, else copied, and leaves the empty view. Returns
+/// Makes a writable buffer of a view, recovered as by `iobuf_try_into_mut`, else copied, and leaves the empty view.
+/// Returns
 /// `Status::Memory` if an allocation fails; then both are unchanged.
 #[unsafe(no_mangle)]
 pub extern "C" fn iobufmut_from_view(alloc: Global, src: &mut ViewAt, out: &mut PartAt) -> u8
@@ -330,7 +340,8 @@ pub extern "C" fn iobufmut_remaining_mut(part: &mut PartAt) -> usize
     }
 }
 
-/// Writes the address of the readable bytes, if there is a buffer, and returns how many there are. No other shares them,
+/// Writes the address of the readable bytes, if there is a buffer, and returns how many there are. No other shares
+/// them,
 /// so the caller may write there; no contract knows what.
 #[unsafe(no_mangle)]
 pub extern "C" fn iobufmut_chunk(part: &mut PartAt, out: &mut *mut u8) -> usize
@@ -350,8 +361,10 @@ pub extern "C" fn iobufmut_chunk(part: &mut PartAt, out: &mut *mut u8) -> usize
 #[unsafe(no_mangle)]
 pub extern "C" fn iobufmut_put_slice(part: &mut PartAt, src: &[u8]) -> u8
     ensures at { part.new.at ≡ part.old.at }
-    ensures value { part.new.value ≡ (if result == 0 then option_map (λ part. part_put part src.now) part.old.value else part.old.value) }
-    ensures result { result ≡ (if nat_le (length src.now) (part_or_empty part.old.value).spare then 0 else code_of Status.OutOfRange) }
+    ensures value { part.new.value ≡ (if result == 0 then option_map
+        (λ part. part_put part src.now) part.old.value else part.old.value) }
+    ensures result { result ≡ (if nat_le (length src.now)
+        (part_or_empty part.old.value).spare then 0 else code_of Status.OutOfRange) }
 {
     let Some(part) = part.get() else {
         return fits(src.len(), 0);
@@ -378,7 +391,8 @@ pub(crate) fn fits(n: usize, most: usize) -> u8
 #[unsafe(no_mangle)]
 pub extern "C" fn iobufmut_put_bytes(part: &mut PartAt, value: u8, n: usize) -> u8
     ensures at { part.new.at ≡ part.old.at }
-    ensures value { part.new.value ≡ (if result == 0 then option_map (λ part. part_put part (replicate n value)) part.old.value else part.old.value) }
+    ensures value { part.new.value ≡ (if result == 0 then option_map
+        (λ part. part_put part (replicate n value)) part.old.value else part.old.value) }
     ensures result { result ≡ (if nat_le n (part_or_empty part.old.value).spare then 0 else code_of Status.OutOfRange) }
 {
     let Some(part) = part.get() else {
@@ -395,7 +409,8 @@ pub extern "C" fn iobufmut_put_bytes(part: &mut PartAt, value: u8, n: usize) -> 
 #[unsafe(no_mangle)]
 pub extern "C" fn iobufmut_put_u8(part: &mut PartAt, n: u8) -> u8
     ensures at { part.new.at ≡ part.old.at }
-    ensures value { part.new.value ≡ (if result == 0 then option_map (λ part. part_put part (n ∷ [])) part.old.value else part.old.value) }
+    ensures value { part.new.value ≡ (if result == 0 then option_map
+        (λ part. part_put part (n ∷ [])) part.old.value else part.old.value) }
     ensures result { result ≡ (if nat_le 1 (part_or_empty part.old.value).spare then 0 else code_of Status.OutOfRange) }
 {
     let Some(part) = part.get() else {
@@ -408,13 +423,16 @@ pub extern "C" fn iobufmut_put_u8(part: &mut PartAt, n: u8) -> u8
     Status::Done.code()
 }
 
-/// Makes `n` bytes readable; those that were not are zero. Returns `Status::OutOfRange` above the capacity; then nothing
+/// Makes `n` bytes readable; those that were not are zero. Returns `Status::OutOfRange` above the capacity; then
+/// nothing
 /// changes.
 #[unsafe(no_mangle)]
 pub extern "C" fn iobufmut_set_len(part: &mut PartAt, n: usize) -> u8
     ensures at { part.new.at ≡ part.old.at }
-    ensures value { part.new.value ≡ (if result == 0 then option_map (λ part. part_with_len part n) part.old.value else part.old.value) }
-    ensures result { result ≡ (if nat_le n (part_capacity (part_or_empty part.old.value)) then 0 else code_of Status.OutOfRange) }
+    ensures value { part.new.value ≡ (if result == 0 then option_map
+        (λ part. part_with_len part n) part.old.value else part.old.value) }
+    ensures result { result ≡ (if nat_le n (part_capacity
+        (part_or_empty part.old.value)) then 0 else code_of Status.OutOfRange) }
 {
     let Some(part) = part.get() else {
         return fits(n, 0);
@@ -452,8 +470,10 @@ pub extern "C" fn iobufmut_clear(part: &mut PartAt)
 #[unsafe(no_mangle)]
 pub extern "C" fn iobufmut_advance(part: &mut PartAt, n: usize) -> u8
     ensures at { part.new.at ≡ part.old.at }
-    ensures value { part.new.value ≡ (if result == 0 then option_map (λ part. part_drained part n) part.old.value else part.old.value) }
-    ensures result { result ≡ (if nat_le n (length (part_or_empty part.old.value).filled) then 0 else code_of Status.OutOfRange) }
+    ensures value { part.new.value ≡ (if result == 0 then option_map
+        (λ part. part_drained part n) part.old.value else part.old.value) }
+    ensures result { result ≡ (if nat_le n (length
+        (part_or_empty part.old.value).filled) then 0 else code_of Status.OutOfRange) }
 {
     let Some(part) = part.get() else {
         return fits(n, 0);
@@ -469,9 +489,12 @@ pub extern "C" fn iobufmut_advance(part: &mut PartAt, n: usize) -> u8
 #[unsafe(no_mangle)]
 pub extern "C" fn iobufmut_copy_to_slice(part: &mut PartAt, dst: &mut [u8]) -> u8
     ensures at { part.new.at ≡ part.old.at }
-    ensures value { part.new.value ≡ (if result == 0 then option_map (λ part. part_drained part (length dst.old)) part.old.value else part.old.value) }
-    ensures bytes { dst.new ≡ (if result == 0 then take (length dst.old) (part_or_empty part.old.value).filled else dst.old) }
-    ensures result { result ≡ (if nat_le (length dst.old) (length (part_or_empty part.old.value).filled) then 0 else code_of Status.EndOfBuffer) }
+    ensures value { part.new.value ≡ (if result == 0 then option_map
+        (λ part. part_drained part (length dst.old)) part.old.value else part.old.value) }
+    ensures bytes { dst.new ≡ (if result == 0 then take (length dst.old)
+        (part_or_empty part.old.value).filled else dst.old) }
+    ensures result { result ≡ (if nat_le (length dst.old)
+        (length (part_or_empty part.old.value).filled) then 0 else code_of Status.EndOfBuffer) }
 {
     let Some(part) = part.get() else {
         return if dst.is_empty() {
@@ -491,8 +514,10 @@ pub extern "C" fn iobufmut_copy_to_slice(part: &mut PartAt, dst: &mut [u8]) -> u
 #[unsafe(no_mangle)]
 pub extern "C" fn iobufmut_write_at(part: &mut PartAt, at: usize, src: &[u8]) -> u8
     ensures at { part.new.at ≡ part.old.at }
-    ensures value { part.new.value ≡ (if result == 0 then option_map (λ part. part_written_at part at src.now) part.old.value else part.old.value) }
-    ensures result { result ≡ (if nat_le (at + length src.now) (length (part_or_empty part.old.value).filled) then 0 else code_of Status.OutOfRange) }
+    ensures value { part.new.value ≡ (if result == 0 then option_map
+        (λ part. part_written_at part at src.now) part.old.value else part.old.value) }
+    ensures result { result ≡ (if nat_le (at + length src.now)
+        (length (part_or_empty part.old.value).filled) then 0 else code_of Status.OutOfRange) }
 {
     let Some(part) = part.get() else {
         return if at == 0 && src.is_empty() {
@@ -509,13 +534,15 @@ pub extern "C" fn iobufmut_write_at(part: &mut PartAt, at: usize, src: &[u8]) ->
     Status::Done.code()
 }
 
-/// Freezes the buffer to a view; no buffer is left. Returns `Status::Memory` if an allocation fails (of a buffer without an
+/// Freezes the buffer to a view; no buffer is left. Returns `Status::Memory` if an allocation fails (of a buffer
+/// without an
 /// `Arc` alone); then the buffer is dropped, and `out` unchanged.
 #[unsafe(no_mangle)]
 pub extern "C" fn iobufmut_freeze(part: &mut PartAt, out: &mut ViewAt) -> u8
     ensures at { (part.new.at ≡ part.old.at) × (out.new.at ≡ out.old.at) }
     ensures part { part.new.value ≡ None }
-    ensures value { out.new.value ≡ (if result == 0 then part_frozen (part_or_empty part.old.value) else out.old.value) }
+    ensures value { out.new.value ≡ (if result == 0 then part_frozen
+        (part_or_empty part.old.value) else out.old.value) }
     ensures memory { IsDoneUnless result Status.Memory }
     ensures nothing { length (part_or_empty part.old.value).filled ≡ 0 → result ≡ 0 }
 {

@@ -44,7 +44,8 @@ impl PartsAt {
 
     /// Borrows the contents of the handle.
     pub(crate) fn get(&mut self) -> &mut Option<IoBufsMut>
-        ensures* writes_back { sem 𝓛 (Lends the_row parts_row self.entry result (λ v. record { at = self.old.at; value = v })) }
+        ensures* writes_back { sem 𝓛 (Lends the_row parts_row self.entry result
+            (λ v. record { at = self.old.at; value = v })) }
         ensures value { result.now ≡ self.old.value }
     {
         unsafe { &mut *(self.at as *mut Option<IoBufsMut>) }
@@ -131,12 +132,15 @@ pub extern "C" fn iobufsmut_from_parts(
     out: &mut PartsAt,
 ) -> u8
     ensures at { (map (λ place. place.at) places.new ≡ map (λ place. place.at) places.old) × (out.new.at ≡ out.old.at) }
-    ensures value { out.new.value ≡ (if result == 0 then Some (kept_parts (held_parts (map (λ place. place.value) places.old))) else out.old.value) }
+    ensures value { out.new.value ≡ (if result == 0 then Some
+        (kept_parts (held_parts (map (λ place. place.value) places.old))) else out.old.value) }
     ensures taken { result ≡ 0 → map (λ place. place.value) places.new ≡ replicate (length places.old) None }
-    ensures unchanged { (result == 0) ≡ false → (places.new ≡ places.old) ⊎ (map (λ place. place.value) places.new ≡ replicate (length places.old) None) }
+    ensures unchanged { (result == 0) ≡ false
+        → (places.new ≡ places.old) ⊎ (map (λ place. place.value) places.new ≡ replicate (length places.old) None) }
     ensures too_long { 2 ^ 64 ≤ parts_capacity (held_parts (map (λ place. place.value) places.old))
         → (result ≡ code_of Status.Memory) ⊎ (result ≡ code_of Status.TooLong) }
-    ensures fits { parts_capacity (held_parts (map (λ place. place.value) places.old)) < 2 ^ 64 → IsDoneUnless result Status.Memory }
+    ensures fits { parts_capacity (held_parts (map (λ place. place.value) places.old)) < 2 ^ 64
+        → IsDoneUnless result Status.Memory }
     ensures nothing { length places.old ≡ 0 → result ≡ 0 }
 {
     let Ok(row) = take_row(alloc, places) else {
@@ -223,7 +227,8 @@ pub extern "C" fn iobufsmut_is_single(parts: &mut PartsAt) -> bool
     }
 }
 
-/// Writes the address of the first chunk of the readable bytes, if there is a buffer, and returns its length. No other buffer
+/// Writes the address of the first chunk of the readable bytes, if there is a buffer, and returns its length. No other
+/// buffer
 /// shares it, so the caller may write there; no contract knows what.
 #[unsafe(no_mangle)]
 pub extern "C" fn iobufsmut_chunk(parts: &mut PartsAt, out: &mut *mut u8) -> usize
@@ -250,7 +255,8 @@ pub extern "C" fn iobufsmut_part_at(
 ) -> usize
     ensures same { (parts.new.at ≡ parts.old.at) × (parts.new.value ≡ parts.old.value) }
     ensures value { result ≡ chunk_len (option_map (λ part. part.filled) (slice_get (parts_of parts.old.value) i)) }
-    ensures capacity { MatchOption (slice_get (parts_of parts.old.value) i) (capacity.new ≡ 0) (λ part. capacity.new ≡ part_capacity part) }
+    ensures capacity { MatchOption (slice_get (parts_of parts.old.value) i) (capacity.new ≡ 0)
+        (λ part. capacity.new ≡ part_capacity part) }
     ensures address { MatchOption parts.old.value (out.new ≡ out.old)
         (λ list. MatchOption (slice_get list i) (out.new ≡ out.old) (λ _. out.new ≡ null_ptr → ⊥)) }
 {
@@ -267,10 +273,12 @@ pub extern "C" fn iobufsmut_part_at(
     chunk.len()
 }
 
-// Fills a list with the addresses and lengths of the first chunks of the readable bytes, and returns how many it filled.
+// Fills a list with the addresses and lengths of the first chunks of the readable bytes, and returns how many it
+// filled.
 fn fill_chunks(parts: &IoBufsMut, out: &mut [Chunk]) -> usize
     ensures count { result ≡ min (length out.old) (length (parts_chunks parts.now)) }
-    ensures lengths { map (λ chunk. chunk.len) (take result out.new) ≡ map length (take result (parts_chunks parts.now)) }
+    ensures lengths { map (λ chunk. chunk.len) (take result out.new) ≡ map length
+        (take result (parts_chunks parts.now)) }
     ensures rest { drop result out.new ≡ drop result out.old }
 {
     let mut count = 0;
@@ -293,7 +301,8 @@ fn fill_chunks(parts: &IoBufsMut, out: &mut [Chunk]) -> usize
 pub extern "C" fn iobufsmut_chunks(parts: &mut PartsAt, out: &mut [Chunk]) -> usize
     ensures same { (parts.new.at ≡ parts.old.at) × (parts.new.value ≡ parts.old.value) }
     ensures count { result ≡ min (length out.old) (length (parts_chunks (parts_of parts.old.value))) }
-    ensures lengths { map (λ chunk. chunk.len) (take result out.new) ≡ map length (take result (parts_chunks (parts_of parts.old.value))) }
+    ensures lengths { map (λ chunk. chunk.len) (take result out.new) ≡ map length
+        (take result (parts_chunks (parts_of parts.old.value))) }
     ensures rest { drop result out.new ≡ drop result out.old }
 {
     match parts.get() {
@@ -307,7 +316,8 @@ pub extern "C" fn iobufsmut_chunks(parts: &mut PartsAt, out: &mut [Chunk]) -> us
 pub extern "C" fn iobufsmut_byte_at(parts: &mut PartsAt, i: usize, out: &mut u8) -> bool
     ensures same { (parts.new.at ≡ parts.old.at) × (parts.new.value ≡ parts.old.value) }
     ensures found { result ≡ true → slice_get (parts_filled (parts_of parts.old.value)) i ≡ Some out.new }
-    ensures none { result ≡ false → (slice_get (parts_filled (parts_of parts.old.value)) i ≡ None) × (out.new ≡ out.old) }
+    ensures none { result ≡ false → (slice_get (parts_filled (parts_of parts.old.value)) i ≡ None)
+        × (out.new ≡ out.old) }
 {
     let Some(parts) = parts.get() else {
         return false;
@@ -323,8 +333,10 @@ pub extern "C" fn iobufsmut_byte_at(parts: &mut PartsAt, i: usize, out: &mut u8)
 #[unsafe(no_mangle)]
 pub extern "C" fn iobufsmut_put_slice(parts: &mut PartsAt, src: &[u8]) -> u8
     ensures at { parts.new.at ≡ parts.old.at }
-    ensures value { parts.new.value ≡ (if result == 0 then option_map (λ parts. parts_fill parts src.now) parts.old.value else parts.old.value) }
-    ensures result { result ≡ (if nat_le (length src.now) (parts_spare (parts_of parts.old.value)) then 0 else code_of Status.OutOfRange) }
+    ensures value { parts.new.value ≡ (if result == 0 then option_map
+        (λ parts. parts_fill parts src.now) parts.old.value else parts.old.value) }
+    ensures result { result ≡ (if nat_le (length src.now)
+        (parts_spare (parts_of parts.old.value)) then 0 else code_of Status.OutOfRange) }
 {
     let Some(parts) = parts.get() else {
         return fits(src.len(), 0);
@@ -340,8 +352,10 @@ pub extern "C" fn iobufsmut_put_slice(parts: &mut PartsAt, src: &[u8]) -> u8
 #[unsafe(no_mangle)]
 pub extern "C" fn iobufsmut_put_bytes(parts: &mut PartsAt, value: u8, n: usize) -> u8
     ensures at { parts.new.at ≡ parts.old.at }
-    ensures value { parts.new.value ≡ (if result == 0 then option_map (λ parts. parts_fill parts (replicate n value)) parts.old.value else parts.old.value) }
-    ensures result { result ≡ (if nat_le n (parts_spare (parts_of parts.old.value)) then 0 else code_of Status.OutOfRange) }
+    ensures value { parts.new.value ≡ (if result == 0 then option_map
+        (λ parts. parts_fill parts (replicate n value)) parts.old.value else parts.old.value) }
+    ensures result { result ≡ (if nat_le n (parts_spare
+        (parts_of parts.old.value)) then 0 else code_of Status.OutOfRange) }
 {
     let Some(parts) = parts.get() else {
         return fits(n, 0);
@@ -357,8 +371,10 @@ pub extern "C" fn iobufsmut_put_bytes(parts: &mut PartsAt, value: u8, n: usize) 
 #[unsafe(no_mangle)]
 pub extern "C" fn iobufsmut_put_u8(parts: &mut PartsAt, n: u8) -> u8
     ensures at { parts.new.at ≡ parts.old.at }
-    ensures value { parts.new.value ≡ (if result == 0 then option_map (λ parts. parts_fill parts (n ∷ [])) parts.old.value else parts.old.value) }
-    ensures result { result ≡ (if nat_le 1 (parts_spare (parts_of parts.old.value)) then 0 else code_of Status.OutOfRange) }
+    ensures value { parts.new.value ≡ (if result == 0 then option_map
+        (λ parts. parts_fill parts (n ∷ [])) parts.old.value else parts.old.value) }
+    ensures result { result ≡ (if nat_le 1 (parts_spare
+        (parts_of parts.old.value)) then 0 else code_of Status.OutOfRange) }
 {
     let Some(parts) = parts.get() else {
         return fits(1, 0);
@@ -370,13 +386,16 @@ pub extern "C" fn iobufsmut_put_u8(parts: &mut PartsAt, n: u8) -> u8
     Status::Done.code()
 }
 
-/// Makes `n` bytes readable; those that were not are zero. Returns `Status::OutOfRange` above the capacity; then nothing
+/// Makes `n` bytes readable; those that were not are zero. Returns `Status::OutOfRange` above the capacity; then
+/// nothing
 /// changes.
 #[unsafe(no_mangle)]
 pub extern "C" fn iobufsmut_set_len(parts: &mut PartsAt, n: usize) -> u8
     ensures at { parts.new.at ≡ parts.old.at }
-    ensures value { parts.new.value ≡ (if result == 0 then option_map (λ parts. parts_with_len parts n) parts.old.value else parts.old.value) }
-    ensures result { result ≡ (if nat_le n (parts_capacity (parts_of parts.old.value)) then 0 else code_of Status.OutOfRange) }
+    ensures value { parts.new.value ≡ (if result == 0 then option_map
+        (λ parts. parts_with_len parts n) parts.old.value else parts.old.value) }
+    ensures result { result ≡ (if nat_le n (parts_capacity
+        (parts_of parts.old.value)) then 0 else code_of Status.OutOfRange) }
 {
     let Some(parts) = parts.get() else {
         return fits(n, 0);
@@ -392,8 +411,10 @@ pub extern "C" fn iobufsmut_set_len(parts: &mut PartsAt, n: usize) -> u8
 #[unsafe(no_mangle)]
 pub extern "C" fn iobufsmut_advance(parts: &mut PartsAt, n: usize) -> u8
     ensures at { parts.new.at ≡ parts.old.at }
-    ensures value { parts.new.value ≡ (if result == 0 then option_map (λ parts. parts_drained parts n) parts.old.value else parts.old.value) }
-    ensures result { result ≡ (if nat_le n (length (parts_filled (parts_of parts.old.value))) then 0 else code_of Status.OutOfRange) }
+    ensures value { parts.new.value ≡ (if result == 0 then option_map
+        (λ parts. parts_drained parts n) parts.old.value else parts.old.value) }
+    ensures result { result ≡ (if nat_le n (length
+        (parts_filled (parts_of parts.old.value))) then 0 else code_of Status.OutOfRange) }
 {
     let Some(parts) = parts.get() else {
         return fits(n, 0);
@@ -409,9 +430,12 @@ pub extern "C" fn iobufsmut_advance(parts: &mut PartsAt, n: usize) -> u8
 #[unsafe(no_mangle)]
 pub extern "C" fn iobufsmut_copy_to_slice(parts: &mut PartsAt, dst: &mut [u8]) -> u8
     ensures at { parts.new.at ≡ parts.old.at }
-    ensures value { parts.new.value ≡ (if result == 0 then option_map (λ parts. parts_drained parts (length dst.old)) parts.old.value else parts.old.value) }
-    ensures bytes { dst.new ≡ (if result == 0 then take (length dst.old) (parts_filled (parts_of parts.old.value)) else dst.old) }
-    ensures result { result ≡ (if nat_le (length dst.old) (length (parts_filled (parts_of parts.old.value))) then 0 else code_of Status.EndOfBuffer) }
+    ensures value { parts.new.value ≡ (if result == 0 then option_map
+        (λ parts. parts_drained parts (length dst.old)) parts.old.value else parts.old.value) }
+    ensures bytes { dst.new ≡ (if result == 0 then take (length dst.old)
+        (parts_filled (parts_of parts.old.value)) else dst.old) }
+    ensures result { result ≡ (if nat_le (length dst.old)
+        (length (parts_filled (parts_of parts.old.value))) then 0 else code_of Status.EndOfBuffer) }
 {
     let Some(parts) = parts.get() else {
         return if dst.is_empty() {
@@ -431,8 +455,10 @@ pub extern "C" fn iobufsmut_copy_to_slice(parts: &mut PartsAt, dst: &mut [u8]) -
 #[unsafe(no_mangle)]
 pub extern "C" fn iobufsmut_copy_from_slice(parts: &mut PartsAt, src: &[u8]) -> u8
     ensures at { parts.new.at ≡ parts.old.at }
-    ensures value { parts.new.value ≡ (if result == 0 then option_map (λ parts. parts_overwritten parts src.now) parts.old.value else parts.old.value) }
-    ensures result { result ≡ (if length src.now == length (parts_filled (parts_of parts.old.value)) then 0 else code_of Status.OutOfRange) }
+    ensures value { parts.new.value ≡ (if result == 0 then option_map
+        (λ parts. parts_overwritten parts src.now) parts.old.value else parts.old.value) }
+    ensures result { result ≡ (if length src.now == length
+        (parts_filled (parts_of parts.old.value)) then 0 else code_of Status.OutOfRange) }
 {
     let Some(parts) = parts.get() else {
         return fits(src.len(), 0);
@@ -444,7 +470,8 @@ pub extern "C" fn iobufsmut_copy_from_slice(parts: &mut PartsAt, src: &[u8]) -> 
     Status::Done.code()
 }
 
-/// Freezes the buffers that hold bytes to the chunks of one `IoBufs`; no buffers are left. Returns `Status::Memory` if an
+/// Freezes the buffers that hold bytes to the chunks of one `IoBufs`; no buffers are left. Returns `Status::Memory` if
+/// an
 /// allocation fails; then they are dropped, and `out` unchanged.
 #[unsafe(no_mangle)]
 pub extern "C" fn iobufsmut_freeze(alloc: Global, parts: &mut PartsAt, out: &mut TextAt) -> u8
@@ -492,15 +519,18 @@ pub extern "C" fn iobufsmut_freeze_init(
     Status::Done.code()
 }
 
-/// Coalesces the buffers into one, with a copy of several; none are left. Returns `Status::BadLayout` or `Status::Memory` if
+/// Coalesces the buffers into one, with a copy of several; none are left. Returns `Status::BadLayout` or
+/// `Status::Memory` if
 /// that fails; then they are dropped, and `out` unchanged.
 #[unsafe(no_mangle)]
 pub extern "C" fn iobufsmut_coalesce(alloc: Global, parts: &mut PartsAt, out: &mut PartAt) -> u8
     ensures at { (parts.new.at ≡ parts.old.at) × (out.new.at ≡ out.old.at) }
     ensures parts { parts.new.value ≡ None }
-    ensures value { out.new.value ≡ (if result == 0 then option_map parts_coalesced parts.old.value else out.old.value) }
+    ensures value { out.new.value ≡
+        (if result == 0 then option_map parts_coalesced parts.old.value else out.old.value) }
     ensures single { length (parts_of parts.old.value) ≡ 1 → result ≡ 0 }
-    ensures bad_layout { 1 < length (parts_of parts.old.value) → 2 ^ 63 ≤ length (parts_filled (parts_of parts.old.value)) → result ≡ code_of Status.BadLayout }
+    ensures bad_layout { 1 < length (parts_of parts.old.value)
+        → 2 ^ 63 ≤ length (parts_filled (parts_of parts.old.value)) → result ≡ code_of Status.BadLayout }
     ensures memory { length (parts_filled (parts_of parts.old.value)) < 2 ^ 63 → IsDoneUnless result Status.Memory }
     ensures nothing { length (parts_filled (parts_of parts.old.value)) ≡ 0 → result ≡ 0 }
 {
@@ -521,8 +551,10 @@ pub extern "C" fn iobufsmut_coalesce(alloc: Global, parts: &mut PartsAt, out: &m
 #[unsafe(no_mangle)]
 pub extern "C" fn iobufsmut_try_into_single(parts: &mut PartsAt, out: &mut PartAt) -> u8
     ensures at { (parts.new.at ≡ parts.old.at) × (out.new.at ≡ out.old.at) }
-    ensures single { result ≡ 0 → (parts.old.value ≡ option_map (λ part. part ∷ []) out.new.value) × (parts.new.value ≡ None) }
-    ensures declined { (result == 0) ≡ false → (single_part (parts_of parts.old.value) ≡ None) × (parts.new.value ≡ parts.old.value)
+    ensures single { result ≡ 0 → (parts.old.value ≡ option_map (λ part. part ∷ []) out.new.value)
+        × (parts.new.value ≡ None) }
+    ensures declined { (result == 0) ≡ false
+        → (single_part (parts_of parts.old.value) ≡ None) × (parts.new.value ≡ parts.old.value)
         × (out.new.value ≡ out.old.value) }
     ensures result { IsDoneUnless result Status.Declined }
 {

@@ -44,7 +44,8 @@ impl TextAt {
 
     /// Borrows the `IoBufs` of the handle.
     pub(crate) fn get(&mut self) -> &mut IoBufs
-        ensures* writes_back { sem 𝓛 (Lends the_row text_row self.entry result (λ v. record { at = self.old.at; value = v })) }
+        ensures* writes_back { sem 𝓛 (Lends the_row text_row self.entry result
+            (λ v. record { at = self.old.at; value = v })) }
         ensures value { result.now ≡ self.old.value }
     {
         unsafe { &mut *(self.at as *mut IoBufs) }
@@ -129,13 +130,15 @@ pub extern "C" fn iobufs_from_view(src: &mut ViewAt, out: &mut TextAt)
     *out.get() = IoBufs::from(view);
 }
 
-/// Makes an `IoBufs` of a writable buffer; none is left. Returns `Status::Memory` if an allocation fails; then the buffer is
+/// Makes an `IoBufs` of a writable buffer; none is left. Returns `Status::Memory` if an allocation fails; then the
+/// buffer is
 /// dropped, and `out` unchanged.
 #[unsafe(no_mangle)]
 pub extern "C" fn iobufs_from_mut(part: &mut PartAt, out: &mut TextAt) -> u8
     ensures at { (part.new.at ≡ part.old.at) × (out.new.at ≡ out.old.at) }
     ensures part { part.new.value ≡ None }
-    ensures value { out.new.value ≡ (if result == 0 then of_view (part_frozen (part_or_empty part.old.value)) else out.old.value) }
+    ensures value { out.new.value ≡ (if result == 0 then of_view
+        (part_frozen (part_or_empty part.old.value)) else out.old.value) }
     ensures memory { IsDoneUnless result Status.Memory }
     ensures nothing { length (part_or_empty part.old.value).filled ≡ 0 → result ≡ 0 }
 {
@@ -170,7 +173,8 @@ pub extern "C" fn iobufs_clone(text: &mut TextAt, out: &mut TextAt) -> u8
     ensures at { out.new.at ≡ out.old.at }
     ensures value { out.new.value ≡ (if result == 0 then text.old.value else out.old.value) }
     ensures memory { IsDoneUnless result Status.Memory }
-    ensures free { is_single text.old.value ≡ true → IsFreelyShared (record { bytes = text.old.value.bytes; mark = text.old.value.mark }) → result ≡ 0 }
+    ensures free { is_single text.old.value ≡ true
+        → IsFreelyShared (record { bytes = text.old.value.bytes; mark = text.old.value.mark }) → result ≡ 0 }
 {
     match text.get().clone() {
         Ok(other) => {
@@ -234,7 +238,8 @@ pub extern "C" fn iobufs_chunk(text: &mut TextAt, out: &mut *const u8) -> usize
 pub extern "C" fn iobufs_chunk_at(text: &mut TextAt, i: usize, out: &mut *const u8) -> usize
     ensures same { (text.new.at ≡ text.old.at) × (text.new.value ≡ text.old.value) }
     ensures value { result ≡ chunk_len (slice_get (text_chunks text.old.value) i) }
-    ensures address { MatchOption (slice_get (text_chunks text.old.value) i) (out.new ≡ out.old) (λ _. out.new ≡ null_ptr → ⊥) }
+    ensures address { MatchOption (slice_get (text_chunks text.old.value) i) (out.new ≡ out.old)
+        (λ _. out.new ≡ null_ptr → ⊥) }
 {
     let Some(chunk) = text.get().chunk_at(i) else {
         return 0;
@@ -257,7 +262,8 @@ pub extern "C" fn iobufs_byte_at(text: &mut TextAt, i: usize, out: &mut u8) -> b
     true
 }
 
-/// Writes the index of the chunk that contains an offset, and the distance from its start. Returns `Status::OutOfRange` if
+/// Writes the index of the chunk that contains an offset, and the distance from its start. Returns `Status::OutOfRange`
+/// if
 /// the offset is past the bytes; then both are unchanged.
 #[unsafe(no_mangle)]
 pub extern "C" fn iobufs_locate(
@@ -282,15 +288,19 @@ pub extern "C" fn iobufs_locate(
     Status::Done.code()
 }
 
-/// Appends a view, and leaves its handle empty. Returns `Status::TooLong` or `Status::Memory` if that fails; then both are
+/// Appends a view, and leaves its handle empty. Returns `Status::TooLong` or `Status::Memory` if that fails; then both
+/// are
 /// unchanged.
 #[unsafe(no_mangle)]
 pub extern "C" fn iobufs_append(alloc: Global, text: &mut TextAt, piece: &mut ViewAt) -> u8
     ensures at { (text.new.at ≡ text.old.at) × (piece.new.at ≡ piece.old.at) }
-    ensures text { text.new.value ≡ (if result == 0 then text_append text.old.value piece.old.value else text.old.value) }
+    ensures text { text.new.value ≡
+        (if result == 0 then text_append text.old.value piece.old.value else text.old.value) }
     ensures piece { piece.new.value ≡ (if result == 0 then default_view else piece.old.value) }
-    ensures too_long { 2 ^ 64 ≤ text_len text.old.value + length piece.old.value.bytes → result ≡ code_of Status.TooLong }
-    ensures memory { text_len text.old.value + length piece.old.value.bytes < 2 ^ 64 → IsDoneUnless result Status.Memory }
+    ensures too_long { 2 ^ 64 ≤ text_len text.old.value + length piece.old.value.bytes
+        → result ≡ code_of Status.TooLong }
+    ensures memory { text_len text.old.value + length piece.old.value.bytes < 2 ^ 64
+        → IsDoneUnless result Status.Memory }
     ensures nothing { length piece.old.value.bytes ≡ 0 → result ≡ 0 }
     ensures onto_nothing { text_len text.old.value ≡ 0 → result ≡ 0 }
 {
@@ -304,15 +314,19 @@ pub extern "C" fn iobufs_append(alloc: Global, text: &mut TextAt, piece: &mut Vi
     }
 }
 
-/// Prepends a view, and leaves its handle empty. Returns `Status::TooLong` or `Status::Memory` if that fails; then both are
+/// Prepends a view, and leaves its handle empty. Returns `Status::TooLong` or `Status::Memory` if that fails; then both
+/// are
 /// unchanged.
 #[unsafe(no_mangle)]
 pub extern "C" fn iobufs_prepend(alloc: Global, text: &mut TextAt, piece: &mut ViewAt) -> u8
     ensures at { (text.new.at ≡ text.old.at) × (piece.new.at ≡ piece.old.at) }
-    ensures text { text.new.value ≡ (if result == 0 then text_prepend text.old.value piece.old.value else text.old.value) }
+    ensures text { text.new.value ≡
+        (if result == 0 then text_prepend text.old.value piece.old.value else text.old.value) }
     ensures piece { piece.new.value ≡ (if result == 0 then default_view else piece.old.value) }
-    ensures too_long { 2 ^ 64 ≤ text_len text.old.value + length piece.old.value.bytes → result ≡ code_of Status.TooLong }
-    ensures memory { text_len text.old.value + length piece.old.value.bytes < 2 ^ 64 → IsDoneUnless result Status.Memory }
+    ensures too_long { 2 ^ 64 ≤ text_len text.old.value + length piece.old.value.bytes
+        → result ≡ code_of Status.TooLong }
+    ensures memory { text_len text.old.value + length piece.old.value.bytes < 2 ^ 64
+        → IsDoneUnless result Status.Memory }
     ensures nothing { length piece.old.value.bytes ≡ 0 → result ≡ 0 }
     ensures onto_nothing { text_len text.old.value ≡ 0 → result ≡ 0 }
 {
@@ -406,12 +420,14 @@ pub extern "C" fn iobufs_slice(
 ) -> u8
     ensures same { (text.new.at ≡ text.old.at) × (text.new.value ≡ text.old.value) }
     ensures at { out.new.at ≡ out.old.at }
-    ensures value { out.new.value ≡ (if result == 0 then text_split_front (text_rest text.old.value lo) (hi - lo) else out.old.value) }
+    ensures value { out.new.value ≡ (if result == 0 then text_split_front (text_rest text.old.value lo)
+        (hi - lo) else out.old.value) }
     ensures backwards { hi < lo → result ≡ code_of Status.OutOfRange }
     ensures outside { text_len text.old.value < hi → result ≡ code_of Status.OutOfRange }
     ensures inside { lo ≤ hi → hi ≤ text_len text.old.value → IsDoneUnless result Status.Memory }
     ensures nothing { lo ≡ hi → hi ≤ text_len text.old.value → result ≡ 0 }
-    ensures static_text { lo ≤ hi → hi ≤ text_len text.old.value → (taken_view text.old.value lo (hi - lo)).mark ≡ static_mark → result ≡ 0 }
+    ensures static_text { lo ≤ hi → hi ≤ text_len text.old.value
+        → (taken_view text.old.value lo (hi - lo)).mark ≡ static_mark → result ≡ 0 }
 {
     let text = text.get();
     if lo > hi || hi > text.len() {
@@ -436,7 +452,8 @@ pub extern "C" fn iobufs_truncate(alloc: Global, text: &mut TextAt, len: usize) 
     ensures memory { IsDoneUnless result Status.Memory }
     ensures nothing { len ≡ 0 → result ≡ 0 }
     ensures first { len ≡ length (first_chunk (text_chunks text.old.value)) → result ≡ 0 }
-    ensures static_text { len ≤ length (first_chunk (text_chunks text.old.value)) → (taken_view text.old.value 0 len).mark ≡ static_mark → result ≡ 0 }
+    ensures static_text { len ≤ length (first_chunk (text_chunks text.old.value))
+        → (taken_view text.old.value 0 len).mark ≡ static_mark → result ≡ 0 }
     ensures last { (front : List (List ℕ)) (chunk : List ℕ) → text_chunks text.old.value ≡ front ++ chunk ∷ []
         → len + length chunk ≡ text_len text.old.value → result ≡ 0 }
 {
@@ -450,7 +467,8 @@ pub extern "C" fn iobufs_truncate(alloc: Global, text: &mut TextAt, len: usize) 
 #[unsafe(no_mangle)]
 pub extern "C" fn iobufs_advance(text: &mut TextAt, n: usize) -> u8
     ensures at { text.new.at ≡ text.old.at }
-    ensures value { text.new.value ≡ (if nat_le n (text_len text.old.value) then text_advanced text.old.value n else text.old.value) }
+    ensures value { text.new.value ≡ (if nat_le n
+        (text_len text.old.value) then text_advanced text.old.value n else text.old.value) }
     ensures result { result ≡ (if nat_le n (text_len text.old.value) then 0 else code_of Status.OutOfRange) }
 {
     let text = text.get();
@@ -465,10 +483,13 @@ pub extern "C" fn iobufs_advance(text: &mut TextAt, n: usize) -> u8
 #[unsafe(no_mangle)]
 pub extern "C" fn iobufs_copy_to_slice(text: &mut TextAt, dst: &mut [u8]) -> u8
     ensures at { text.new.at ≡ text.old.at }
-    ensures value { text.new.value ≡ (if nat_le (length dst.old) (text_len text.old.value) then text_advanced text.old.value (length dst.old)
+    ensures value { text.new.value ≡ (if nat_le (length dst.old)
+        (text_len text.old.value) then text_advanced text.old.value (length dst.old)
         else text.old.value) }
-    ensures bytes { dst.new ≡ (if nat_le (length dst.old) (text_len text.old.value) then take (length dst.old) text.old.value.bytes else dst.old) }
-    ensures result { result ≡ (if nat_le (length dst.old) (text_len text.old.value) then 0 else code_of Status.EndOfBuffer) }
+    ensures bytes { dst.new ≡ (if nat_le (length dst.old) (text_len text.old.value) then take
+        (length dst.old) text.old.value.bytes else dst.old) }
+    ensures result { result ≡ (if nat_le (length dst.old)
+        (text_len text.old.value) then 0 else code_of Status.EndOfBuffer) }
 {
     let text = text.get();
     if dst.len() > text.len() {
@@ -478,14 +499,17 @@ pub extern "C" fn iobufs_copy_to_slice(text: &mut TextAt, dst: &mut [u8]) -> u8
     Status::Done.code()
 }
 
-/// Copies the bytes after the first `skip` out; none are dropped. Returns `Status::EndOfBuffer` if there are fewer; then nothing
+/// Copies the bytes after the first `skip` out; none are dropped. Returns `Status::EndOfBuffer` if there are fewer;
+/// then nothing
 /// is written.
 #[unsafe(no_mangle)]
 pub extern "C" fn iobufs_peek(text: &mut TextAt, skip: usize, dst: &mut [u8]) -> u8
     ensures same { (text.new.at ≡ text.old.at) × (text.new.value ≡ text.old.value) }
-    ensures bytes { dst.new ≡ (if nat_le (skip + length dst.old) (text_len text.old.value) then take (length dst.old) (drop skip text.old.value.bytes)
+    ensures bytes { dst.new ≡ (if nat_le (skip + length dst.old) (text_len text.old.value) then take (length dst.old)
+        (drop skip text.old.value.bytes)
         else dst.old) }
-    ensures result { result ≡ (if nat_le (skip + length dst.old) (text_len text.old.value) then 0 else code_of Status.EndOfBuffer) }
+    ensures result { result ≡ (if nat_le (skip + length dst.old)
+        (text_len text.old.value) then 0 else code_of Status.EndOfBuffer) }
 {
     let text = text.get();
     let len = text.len();
@@ -496,7 +520,8 @@ pub extern "C" fn iobufs_peek(text: &mut TextAt, skip: usize, dst: &mut [u8]) ->
     Status::Done.code()
 }
 
-/// Takes the first bytes as one view: in the storage of their chunk, or a copy across chunks. Returns `Status::EndOfBuffer`
+/// Takes the first bytes as one view: in the storage of their chunk, or a copy across chunks. Returns
+/// `Status::EndOfBuffer`
 /// if there are fewer, or `Status::Memory`; then both are unchanged.
 #[unsafe(no_mangle)]
 pub extern "C" fn iobufs_take(alloc: Global, text: &mut TextAt, n: usize, out: &mut ViewAt) -> u8
@@ -507,7 +532,8 @@ pub extern "C" fn iobufs_take(alloc: Global, text: &mut TextAt, n: usize, out: &
     ensures inside { n ≤ text_len text.old.value → IsDoneUnless result Status.Memory }
     ensures nothing { n ≡ 0 → result ≡ 0 }
     ensures whole { n ≤ text_len text.old.value → n ≡ length (first_chunk (text_chunks text.old.value)) → result ≡ 0 }
-    ensures static_text { n ≤ text_len text.old.value → (taken_view text.old.value 0 n).mark ≡ static_mark → result ≡ 0 }
+    ensures static_text { n ≤ text_len text.old.value → (taken_view text.old.value 0 n).mark ≡ static_mark
+        → result ≡ 0 }
 {
     let text = text.get();
     if n > text.len() {
@@ -538,7 +564,8 @@ pub extern "C" fn iobufs_take_init(
     ensures inside { n ≤ text_len text.old.value → IsDoneUnless result Status.Memory }
     ensures nothing { n ≡ 0 → result ≡ 0 }
     ensures whole { n ≤ text_len text.old.value → n ≡ length (first_chunk (text_chunks text.old.value)) → result ≡ 0 }
-    ensures static_text { n ≤ text_len text.old.value → (taken_view text.old.value 0 n).mark ≡ static_mark → result ≡ 0 }
+    ensures static_text { n ≤ text_len text.old.value → (taken_view text.old.value 0 n).mark ≡ static_mark
+        → result ≡ 0 }
 {
     let text = text.get();
     if n > text.len() {
@@ -566,8 +593,10 @@ pub extern "C" fn iobufs_take_after(
     ensures outside { text_len text.old.value < skip + n → result ≡ code_of Status.EndOfBuffer }
     ensures inside { skip + n ≤ text_len text.old.value → IsDoneUnless result Status.Memory }
     ensures nothing { n ≡ 0 → skip ≤ text_len text.old.value → result ≡ 0 }
-    ensures whole { skip + n ≤ text_len text.old.value → skip ≡ 0 → n ≡ length (first_chunk (text_chunks text.old.value)) → result ≡ 0 }
-    ensures static_text { skip + n ≤ text_len text.old.value → (taken_view text.old.value skip n).mark ≡ static_mark → result ≡ 0 }
+    ensures whole { skip + n ≤ text_len text.old.value → skip ≡ 0
+        → n ≡ length (first_chunk (text_chunks text.old.value)) → result ≡ 0 }
+    ensures static_text { skip + n ≤ text_len text.old.value → (taken_view text.old.value skip n).mark ≡ static_mark
+        → result ≡ 0 }
 {
     let text = text.get();
     let len = text.len();
@@ -583,7 +612,8 @@ pub extern "C" fn iobufs_take_after(
     }
 }
 
-/// Coalesces the chunks into one view, with a copy of several, and leaves an empty `IoBufs`. Returns `Status::BadLayout` or
+/// Coalesces the chunks into one view, with a copy of several, and leaves an empty `IoBufs`. Returns
+/// `Status::BadLayout` or
 /// `Status::Memory` if that fails; then the bytes are dropped: clone them first to keep them.
 #[unsafe(no_mangle)]
 pub extern "C" fn iobufs_coalesce(alloc: Global, text: &mut TextAt, out: &mut ViewAt) -> u8
@@ -592,7 +622,8 @@ pub extern "C" fn iobufs_coalesce(alloc: Global, text: &mut TextAt, out: &mut Vi
     ensures out { result ≡ 0 → of_view out.new.value ≡ text_coalesced text.old.value }
     ensures unchanged { (result == 0) ≡ false → out.new.value ≡ out.old.value }
     ensures single { is_single text.old.value ≡ true → result ≡ 0 }
-    ensures bad_layout { is_single text.old.value ≡ false → 2 ^ 63 ≤ text_len text.old.value → result ≡ code_of Status.BadLayout }
+    ensures bad_layout { is_single text.old.value ≡ false → 2 ^ 63 ≤ text_len text.old.value
+        → result ≡ code_of Status.BadLayout }
     ensures memory { text_len text.old.value < 2 ^ 63 → IsDoneUnless result Status.Memory }
 {
     match mem::take(text.get()).coalesce(alloc) {
@@ -604,13 +635,15 @@ pub extern "C" fn iobufs_coalesce(alloc: Global, text: &mut TextAt, out: &mut Vi
     }
 }
 
-/// Takes the only chunk as a view, and leaves an empty `IoBufs`. Returns `Status::Declined` if there are more; then both are
+/// Takes the only chunk as a view, and leaves an empty `IoBufs`. Returns `Status::Declined` if there are more; then
+/// both are
 /// unchanged.
 #[unsafe(no_mangle)]
 pub extern "C" fn iobufs_try_into_single(text: &mut TextAt, out: &mut ViewAt) -> u8
     ensures at { (text.new.at ≡ text.old.at) × (out.new.at ≡ out.old.at) }
     ensures single { result ≡ 0 → (text.old.value ≡ of_view out.new.value) × (text.new.value ≡ default_text) }
-    ensures declined { (result == 0) ≡ false → (is_single text.old.value ≡ false) × (text.new.value ≡ text.old.value) × (out.new.value ≡ out.old.value) }
+    ensures declined { (result == 0) ≡ false
+        → (is_single text.old.value ≡ false) × (text.new.value ≡ text.old.value) × (out.new.value ≡ out.old.value) }
     ensures result { IsDoneUnless result Status.Declined }
 {
     match mem::take(text.get()).try_into_single() {
@@ -664,7 +697,8 @@ fn fill_run(run: &ChunkSlice, out: &mut [Chunk]) -> usize
 // Fills a list as `fill_chunks` does, each chunk by its index.
 fn fill_each(text: &IoBufs, first: usize, out: &mut [Chunk]) -> usize
     ensures count { result ≡ min (length out.old) (length (text_chunks text.now) - first) }
-    ensures lengths { map (λ chunk. chunk.len) (take result out.new) ≡ map length (take result (drop first (text_chunks text.now))) }
+    ensures lengths { map (λ chunk. chunk.len) (take result out.new) ≡ map length
+        (take result (drop first (text_chunks text.now))) }
     ensures rest { drop result out.new ≡ drop result out.old }
 {
     let left = text.chunk_count().saturating_sub(first);
@@ -682,7 +716,8 @@ fn fill_each(text: &IoBufs, first: usize, out: &mut [Chunk]) -> usize
 // Fills a list with the addresses and lengths of the chunks from `first` on, and returns how many it filled.
 fn fill_chunks(text: &IoBufs, first: usize, out: &mut [Chunk]) -> usize
     ensures count { result ≡ min (length out.old) (length (text_chunks text.now) - first) }
-    ensures lengths { map (λ chunk. chunk.len) (take result out.new) ≡ map length (take result (drop first (text_chunks text.now))) }
+    ensures lengths { map (λ chunk. chunk.len) (take result out.new) ≡ map length
+        (take result (drop first (text_chunks text.now))) }
     ensures rest { drop result out.new ≡ drop result out.old }
 {
     if text.is_single() {
@@ -698,7 +733,8 @@ fn fill_chunks(text: &IoBufs, first: usize, out: &mut [Chunk]) -> usize
 pub extern "C" fn iobufs_chunks(text: &mut TextAt, out: &mut [Chunk]) -> usize
     ensures same { (text.new.at ≡ text.old.at) × (text.new.value ≡ text.old.value) }
     ensures count { result ≡ min (length out.old) (length (text_chunks text.old.value)) }
-    ensures lengths { map (λ chunk. chunk.len) (take result out.new) ≡ map length (take result (text_chunks text.old.value)) }
+    ensures lengths { map (λ chunk. chunk.len) (take result out.new) ≡ map length
+        (take result (text_chunks text.old.value)) }
     ensures rest { drop result out.new ≡ drop result out.old }
 {
     fill_chunks(text.get(), 0, out)
@@ -709,7 +745,8 @@ pub extern "C" fn iobufs_chunks(text: &mut TextAt, out: &mut [Chunk]) -> usize
 pub extern "C" fn iobufs_chunks_from(text: &mut TextAt, first: usize, out: &mut [Chunk]) -> usize
     ensures same { (text.new.at ≡ text.old.at) × (text.new.value ≡ text.old.value) }
     ensures count { result ≡ min (length out.old) (length (text_chunks text.old.value) - first) }
-    ensures lengths { map (λ chunk. chunk.len) (take result out.new) ≡ map length (take result (drop first (text_chunks text.old.value))) }
+    ensures lengths { map (λ chunk. chunk.len) (take result out.new) ≡ map length
+        (take result (drop first (text_chunks text.old.value))) }
     ensures rest { drop result out.new ≡ drop result out.old }
 {
     fill_chunks(text.get(), first, out)

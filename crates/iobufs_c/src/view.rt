@@ -40,7 +40,8 @@ impl ViewAt {
 
     /// Borrows the view of the handle.
     pub(crate) fn get(&mut self) -> &mut IoBuf
-        ensures* writes_back { sem 𝓛 (Lends the_row view_row self.entry result (λ v. record { at = self.old.at; value = v })) }
+        ensures* writes_back { sem 𝓛 (Lends the_row view_row self.entry result
+            (λ v. record { at = self.old.at; value = v })) }
         ensures value { result.now ≡ self.old.value }
     {
         unsafe { &mut *(self.at as *mut IoBuf) }
@@ -234,7 +235,8 @@ pub extern "C" fn iobuf_clone_init(src: &mut ViewAt, out: &mut ViewRoom) -> u8
 #[unsafe(no_mangle)]
 pub extern "C" fn iobuf_advance(src: &mut ViewAt, n: usize) -> u8
     ensures at { src.new.at ≡ src.old.at }
-    ensures value { src.new.value ≡ (if nat_le n (length src.old.value.bytes) then view_advanced src.old.value n else src.old.value) }
+    ensures value { src.new.value ≡ (if nat_le n
+        (length src.old.value.bytes) then view_advanced src.old.value n else src.old.value) }
     ensures result { result ≡ (if nat_le n (length src.old.value.bytes) then 0 else code_of Status.OutOfRange) }
 {
     let view = src.get();
@@ -245,7 +247,8 @@ pub extern "C" fn iobuf_advance(src: &mut ViewAt, n: usize) -> u8
     Status::Done.code()
 }
 
-/// Splits the first bytes off, in the same storage. Returns `Status::OutOfRange` if there are fewer, or `Status::Memory`;
+/// Splits the first bytes off, in the same storage. Returns `Status::OutOfRange` if there are fewer, or
+/// `Status::Memory`;
 /// then both are unchanged.
 #[unsafe(no_mangle)]
 pub extern "C" fn iobuf_split_to(src: &mut ViewAt, at: usize, out: &mut ViewAt) -> u8
@@ -295,7 +298,8 @@ pub extern "C" fn iobuf_split_to_init(src: &mut ViewAt, at: usize, out: &mut Vie
     Status::Done.code()
 }
 
-/// Takes the first bytes as a view of its own. Returns `Status::EndOfBuffer` if there are fewer, or `Status::Memory`; then
+/// Takes the first bytes as a view of its own. Returns `Status::EndOfBuffer` if there are fewer, or `Status::Memory`;
+/// then
 /// both are unchanged.
 #[unsafe(no_mangle)]
 pub extern "C" fn iobuf_take(alloc: Global, src: &mut ViewAt, n: usize, out: &mut ViewAt) -> u8
@@ -306,7 +310,8 @@ pub extern "C" fn iobuf_take(alloc: Global, src: &mut ViewAt, n: usize, out: &mu
     ensures inside { n ≤ length src.old.value.bytes → IsDoneUnless result Status.Memory }
     ensures nothing { n ≡ 0 → result ≡ 0 }
     ensures whole { n ≡ length src.old.value.bytes → result ≡ 0 }
-    ensures static_text { n ≤ length src.old.value.bytes → (taken_view (of_view src.old.value) 0 n).mark ≡ static_mark → result ≡ 0 }
+    ensures static_text { n ≤ length src.old.value.bytes → (taken_view (of_view src.old.value) 0 n).mark ≡ static_mark
+        → result ≡ 0 }
 {
     let view = src.get();
     if n > view.len() {
@@ -325,10 +330,13 @@ pub extern "C" fn iobuf_take(alloc: Global, src: &mut ViewAt, n: usize, out: &mu
 #[unsafe(no_mangle)]
 pub extern "C" fn iobuf_copy_to_slice(src: &mut ViewAt, dst: &mut [u8]) -> u8
     ensures at { src.new.at ≡ src.old.at }
-    ensures value { src.new.value ≡ (if nat_le (length dst.old) (length src.old.value.bytes) then view_advanced src.old.value (length dst.old)
+    ensures value { src.new.value ≡ (if nat_le (length dst.old)
+        (length src.old.value.bytes) then view_advanced src.old.value (length dst.old)
         else src.old.value) }
-    ensures bytes { dst.new ≡ (if nat_le (length dst.old) (length src.old.value.bytes) then take (length dst.old) src.old.value.bytes else dst.old) }
-    ensures result { result ≡ (if nat_le (length dst.old) (length src.old.value.bytes) then 0 else code_of Status.EndOfBuffer) }
+    ensures bytes { dst.new ≡ (if nat_le (length dst.old) (length src.old.value.bytes) then take
+        (length dst.old) src.old.value.bytes else dst.old) }
+    ensures result { result ≡ (if nat_le (length dst.old)
+        (length src.old.value.bytes) then 0 else code_of Status.EndOfBuffer) }
 {
     let view = src.get();
     if dst.len() > view.len() {
@@ -373,8 +381,10 @@ pub extern "C" fn iobuf_slice(
         range_fits from to (length src.old.value.bytes) ≡ true → start_place from ≡ end_place to (length src.old.value.bytes) → result ≡ 0)) }
     ensures static_text { IfSome (bound_from_c lo_kind lo) (λ from. IfSome (bound_from_c hi_kind hi) (λ to.
         range_fits from to (length src.old.value.bytes) ≡ true → src.old.value.mark ≡ static_mark → result ≡ 0)) }
-    ensures bad_start { IfNone (bound_from_c lo_kind lo) ((result ≡ code_of Status.BadKind) × (out.new.value ≡ out.old.value)) }
-    ensures bad_end { IfNone (bound_from_c hi_kind hi) ((result ≡ code_of Status.BadKind) × (out.new.value ≡ out.old.value)) }
+    ensures bad_start { IfNone (bound_from_c lo_kind lo)
+        ((result ≡ code_of Status.BadKind) × (out.new.value ≡ out.old.value)) }
+    ensures bad_end { IfNone (bound_from_c hi_kind hi)
+        ((result ≡ code_of Status.BadKind) × (out.new.value ≡ out.old.value)) }
 {
     let (Some(from), Some(to)) = (bound(lo_kind, lo), bound(hi_kind, hi)) else {
         return Status::BadKind.code();
@@ -392,14 +402,16 @@ pub extern "C" fn iobuf_slice(
     }
 }
 
-/// Makes a view of the bytes from `lo` to `hi`, in the same storage, of memory that holds none. Returns `Status::OutOfRange`
+/// Makes a view of the bytes from `lo` to `hi`, in the same storage, of memory that holds none. Returns
+/// `Status::OutOfRange`
 /// if they aren't within the bytes, or `Status::Memory`; then there is none.
 #[unsafe(no_mangle)]
 pub extern "C" fn iobuf_slice_init(src: &mut ViewAt, lo: usize, hi: usize, out: &mut ViewRoom) -> u8
     requires { out.old.value ≡ None }
     ensures at { (src.new.at ≡ src.old.at) × (out.new.at ≡ out.old.at) }
     ensures same { src.new.value ≡ src.old.value }
-    ensures out { out.new.value ≡ (if result == 0 then Some (view_slice src.old.value (Included lo) (Excluded hi)) else None) }
+    ensures out { out.new.value ≡ (if result == 0 then Some
+        (view_slice src.old.value (Included lo) (Excluded hi)) else None) }
     ensures backwards { hi < lo → result ≡ code_of Status.OutOfRange }
     ensures outside { length src.old.value.bytes < hi → result ≡ code_of Status.OutOfRange }
     ensures inside { lo ≤ hi → hi ≤ length src.old.value.bytes → IsDoneUnless result Status.Memory }
@@ -417,7 +429,8 @@ pub extern "C" fn iobuf_slice_init(src: &mut ViewAt, lo: usize, hi: usize, out: 
     Status::Done.code()
 }
 
-/// Makes a view of bytes that live, unchanged, until the last buffer made of them is dropped. The contract takes them for
+/// Makes a view of bytes that live, unchanged, until the last buffer made of them is dropped. The contract takes them
+/// for
 /// static: only buffers made of them have their address, so nothing reads them after that.
 #[unsafe(no_mangle)]
 pub extern "C" fn iobuf_from_static(text: &'static [u8], out: &mut ViewAt)

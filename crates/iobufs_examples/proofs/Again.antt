@@ -34,7 +34,8 @@ pub unheld : (s : State) (log : List Freed) (i : ℕ) (freed : Freed) → Promis
 unheld s log i freed p e at = unheld-at s i freed p (subst (λ (l : List Freed). IsAt l i freed) e at)
 
 -- it stands there once
-once-at : (s : State) (i : ℕ) (freed : Freed) → Promises s → IsAt s.freed_blocks i freed → All (λ other. other ≢ freed) (take i s.freed_blocks)
+once-at : (s : State) (i : ℕ) (freed : Freed) → Promises s → IsAt s.freed_blocks i freed
+    → All (λ other. other ≢ freed) (take i s.freed_blocks)
 once-at s i freed p at = λ k d l e.
     let inside = at.0 in
     let count = length-take-le i s.freed_blocks (omega (arith, inside)) in

@@ -26,7 +26,8 @@ front_of : (text lost first second : List ℕ) → text ++ lost ≡ first ++ sec
     → first ≡ text ++ drop (length text) first
 front_of text lost first second e short =
     sym (take-append-drop (length text) first)
-    ∙ ap (λ xs. xs ++ drop (length text) first) (sym (take-append-le (length text) first second short) ∙ ap (take (length text)) (sym e) ∙ take-append_seam text lost)
+    ∙ ap (λ xs. xs ++ drop (length text) first) (sym (take-append-le (length text) first second short) ∙ ap (take (length text)) (sym e)
+    ∙ take-append_seam text lost)
 
 -- a text that some bytes are cut off has the first frames, and is open after them
 pub cut_is : (range : RangeCfg) (all : List (List ℕ)) (text lost : List ℕ) → CanAllFollow Spelled range all

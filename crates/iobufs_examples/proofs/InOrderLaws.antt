@@ -6,7 +6,8 @@ use Rattle.iobufs_core.specs.Dropping.{Dropping, dropped, dropped_len}
 use Rattle.iobufs_core.specs.MarkedText.{MarkedText, text_advanced, text_rest}
 
 -- reading leaves the bytes after the value that was written
-pub behind_written : {Value : Type 0} (written : Value → List ℕ) (dropping : Value → List Dropping) (text left : MarkedText) (value read : Value)
+pub behind_written : {Value : Type 0} (written : Value → List ℕ) (dropping : Value → List Dropping) (text left : MarkedText)
+    (value read : Value)
     (rest : List ℕ)
     → text.bytes ≡ written value ++ rest
     → left ≡ dropped text_advanced text_rest text (dropping read) → written value ≡ written read

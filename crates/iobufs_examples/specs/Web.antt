@@ -18,7 +18,8 @@ TakesChunk old None new = (old ≡ []) × (new ≡ old)
 
 -- one poll of a body gives the next chunk
 abbrev pub StepsChunk : ChunkBody → Poll (Option (Result (Frame (List ℕ)) BufError)) → ChunkBody → Type 0
-StepsChunk old (Ready (Some (Ok frame))) new = (chunk : List ℕ) × (frame ≡ data_frame chunk) × TakesChunk old.text.bytes (Some (Ok chunk)) new.text.bytes
+StepsChunk old (Ready (Some (Ok frame))) new = (chunk : List ℕ) × (frame ≡ data_frame chunk)
+    × TakesChunk old.text.bytes (Some (Ok chunk)) new.text.bytes
 StepsChunk old (Ready (Some (Err cause))) new = TakesChunk old.text.bytes (Some (Err cause)) new.text.bytes
 StepsChunk old (Ready None) new = TakesChunk old.text.bytes None new.text.bytes
 StepsChunk old Pending new = ⊥

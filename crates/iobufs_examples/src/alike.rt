@@ -52,7 +52,8 @@ pub fn read_in_order<T: Codec + Drop, U: Codec + Drop, B: OwnedBuf>(
     second: &U::Cfg,
 ) -> Result<(T, U), Error>
     ensures { (x : T) (y : U) (rest : List ℕ) → T.admits first.now x → U.admits second.now y
-        → B.text buf.old ≡ T.written x ++ (U.written y ++ rest) → AreReadInOrder T.same U.same x y rest (B.text buf.new) result }
+        → B.text buf.old ≡ T.written x ++ (U.written y ++ rest)
+        → AreReadInOrder T.same U.same x y rest (B.text buf.new) result }
 {
     let one = T::read_cfg(alloc, buf, first)?;
     let two = U::read_cfg(alloc, buf, second)?;

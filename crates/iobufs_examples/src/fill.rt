@@ -6,7 +6,8 @@ use iobufs_core::buf::IoBufMut;
 use std::io::{self, Read};
 
 // [docs: read_into]
-/// Reads once into the spare capacity of a buffer, without a copy. Returns how many bytes came, after those that it has.
+/// Reads once into the spare capacity of a buffer, without a copy. Returns how many bytes came, after those that it
+/// has.
 /// If it fails, the buffer is unchanged.
 pub fn read_into<R: Read>(from: &mut R, part: &mut IoBufMut) -> io::Result<usize>
     ensures ok { IfOk result (λ n. (more : List ℕ) × (length more ≡ n) × (part.new.filled ≡ part.old.filled ++ more)

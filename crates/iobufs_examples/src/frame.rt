@@ -27,7 +27,8 @@ pub fn read_frame(alloc: Global, text: &mut IoBufs, most: usize) -> Result<IoBuf
     ensures framed { IfOk result (λ body. text.old.bytes ≡ bytes_written body.bytes ++ text.new.bytes) }
     ensures short { IfOk result (λ body. length body.bytes ≤ most) }
     ensures unchanged { OnErr result (text.new ≡ text.old) }
-    ensures back { (body rest : List ℕ) → length body ≤ most → text.old.bytes ≡ bytes_written body ++ rest → AreReadBack body rest text.new.bytes result }
+    ensures back { (body rest : List ℕ) → length body ≤ most → text.old.bytes ≡ bytes_written body ++ rest
+        → AreReadBack body rest text.new.bytes result }
 {
     IoBuf::read_cfg(alloc, text, &RangeCfg { lo: 0, hi: most })
 }

@@ -32,7 +32,8 @@ impl ByParts for Note {
 impl Note {
     /// Encodes the note. Its body is not copied.
     pub fn encode(self, alloc: Global) -> Result<IoBufs, Error>
-        ensures { IfOk result (λ text. text.bytes ≡ to_be_bytes w32 self.number ++ ((self.kind ∷ []) ++ view_written self.body)) }
+        ensures { IfOk result (λ text. text.bytes ≡ to_be_bytes w32 self.number
+            ++ ((self.kind ∷ []) ++ view_written self.body)) }
     {
         (self.number, self.kind, self.body).encode_iobufs(alloc)
     }

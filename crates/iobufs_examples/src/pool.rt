@@ -24,7 +24,8 @@ impl Pool {
         Pool { given: 0 }
     }
 
-    /// The memory of the next freed block, if there is one that isn't handed out. Nobody holds it, and none of those that
+    /// The memory of the next freed block, if there is one that isn't handed out. Nobody holds it, and none of those
+    /// that
     /// were handed out before is the same.
     pub fn take(&mut self, machine: &Machine) -> Option<Freed>
         requires { Promises machine.now.state }

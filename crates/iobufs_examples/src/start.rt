@@ -113,7 +113,8 @@ pub fn put<W: Write + Drop>(
     Ok(())
 }
 
-/// Receives the next entry; `None` at the end of the input. `LogError::Entry` drops a body that is no entry; another error
+/// Receives the next entry; `None` at the end of the input. `LogError::Entry` drops a body that is no entry; another
+/// error
 /// loses no byte.
 pub fn receive<R: Read + Drop>(
     alloc: Global,

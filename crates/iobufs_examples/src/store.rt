@@ -50,7 +50,8 @@ pub fn fill<R: Read>(from: &mut R, parts: &mut IoBufsMut) -> io::Result<()>
 pub fn store<R: Read>(alloc: Global, from: &mut R, mut parts: IoBufsMut) -> io::Result<IoBufs>
     ensures bytes { IfOk result (λ text. Consumes (R.remaining from.old) (R.remaining from.new) text.bytes) }
     ensures done { IfOk result (λ text. (length text.bytes ≡ parts_capacity parts) ⊎ IsAtEnd (R.remaining from.new)) }
-    ensures lost { OnErr result ((read : List ℕ) × (length read ≤ parts_capacity parts) × Consumes (R.remaining from.old) (R.remaining from.new) read) }
+    ensures lost { OnErr result ((read : List ℕ) × (length read ≤ parts_capacity parts)
+        × Consumes (R.remaining from.old) (R.remaining from.new) read) }
     ensures nothing { parts_capacity parts ≡ 0 → IsOk result }
 {
     parts.set_len(0);

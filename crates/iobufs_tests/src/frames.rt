@@ -67,7 +67,8 @@ fn lengths_are_written(rt: HostRuntime) -> Result<(), Fail> {
     Ok(())
 }
 
-// Chunks, the greatest length that is admitted, and the bodies of the frames, the end, and the rest, as `framed` shows them.
+// Chunks, the greatest length that is admitted, and the bodies of the frames, the end, and the rest, as `framed` shows
+// them.
 type Case = (&'static [&'static [u8]], usize, &'static [u8]);
 
 const FRAMES: [Case; 6] = rows! {

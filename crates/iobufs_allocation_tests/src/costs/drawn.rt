@@ -1,4 +1,5 @@
-// Lengths, numbers of chunks and offsets that are drawn by a word of the environment, so that no table shows which they are.
+// Lengths, numbers of chunks and offsets that are drawn by a word of the environment, so that no table shows which they
+// are.
 use crate::costs::shape::Shape;
 use crate::costs::{count_parts, count_rows, count_texts, count_views};
 use iobufs_core::codec::BufError;
@@ -64,7 +65,8 @@ impl Draw {
         })
     }
 
-    // Two buffers of one number of chunks, with the same offsets in 64ths. A chunk has at least 64 bytes, so that an offset
+    // Two buffers of one number of chunks, with the same offsets in 64ths. A chunk has at least 64 bytes, so that an
+    // offset
     // within one is within one of the other too.
     fn pair(&mut self, alloc: Global) -> Result<(Shape, Shape), BufError> {
         let count = self.size(65536);

@@ -1,4 +1,5 @@
-// How much memory is held for bytes that are received, and for buffers that are coalesced. A test prints the most bytes that it held since it last did;
+// How much memory is held for bytes that are received, and for buffers that are coalesced. A test prints the most bytes
+// that it held since it last did;
 // `tests/costs` compares the memory that was allocated and not freed meanwhile.
 use crate::costs::calls::ANY;
 use crate::word::mark;
@@ -11,7 +12,8 @@ use std::io::{self, Read};
 use std::process::Abort;
 use std::test::Fail;
 
-// A name, how many frames there are, how many bytes a body has, how many bytes come at a time at most, and whether bodies
+// A name, how many frames there are, how many bytes a body has, how many bytes come at a time at most, and whether
+// bodies
 // are kept.
 type Case = (&'static str, usize, usize, usize, bool);
 

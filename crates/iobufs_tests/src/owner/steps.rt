@@ -1,4 +1,5 @@
-// The machine where no stored session of the program goes: it reserves entries before each step, and gives no list of steps.
+// The machine where no stored session of the program goes: it reserves entries before each step, and gives no list of
+// steps.
 use crate::same::assert_same;
 use iobufs_owner::format::FORMAT_64;
 use iobufs_owner::owner::Act::Begin;

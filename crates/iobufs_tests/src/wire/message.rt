@@ -27,7 +27,8 @@ impl EncodeSize for Message {
     ghost written = { λ m. to_be_bytes w32 m.number ++ ((m.kind ∷ []) ++ view_written m.body) };
 
     // The puts and pushes that write them.
-    ghost items = { λ m. (put_item (to_be_bytes w32 m.number) ∷ []) ++ ((put_item (m.kind ∷ []) ∷ []) ++ view_items m.body) };
+    ghost items = { λ m. (put_item (to_be_bytes w32 m.number) ∷ [])
+        ++ ((put_item (m.kind ∷ []) ∷ []) ++ view_items m.body) };
 
     fn encode_size(&self) -> Option<usize> {
         (self.number, self.kind, &self.body).encode_size()
@@ -38,7 +39,8 @@ impl EncodeSize for Message {
     }
 
     // They write these bytes: a law for each field, joined pair by pair.
-    ghost joins_items = { λ m. joins_two (put_item (to_be_bytes w32 m.number) ∷ []) ((put_item (m.kind ∷ []) ∷ []) ++ view_items m.body)
+    ghost joins_items = { λ m. joins_two (put_item (to_be_bytes w32 m.number) ∷ [])
+        ((put_item (m.kind ∷ []) ∷ []) ++ view_items m.body)
         (to_be_bytes w32 m.number) ((m.kind ∷ []) ++ view_written m.body) (joins-put (to_be_bytes w32 m.number))
         (joins_two (put_item (m.kind ∷ []) ∷ []) (view_items m.body) (m.kind ∷ []) (view_written m.body) (joins-put (m.kind ∷ [])) (joins-view m.body)) };
 }
@@ -57,7 +59,8 @@ impl Look for Message {
     type Cfg = ((), (), RangeCfg);
 
     // All four are those of the tuple.
-    ghost is_found = { λ text skip cfg m. ⟦<(u32, u8, IoBuf) as Look>⟧.is_found text skip cfg (m.number, m.kind, m.body) };
+    ghost is_found = { λ text skip cfg m. ⟦<(u32, u8, IoBuf) as Look>⟧.is_found text skip cfg
+        (m.number, m.kind, m.body) };
 
     ghost is_fault = { ⟦<(u32, u8, IoBuf) as Look>⟧.is_fault };
 

@@ -11,4 +11,5 @@ use Rattle.iobufs_c.proofs.frames.iobufs_frames_init.Code as code
 
 pub iobufs_frames_init_spec : {M : Type 1} → statement M
 iobufs_frames_init_spec 𝓤 𝓛 𝓜 𝓡 wired =
-    inits V the_row_laws default_frames 𝓛 𝓜 𝓡 of (met 𝓤 𝓛 𝓜 𝓡 (code.calls-iobufs_c::frames::empty 𝓡.env wired)) name (code.unfolded 𝓤 𝓛.H 𝓜 𝓡 wired)
+    inits V the_row_laws default_frames 𝓛 𝓜 𝓡 of (met 𝓤 𝓛 𝓜 𝓡 (code.calls-iobufs_c::frames::empty 𝓡.env wired)) name
+    (code.unfolded 𝓤 𝓛.H 𝓜 𝓡 wired)

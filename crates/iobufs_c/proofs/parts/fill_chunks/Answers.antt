@@ -22,7 +22,8 @@ loop-count-preserved c =
         parts = omega (arith, there);
         lengths = lengths_more (λ chunk. chunk.len) c.loop-count.out (parts_chunks (take i parts)) (parts_chunks (take
             (i + 1) parts)) n w.chunk_of.result c.in-Some.part.now.filled c.loop-count-test.true (w.chunk_of.ensures
-            ∙ ap length w.as_ref.ensures) (chunks_more parts i c.in-Some.part.now at (sym c.is_empty.ensures ∙ w.if-not-is_empty.true)) inv.lengths;
+            ∙ ap length w.as_ref.ensures) (chunks_more parts i c.in-Some.part.now at
+            (sym c.is_empty.ensures ∙ w.if-not-is_empty.true)) inv.lengths;
         rest = rest_more c.loop-count.out c.args.out.now n w.chunk_of.result (omega arith) inv.rest;
       }))
       | else-not-is_empty w ↦ rw w.out-is (rw w.count-is (record {
@@ -40,11 +41,13 @@ returns-after-loop-count-clause-count c =
     let inv = c.loop-count.invariant in
     let so_far = parts_chunks (take c.loop-count.i c.args.parts.now) in
     let count = counted (λ chunk. chunk.len) c.loop-count.out so_far c.loop-count.count inv.within inv.lengths in
-    let all = ap length (chunks_split c.args.parts.now c.loop-count.i) ∙ length-append so_far (parts_chunks (drop c.loop-count.i c.args.parts.now)) in
+    let all = ap length (chunks_split c.args.parts.now c.loop-count.i)
+    ∙ length-append so_far (parts_chunks (drop c.loop-count.i c.args.parts.now)) in
     omega (arith, inv.size, inv.within, c.loop-count-test.false, count, all)
 
 pub returns-after-loop-count-clause-lengths : goal.returns-after-loop-count-clause-lengths
 returns-after-loop-count-clause-lengths c =
     let inv = c.loop-count.invariant in
-    let count = counted (λ chunk. chunk.len) c.loop-count.out (parts_chunks (take c.loop-count.i c.args.parts.now)) c.loop-count.count inv.within inv.lengths in
+    let count = counted (λ chunk. chunk.len) c.loop-count.out
+    (parts_chunks (take c.loop-count.i c.args.parts.now)) c.loop-count.count inv.within inv.lengths in
     inv.lengths ∙ ap (λ pieces. map length pieces) (sym (first_chunks c.args.parts.now c.loop-count.i c.loop-count.count count))

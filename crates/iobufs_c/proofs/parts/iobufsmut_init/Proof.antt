@@ -13,4 +13,5 @@ use Rattle.iobufs_c.proofs.parts.iobufsmut_init.Code as code
 
 pub iobufsmut_init_spec : {M : Type 1} → statement M
 iobufsmut_init_spec 𝓤 𝓛 𝓜 𝓡 wired =
-    inits V (option_laws row part_laws) None 𝓛 𝓜 𝓡 of (met 𝓤 𝓛 𝓜 𝓡 (code.calls-iobufs_c::parts::none 𝓡.env wired)) name (code.unfolded 𝓤 𝓛.H 𝓜 𝓡 wired)
+    inits V (option_laws row part_laws) None 𝓛 𝓜 𝓡 of (met 𝓤 𝓛 𝓜 𝓡 (code.calls-iobufs_c::parts::none 𝓡.env wired)) name
+    (code.unfolded 𝓤 𝓛.H 𝓜 𝓡 wired)

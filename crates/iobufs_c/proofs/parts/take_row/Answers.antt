@@ -21,11 +21,13 @@ loop-i-preserved c =
             ∙ held_next (λ place. place.value) old i place w.in-Some.part c.loop-i-test.true (at ∙ w.in-Some.is)))
         | in_default w ↦ rw w.row-is (inv.row ∙ held_same (λ place. place.value) old i place c.loop-i-test.true (at ∙ w.in_default.is))
       ];
-      taken = taken_more (λ place. place.value) c.loop-i.places i emptied None (omega (arith, inv.size, c.loop-i-test.true)) c.replace.ensures.after inv.taken;
+      taken = taken_more (λ place. place.value) c.loop-i.places i emptied None
+          (omega (arith, inv.size, c.loop-i-test.true)) c.replace.ensures.after inv.taken;
       rest = rest_more c.loop-i.places old i emptied (omega arith) inv.rest;
       at = places_same (λ place. place.at) c.loop-i.places i emptied place refl ∙ inv.at;
       few = elim c.match-replace.branch [
-        | in-Some w ↦ (let pushed = rw w.unwrap.ensures at w.push.ensures.items in rw w.row-is (grind (arith, common_steps, pushed, inv.few)))
+        | in-Some w ↦ (let pushed = rw w.unwrap.ensures at w.push.ensures.items in rw w.row-is
+            (grind (arith, common_steps, pushed, inv.few)))
         | in_default w ↦ rw w.row-is (omega (arith, inv.few))
       ];
       room = elim c.match-replace.branch [

@@ -37,7 +37,8 @@ returns-clause-lengths c =
       c.fill_run-count.auto.out,
     ) in
     ap (map (λ chunk. chunk.len)) (filled_both xs ys _ n m room (drop_all (length xs - n) (drop n xs) (omega (arith, length-drop n xs))))
-    ∙ map-append (λ chunk. chunk.len) (take n xs) (take m ys) ∙ ap (λ more. more ++ map (λ chunk. chunk.len) (take m ys)) c.fill_run-count.ensures.lengths
+    ∙ map-append (λ chunk. chunk.len) (take n xs) (take m ys)
+    ∙ ap (λ more. more ++ map (λ chunk. chunk.len) (take m ys)) c.fill_run-count.ensures.lengths
     ∙ ap (λ more. map length (take n front) ++ more) c.fill_run.ensures.lengths ∙ sym (map-append length (take n front) (take m behind))
     ∙ ap (map length) (sym (take_both front behind n m (omega (arith, c.fill_run-count.ensures.count)) full))
     ∙ ap (λ chunks. map length (take (n + m) chunks)) several

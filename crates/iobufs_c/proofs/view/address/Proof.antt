@@ -47,10 +47,13 @@ module _ {M : Type 1} {𝓤 : Ura M} (𝓛 : Logic 𝓤) (at_mem : Memory → SP
     walks : ent 𝓤 ((walk_of 𝓛 F.ended stayed held).pre z) (WpFn 𝓤 H C Λ code.function ((walk_of 𝓛 F.ended stayed held).args z) Post)
     walks =
         let a = z.0.3 in let b = a.0.ref_ptr.0 in let o = a.0.ref_ptr.1 in
-        qed 𝓛 ((raw (alive 𝓛 F.ended.signature z.0.0 z.0.1) ⊛ ‵ (owns (types_at F.ended.signature.params z.0.0) a z.0.4)) ∷ raw ((held z.0.0 a).requires z.1) ∷ []) ∵
-        keep ! (0 ∷ []) $ split ! $ move ! (1 ∷ []) $ fsplit ! $ fsplit ! $ fsplit ! $ feq_l ! (λ is. fsplit ! $ flt_l ! (λ count. flt_l ! (λ size. keep ! (2 ∷ []) $
+        qed 𝓛 ((raw (alive 𝓛 F.ended.signature z.0.0 z.0.1) ⊛ ‵ (owns (types_at F.ended.signature.params z.0.0) a z.0.4)) ∷ raw
+        ((held z.0.0 a).requires z.1) ∷ []) ∵
+        keep ! (0 ∷ []) $ split ! $ move ! (1 ∷ []) $ fsplit ! $ fsplit ! $ fsplit ! $ feq_l !
+        (λ is. fsplit ! $ flt_l ! (λ count. flt_l ! (λ size. keep ! (2 ∷ []) $
         regoal ! (λ (us : List Val). prop (WpFn 𝓤 H C Λ code.function (us ++ []) Post)) is refl $
-        enter ! C Λ code.function (slice_val (b, o) (length a.0.now) ∷ []) Post $ alloc_all ! (λ l. pass_all ! refl ((tt, (tt, (record { fits = count }, tt))), tt) $
+        enter ! C Λ code.function (slice_val (b, o) (length a.0.now) ∷ []) Post $ alloc_all !
+        (λ l. pass_all ! refl ((tt, (tt, (record { fits = count }, tt))), tt) $
         sets ! (addr ! (from ! (fld ! refl (hop ! (look_in_at ! 1 (sub ! 0 refl (whole !))) (stop !))))) refl (tt, tt) $
         returns ! (look_at ! 0 refl) $ free_all ! refl $
         suffices ! _ (ends_at 𝓛 F.ended stayed held z (vptr b o) (block_ptr b o) (tt, tt) (tt, tt)) $

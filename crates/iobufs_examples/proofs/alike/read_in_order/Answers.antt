@@ -8,7 +8,8 @@ pub returns-in_err-one : goal.returns-in_err-one
 returns-in_err-one g c = λ x y rest p q e.
     let (error, told, cause) = err_from_is_err_and c.from_residual.result c.from_residual.ensures.1 in
     let memory : c.in_err-one.field-0.0 ≡ Memory =
-    g.met.T.Codec.form.gives_back x c.args.first.now (g.B.OwnedBuf.marked c.args.buf.now) (g.U.EncodeSize.written y ++ rest) (Err c.in_err-one.field-0.0) p
+    g.met.T.Codec.form.gives_back x c.args.first.now (g.B.OwnedBuf.marked c.args.buf.now) (g.U.EncodeSize.written y ++ rest)
+    (Err c.in_err-one.field-0.0) p
     (g.met.B.OwnedBuf.same_text c.args.buf.now ∙ e) c.in_err-one.ensures.answer in
     rw (told, cause) memory
 
@@ -18,8 +19,10 @@ returns-in_err-two g c = λ x y rest p q e.
     let old = g.B.OwnedBuf.marked c.args.buf.now in
     let middle = g.B.OwnedBuf.marked c.read_cfg.new.buf in
     let text = g.met.B.OwnedBuf.same_text c.args.buf.now ∙ e in
-    let same = g.met.T.Codec.form.gives_back x c.args.first.now old (g.U.EncodeSize.written y ++ rest) (Ok one) p text c.in_ok-one.ensures.answer in
-    let left = behind_written g.T.EncodeSize.written g.T.Read.dropping old middle x one (g.U.EncodeSize.written y ++ rest) text c.in_ok-one.ensures.rest
+    let same = g.met.T.Codec.form.gives_back x c.args.first.now old (g.U.EncodeSize.written y ++ rest)
+    (Ok one) p text c.in_ok-one.ensures.answer in
+    let left = behind_written g.T.EncodeSize.written g.T.Read.dropping old middle x one
+    (g.U.EncodeSize.written y ++ rest) text c.in_ok-one.ensures.rest
     (g.met.T.Codec.form.same_written x one same) (g.met.T.Codec.form.drops_written one) in
     let (error, told, cause) = err_from_is_err_and c.from_residual-in_err-two.result c.from_residual-in_err-two.ensures.1 in
     let memory : c.in_err-two.field-0.0 ≡ Memory =
@@ -34,8 +37,10 @@ returns g c = λ x y rest p q e.
     let middle = g.B.OwnedBuf.marked c.read_cfg.new.buf in
     let new = g.B.OwnedBuf.marked c.read_cfg-2.new.buf in
     let text = g.met.B.OwnedBuf.same_text c.args.buf.now ∙ e in
-    let same = g.met.T.Codec.form.gives_back x c.args.first.now old (g.U.EncodeSize.written y ++ rest) (Ok one) p text c.in_ok-one.ensures.answer in
-    let left = behind_written g.T.EncodeSize.written g.T.Read.dropping old middle x one (g.U.EncodeSize.written y ++ rest) text c.in_ok-one.ensures.rest
+    let same = g.met.T.Codec.form.gives_back x c.args.first.now old (g.U.EncodeSize.written y ++ rest)
+    (Ok one) p text c.in_ok-one.ensures.answer in
+    let left = behind_written g.T.EncodeSize.written g.T.Read.dropping old middle x one
+    (g.U.EncodeSize.written y ++ rest) text c.in_ok-one.ensures.rest
     (g.met.T.Codec.form.same_written x one same) (g.met.T.Codec.form.drops_written one) in
     let second = g.met.U.Codec.form.gives_back y c.args.second.now middle rest (Ok two) q left c.in_ok-two.ensures.answer in
     let end = behind_written g.U.EncodeSize.written g.U.Read.dropping middle new y two rest left c.in_ok-two.ensures.rest

@@ -24,4 +24,5 @@ returns g c =
     let bytes : c.in_ok-view.view.bytes ≡ written ++ [] =
     ap (λ (v : View). v.bytes) view ∙ ap (λ (p : Part). (part_frozen p).bytes) part ∙ frozen_bytes written 0 ∙ sym (append-nil written) in
     if_read g.T.Read.same c.args.value.now c.read_cfg.result
-    (g.met.T.Codec.form.gives_back c.args.value.now c.args.cfg.now (of_view c.in_ok-view.view) [] c.read_cfg.result c.requires bytes c.read_cfg.ensures.answer)
+    (g.met.T.Codec.form.gives_back c.args.value.now c.args.cfg.now (of_view c.in_ok-view.view)
+    [] c.read_cfg.result c.requires bytes c.read_cfg.ensures.answer)

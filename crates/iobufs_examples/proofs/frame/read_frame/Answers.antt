@@ -15,5 +15,6 @@ fits most n h = grind (arith, nat_tests)
 
 pub returns-clause-back : goal.returns-clause-back
 returns-clause-back c = λ body rest short is.
-    written_read_back _ _ _ c.read_cfg.result body rest c.read_cfg.ensures.answer c.read_cfg.ensures.rest (omega (arith, short, c.ranges.most.fits))
+    written_read_back _ _ _ c.read_cfg.result body rest c.read_cfg.ensures.answer c.read_cfg.ensures.rest
+    (omega (arith, short, c.ranges.most.fits))
     (fits c.args.most _ short) is

@@ -4,4 +4,5 @@ use Rattle.iobufs_examples.proofs.send.batch.Given as goal
 
 abbrev pub invariant-loop-chunk : goal.invariant-loop-chunk
 invariant-loop-chunk l =
-    map io_slice_bytes l.slices.items ++ map (λ chunk. chunk.now) l.chunk-iterator.rest.items ≡ map (λ chunk. chunk.now) l.initial.chunk-iterator.rest.items
+    map io_slice_bytes l.slices.items ++ map (λ chunk. chunk.now) l.chunk-iterator.rest.items ≡ map
+    (λ chunk. chunk.now) l.initial.chunk-iterator.rest.items

@@ -15,4 +15,5 @@ returns-clause-bytes g c = written_front io_slice_bytes c.deref.result.now _ _ _
 pub returns-clause-batch : goal.returns-clause-batch
 returns-clause-batch g c =
     subst (λ (bytes : List ℕ). WritesAtMost c.write_vectored.result bytes)
-    (batch_bytes io_slice_bytes c.deref.result.now _ _ (ap (map io_slice_bytes) c.deref.ensures.value ∙ c.in_ok-slices.ensures)) c.write_vectored.ensures.bound
+    (batch_bytes io_slice_bytes c.deref.result.now _ _
+    (ap (map io_slice_bytes) c.deref.ensures.value ∙ c.in_ok-slices.ensures)) c.write_vectored.ensures.bound

@@ -10,5 +10,6 @@ use Rattle.iobufs_c.proofs.parts.PartsAt.get.Code as code
 
 pub get_spec : {M : Type 1} → statement M
 get_spec 𝓤 𝓛 𝓜 𝓡 wired =
-    lends V struct.name PartsAt (λ d. d.at) (λ d. d.value) (λ p v. record { at = p; value = v }) (λ d. refl) (λ p v. refl) (λ p v. refl) the_codes tt 𝓛
+    lends V struct.name PartsAt (λ d. d.at) (λ d. d.value) (λ p v. record { at = p; value = v }) (λ d. refl) (λ p v. refl)
+    (λ p v. refl) the_codes tt 𝓛
     𝓜 𝓡 name _ _ _ (code.unfolded 𝓤 𝓛.H 𝓜 𝓡 wired)
