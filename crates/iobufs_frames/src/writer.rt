@@ -105,8 +105,8 @@ impl<W: Drop> FrameWriter<W> {
 }
 
 impl<W: Write + Drop> FrameWriter<W> {
-    /// Sends the rest of the frame. After an error no byte is lost or sent twice: the rest is in `rest`, and `send` may
-    /// be called again.
+    /// Sends the rest of the frame. An error is the writer's, never `ErrorKind::Interrupted`, or `ErrorKind::WriteZero`
+    /// if it takes none. After it no byte is lost or sent twice: the rest is in `rest`, and `send` may be called again.
     pub fn send(&mut self) -> io::Result<()>
         ensures { SendsRest W.contents self.old result self.new }
     {
