@@ -50,7 +50,6 @@ pub struct Frames {
     rest: IoBufs,
 }
 
-// Written out, so that what a caller proves about frames that it drops names no field.
 impl Drop for Frames {
     fn drop(self) {
         let Frames { prefix: _, rest: _ } = self;
