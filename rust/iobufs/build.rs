@@ -3,7 +3,7 @@ use std::path::{Path, PathBuf};
 use std::process::ExitCode;
 
 #[allow(dead_code)]
-#[path = "strip/lib.rs"]
+#[path = "../strip/src/lib.rs"]
 mod strip;
 
 const CRATES: [&str; 3] = ["iobufs_core", "iobufs", "iobufs_frames"];
@@ -19,9 +19,9 @@ const SPARES: [(&str, &str); 5] = [
 fn main() -> ExitCode {
     let folder = |name| PathBuf::from(std::env::var_os(name).expect("cargo says where"));
     let (here, out) = (folder("CARGO_MANIFEST_DIR"), folder("OUT_DIR"));
-    let files = SPARES.map(|(_, file)| here.join("src/spare").join(file));
+    let files = SPARES.map(|(_, file)| here.join("rust/iobufs/src/spare").join(file));
     let spares: Vec<_> = SPARES.iter().zip(&files).map(|((of, _), file)| (*of, file.as_path())).collect();
-    match strip::write_crates(&CRATES, &spares, Path::new("proved"), &out) {
+    match strip::write_crates(&CRATES, &spares, Path::new("crates"), &out) {
         Ok(()) => ExitCode::SUCCESS,
         Err(refused) => {
             eprintln!("{refused}");

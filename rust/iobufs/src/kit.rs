@@ -1,17 +1,17 @@
 //! The calls of the kit's std and `bytes` that the proved sources make: those that the program and the C library have,
 //! but `bytes` over the crate of that name.
 #[allow(unsafe_code)]
-#[path = "../kit/arc.rs"]
+#[path = "../../kit/src/arc.rs"]
 mod arc;
-#[path = "../kit/base.rs"]
+#[path = "../../kit/src/base.rs"]
 mod base;
 #[path = "kit/bytes.rs"]
 pub mod bytes;
-#[path = "../kit/deque.rs"]
+#[path = "../../kit/src/deque.rs"]
 mod deque;
-#[path = "../kit/io.rs"]
+#[path = "../../kit/src/io.rs"]
 pub mod io;
-#[path = "../kit/vec.rs"]
+#[path = "../../kit/src/vec.rs"]
 mod vec;
 
 pub use base::{Clone, Global};
