@@ -9,6 +9,7 @@
 #![forbid(unsafe_code)]
 use crate::{Builder, Error, IoBuf, IoBufMut, IoBufs, IoBufsMut, length_size};
 use bytes::{Buf, BufMut, Bytes, BytesMut};
+use std::iter;
 use std::ops::{Bound, RangeBounds};
 
 /// Which lengths are admitted.
@@ -137,6 +138,11 @@ pub trait EncodeSize {
     fn encode_inline_size(&self) -> usize {
         self.encode_size()
     }
+}
+
+// The sum of sizes. Panics if it is more than `usize::MAX`.
+fn sum(sizes: impl IntoIterator<Item = usize>) -> usize {
+    sizes.into_iter().fold(0, |sum: usize, size| sum.checked_add(size).expect("length overflow"))
 }
 
 /// A value that is written.
@@ -342,11 +348,11 @@ impl Read for bool {
 
 impl<T: EncodeSize> EncodeSize for Option<T> {
     fn encode_size(&self) -> usize {
-        1 + self.as_ref().map_or(0, T::encode_size)
+        sum([1, self.as_ref().map_or(0, T::encode_size)])
     }
 
     fn encode_inline_size(&self) -> usize {
-        1 + self.as_ref().map_or(0, T::encode_inline_size)
+        sum([1, self.as_ref().map_or(0, T::encode_inline_size)])
     }
 }
 
@@ -372,11 +378,11 @@ impl<T: Read> Read for Option<T> {
 
 impl<T: EncodeSize> EncodeSize for Vec<T> {
     fn encode_size(&self) -> usize {
-        length_size(self.len()) + self.iter().map(T::encode_size).sum::<usize>()
+        sum(iter::once(length_size(self.len())).chain(self.iter().map(T::encode_size)))
     }
 
     fn encode_inline_size(&self) -> usize {
-        length_size(self.len()) + self.iter().map(T::encode_inline_size).sum::<usize>()
+        sum(iter::once(length_size(self.len())).chain(self.iter().map(T::encode_inline_size)))
     }
 }
 
@@ -392,7 +398,7 @@ impl<T: Write> Write for Vec<T> {
     }
 }
 
-/// Allocates as items are read, and not by the length.
+/// Allocates as items are read, and not by the length. Items of no bytes take time alone: the range bounds their number.
 impl<T: Read> Read for Vec<T> {
     type Cfg = (RangeCfg<usize>, T::Cfg);
 
@@ -430,11 +436,11 @@ macro_rules! tuples {
     ($([$($field:tt $type:ident)*])*) => {$(
         impl<$($type: EncodeSize),*> EncodeSize for ($($type,)*) {
             fn encode_size(&self) -> usize {
-                0 $(+ self.$field.encode_size())*
+                sum([$(self.$field.encode_size()),*])
             }
 
             fn encode_inline_size(&self) -> usize {
-                0 $(+ self.$field.encode_inline_size())*
+                sum([$(self.$field.encode_inline_size()),*])
             }
         }
 
@@ -483,8 +489,7 @@ impl Read for usize {
 impl EncodeSize for IoBuf {
     #[track_caller]
     fn encode_size(&self) -> usize {
-        let size = self.encode_inline_size().checked_add(self.len());
-        size.expect("length overflow")
+        sum([self.encode_inline_size(), self.len()])
     }
 
     fn encode_inline_size(&self) -> usize {
