@@ -343,3 +343,18 @@ fn written_without_room() {
 fn a_number_past_the_end() {
     IoBuf::from(b"a").get_u16();
 }
+
+/// A value that is written as half of all bytes that a `usize` counts, and one more.
+struct Half;
+
+impl EncodeSize for Half {
+    fn encode_size(&self) -> usize {
+        usize::MAX / 2 + 1
+    }
+}
+
+#[test]
+#[should_panic(expected = "length overflow")]
+fn a_sum_of_sizes_is_checked() {
+    (Half, Half).encode_size();
+}
