@@ -41,6 +41,25 @@ static int text_shows(struct iobufs_at *text, size_t n, size_t lo, size_t hi) {
     return at == hi;
 }
 
+/* A view that no other shares is recovered with its block, by either call. */
+static void recovered(size_t n) {
+    VIEW(view); PART(part);
+    struct iobufmut memory;
+    struct iobufmut_at other = { &memory };
+    const uint8_t *before, *after;
+    OK(iobuf_copy_from_slice(model, n, &view));
+    iobuf_chunk(&view, &before);
+    OK(iobuf_try_into_mut(&view, &part));
+    CHECK(part_shows(&part, 0, n) && iobufmut_capacity(&part) == n);
+    OK(iobufmut_freeze(&part, &view));
+    OK(iobuf_try_into_mut_init(&view, &other));
+    CHECK(part_shows(&other, 0, n) && iobufmut_capacity(&other) == n);
+    OK(iobufmut_freeze(&other, &view));
+    iobuf_chunk(&view, &after);
+    CHECK(before == after);
+    iobuf_drop(&view), iobufmut_drop(&part);
+}
+
 static void views(size_t n) {
     VIEW(view); VIEW(other);
     PART(part);
@@ -60,6 +79,7 @@ static void views(size_t n) {
     OK(iobufmut_from_view(&view, &part));
     CHECK(part_shows(&part, n / 2 + 7 + n / 4, n));
     iobufmut_drop(&part);
+    recovered(n);
 }
 
 /* Frames of n bytes that are received in steps, after a short one whose body is kept. */

@@ -37,6 +37,9 @@ fn long_views() {
         assert!(part.copy_to_bytes(9) == all[n / 2 + 7..n / 2 + 16] && part.freeze() == all[n / 2 + 16..]);
         let copy = IoBuf::from(all.clone());
         assert!(copy == all[..]);
+        assert!(
+            IoBuf::copy_from_slice(&all).try_into_mut().is_ok_and(|part| part.capacity() == n && part.chunk() == all)
+        );
     }
 }
 
