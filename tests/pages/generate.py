@@ -256,4 +256,4 @@ def generated(page, text):
         made = code(name).replace("PATH", above) if kind == "code" else "\n".join(PARTS[found[1]]())
         return f"<!-- generated: {found[1]} -->\n{made}\n<!-- end -->"
 
-    return re.sub(MARKED, part, text, flags=re.S)
+    return MARKED.sub(part, text)
