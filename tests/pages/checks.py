@@ -68,7 +68,6 @@ LINK_DEFINED = re.compile(r"^\[([^\]]+)\]: (\S+)$", re.M)
 LINK_USED = re.compile(r"\]\[([^\]]+)\]")
 LINK = re.compile(r"\]\(([^)\s]+)\)")
 HEADING = re.compile(r"^#+ (.*)$", re.M)
-SCHEME = re.compile(r"[a-z]+:")  # A link to another place than this repository: https:
 LEFT_OUT = re.compile(r"[^\w\- ]")  # What the address of a heading leaves out: the `, of `Promises`
 
 
@@ -85,7 +84,7 @@ def faults_of_links(page, text):
     for target in [*LINK.findall(text), *defined.values()]:
         file, _, heading = target.partition("#")
         linked = (page.parent / file) if file else page
-        if SCHEME.match(target):
+        if "://" in target:
             continue
         if not linked.exists():
             yield f"no file for the link {target}"
@@ -93,7 +92,6 @@ def faults_of_links(page, text):
             yield f"no heading for the link {target}"
 
 
-COMMENT = re.compile(r"^\s*(?:--|//).*$", re.M)  # A line of comment: -- The rows.
 # The comment at the head of a file of specs/, and the names of a row in it, from which two blanks part its phrases:
 # --     first, rest   the first row, and the others
 HEAD = re.compile(r"(?:--.*\n)*")
@@ -107,7 +105,8 @@ def naming():
     """In how many files of the crates each word occurs, lines of comment aside."""
     found = Counter()
     for file in (file for crate in CRATES.iterdir() for file in sources(crate)):
-        found.update(set(WORD.findall(COMMENT.sub("", file.read_text()))))
+        lines = (it for it in file.read_text().splitlines() if not it.lstrip().startswith(("--", "//")))
+        found.update(set(WORD.findall("\n".join(lines))))
     return found
 
 
@@ -160,20 +159,16 @@ def faults_of_lemmas(files):
                 yield f"no comment above `{name}` of crates/{path}"
 
 
-# An import, which `pub` passes on: pub(crate) use crate::row::{Piece, Row};
-USE = re.compile(r"^\s*(pub(?:\([a-z]+\))? )?use ([^;]*);", re.M)
+USE = re.compile(r"^\s*(pub(?:\([a-z]+\))? )?use ([^;]*);", re.M)  # pub(crate) use crate::row::{Piece, Row};
+BRACES = re.compile(r"([^,{}]*)\{([^{}]*)\}")  # The innermost braces, and what is before them: row::{Piece, Row}
 
 
 def unfolded(tree):
     """The paths of a `use`, without its braces."""
-    front, brace, inner = tree.partition("{")
-    if not brace:
-        return [tree.strip().split(" as ")[0]]
-    parts, depth = [""], 0
-    for sign in inner.rsplit("}", 1)[0]:
-        depth += (sign == "{") - (sign == "}")
-        parts = [*parts, ""] if sign == "," and depth == 0 else [*parts[:-1], parts[-1] + sign]
-    return [path for part in parts if part for path in unfolded(front.strip() + part.strip())]
+    while found := BRACES.search(tree):
+        inner = (found[1].strip() + it.strip() for it in found[2].split(",") if it.strip())
+        tree = tree.replace(found[0], ",".join(inner))
+    return [path.strip().split(" as ")[0] for path in tree.split(",")]
 
 
 def paths_used(file, name, modules, passed_on=False):

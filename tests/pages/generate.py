@@ -52,8 +52,7 @@ WORDED = {words for words, _ in SHORT if words.count(" ") > 1}
 SURE = [
     ("empty target", r"text_len self\.old ≡ 0|length self\.old\.bytes ≡ 0"),  # text_len self.old ≡ 0
     ("nothing to do", r"(?:length .*|text_len .*|n|at|len|max|capacity|threads) ≡ 0"),  # n ≡ 0
-    ("nothing to do", r"range\.start ≡ range\.end|start_place lo .*"),  # range.start ≡ range.end
-    ("nothing to do", r"building_items self ≡ \[\]"),  # building_items self ≡ []
+    ("nothing to do", r"range\.start ≡ range\.end|start_place lo .*|building_items self ≡ \[\]"),  # start_place lo ..
     ("at the end", r"(?:at|n) ≡ (?:length self\.old\.bytes|text_len self\.old)"),  # at ≡ text_len self.old
     ("at the first chunk's end", r"(?:at|len) ≡ length \(first_chunk .*"),  # at ≡ length (first_chunk chunks)
     ("at the last chunk's start", r"\(front : .*"),  # (front : List (List ℕ)) (chunk : List ℕ) → ..

@@ -9,7 +9,6 @@ TOKEN = re.compile(r"[^\s(){}\[\],;.|λ:=]+|[(){}\[\],;.|λ:=]")  # A name or a 
 IMPORT = re.compile(r"(?:ghost |pub )?use (?:Rattle\.)?([\w.'\-]+?)(?:\.\{(.*)\})?(?: as (\w+))?;?$")
 # The head of a declaration: pub record Table, or abbrev pub first : ℕ
 HEAD = re.compile(r"(?:abbrev |unfoldable |pub )*(?:(?:record|data|ruleset) (\S+)|(\S+) : )")
-CONSTRUCTOR = re.compile(r"\s+(\S+) :")  # A constructor of a type:   Some : A → Option A
 FUNCTION = re.compile(r"\bpub fn (\w+)")  # A public function: pub fn run
 BRACE = re.compile(r"^ *\{$", re.M)  # The brace before a body, on a line of its own.
 CLAUSE = re.compile(r"^ *(?=(?:ensures|requires)\b)", re.M)  # What comes before a clause:     ensures moves { .. }
@@ -63,7 +62,8 @@ def module(path):
     own = declared(lines)
     for name, text in list(own.items()):
         if text[0].startswith(("data ", "pub data ")):
-            own.update({m[1]: text for line in text if (m := CONSTRUCTOR.match(line)) and m[1] not in own})
+            made = (line.split()[0] for line in text if line[0] == " " and line.split()[1:2] == [":"])
+            own.update({it: text for it in made if it not in own})
     return own, imported(it for it in lines if it.startswith(("use", "pub use")))
 
 
