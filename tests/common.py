@@ -75,6 +75,12 @@ def rattle(action, crate, *more):
     return [*words, "--links", f"{crate}=", "--jobs", "1", *["--crate-type", "staticlib"] * is_static, *more]
 
 
+def sessions_of(path):
+    """The sessions of a file, between blank lines: the lines of each, without comments."""
+    lines = "\n".join(it for it in path.read_text().splitlines() if not it.startswith("#"))
+    return [it.strip().splitlines() for it in lines.split("\n\n") if it.strip()]
+
+
 def faults(got, wanted, names=("printed", "message", "status")):
     return [f"{name} {str(a)[:80]}, not {str(b)[:80]}" for name, a, b in zip(names, got, wanted) if a != b]
 
