@@ -35,9 +35,12 @@
  *  6. malloc, realloc and free are one allocator's; no call comes from a signal handler, or from the forked child of a
  *     process with threads.
  *
- * "memory" in a comment: the call may allocate, and returns IOBUFS_MEMORY if that fails; if a comment says nothing of it,
- * the call doesn't allocate. "Memory none today": it doesn't allocate as it is, but a contract promises that only for no bytes,
- * for those of `iobuf_from_static`, and for a split or a take of all bytes.
+ * The comment of a call that returns a status ends with one line or two:
+ *   Fails: the statuses other than IOBUFS_OK, each with its cause. A call that has IOBUFS_MEMORY there may allocate,
+ *     and returns it if that fails; no other call allocates. "(reserved)": the call doesn't allocate as it is, but a
+ *     contract promises that only for no bytes, for those of `iobuf_from_static`, and for a split or a take of all
+ *     bytes.
+ *   Keeps: what is unchanged after a failure.
  * The name in brackets is the original's; "own" if it has none.
  */
 #ifndef IOBUFS_H
@@ -153,52 +156,66 @@ enum iobufs_prefix {
 size_t iobuf_size(void);
 /* The library's alignment of a `struct iobuf`. */
 size_t iobuf_align(void);
-/* Makes the empty view of memory. No memory. (IoBuf::default) */
+/* Makes the empty view of memory. (IoBuf::default) */
 void iobuf_init(struct iobuf *at);
 /* Drops the bytes; the empty view is left. (Drop) */
 void iobuf_drop(struct iobuf_at *src);
-/* Drops the bytes as iobuf_drop does, and leaves no view: the memory is as before `iobuf_init`, and may be freed. (Drop) */
+/* Drops the bytes as iobuf_drop does, and leaves no view: the memory is as before `iobuf_init`, and may be freed.
+ * (Drop) */
 void iobuf_deinit(struct iobuf_at *src);
-/* A copy of n bytes; memory except for 0 bytes. (IoBuf::copy_from_slice) */
+/* A copy of n bytes. (IoBuf::copy_from_slice)
+ * Fails: IOBUFS_MEMORY except for 0 bytes. */
 IOBUFS_CHECKED iobufs_status iobuf_copy_from_slice(const uint8_t *src, size_t n, struct iobuf_at *out);
-/* A view of n bytes, not copied, which live until the last buffer made of them is dropped (duty 4). No memory. (From<&'static [u8]>) */
+/* A view of n bytes, not copied, which live until the last buffer made of them is dropped (duty 4).
+ * (From<&'static [u8]>) */
 void iobuf_from_static(const uint8_t *text, size_t n, struct iobuf_at *out);
 /* The number of bytes. (IoBuf::len) */
 size_t iobuf_len(const struct iobuf_at *src);
 /* Whether there are none. (IoBuf::is_empty) */
 bool iobuf_is_empty(const struct iobuf_at *src);
-/* Writes a pointer to the bytes, and returns how many there are; of none it isn't NULL, and may not be read. (AsRef, Buf::chunk) */
+/* Writes a pointer to the bytes, and returns how many there are; of none it isn't NULL, and may not be read.
+ * (AsRef, Buf::chunk) */
 size_t iobuf_chunk(const struct iobuf_at *src, const uint8_t **out);
 /* Writes the byte at offset i, and returns whether there is one. (own) */
 bool iobuf_byte_at(const struct iobuf_at *src, size_t i, uint8_t *out);
 /* Whether two views hold the same bytes. (PartialEq) */
 bool iobuf_eq(const struct iobuf_at *src, const struct iobuf_at *other);
-/* Another view of the same bytes, in their storage: no byte is copied. Memory none today. (Clone) */
+/* Another view of the same bytes, in their storage: no byte is copied. (Clone)
+ * Fails: IOBUFS_MEMORY (reserved). */
 IOBUFS_CHECKED iobufs_status iobuf_clone(const struct iobuf_at *src, struct iobuf_at *out);
-/* Another view, as iobuf_clone makes it, in memory that holds none. (Clone) */
+/* Another view, as iobuf_clone makes it, in memory that holds none. (Clone)
+ * Fails: IOBUFS_MEMORY (reserved). */
 IOBUFS_CHECKED iobufs_status iobuf_clone_init(const struct iobuf_at *src, struct iobuf_at *out);
-/* Drops the first n bytes; IOBUFS_OUT_OF_RANGE if there are fewer. (Buf::advance) */
+/* Drops the first n bytes. (Buf::advance)
+ * Fails: IOBUFS_OUT_OF_RANGE if there are fewer. */
 IOBUFS_CHECKED iobufs_status iobuf_advance(struct iobuf_at *src, size_t n);
-/* Takes the first `at` bytes, in the same storage; IOBUFS_OUT_OF_RANGE if there are fewer. Memory none today.
- * (IoBuf::split_to) */
+/* Takes the first `at` bytes, in the same storage. (IoBuf::split_to)
+ * Fails: IOBUFS_OUT_OF_RANGE if there are fewer; IOBUFS_MEMORY (reserved). */
 IOBUFS_CHECKED iobufs_status iobuf_split_to(struct iobuf_at *src, size_t at, struct iobuf_at *out);
-/* Takes the first `at` bytes, as iobuf_split_to does, to memory that holds no view. (IoBuf::split_to) */
+/* Takes the first `at` bytes, as iobuf_split_to does, to memory that holds no view. (IoBuf::split_to)
+ * Fails: IOBUFS_OUT_OF_RANGE if there are fewer; IOBUFS_MEMORY (reserved). */
 IOBUFS_CHECKED iobufs_status iobuf_split_to_init(struct iobuf_at *src, size_t at, struct iobuf_at *out);
-/* Takes the first n bytes, in the same storage; IOBUFS_END_OF_BUFFER if there are fewer. Memory none today.
- * (take_owned, Buf::copy_to_bytes) */
+/* Takes the first n bytes, in the same storage. (take_owned, Buf::copy_to_bytes)
+ * Fails: IOBUFS_END_OF_BUFFER if there are fewer; IOBUFS_MEMORY (reserved). */
 IOBUFS_CHECKED iobufs_status iobuf_take(struct iobuf_at *src, size_t n, struct iobuf_at *out);
-/* Copies the first n bytes out and drops them; IOBUFS_END_OF_BUFFER if there are fewer. (Buf::copy_to_slice) */
+/* Copies the first n bytes out and drops them. (Buf::copy_to_slice)
+ * Fails: IOBUFS_END_OF_BUFFER if there are fewer. */
 IOBUFS_CHECKED iobufs_status iobuf_copy_to_slice(struct iobuf_at *src, uint8_t *dst, size_t n);
-/* The bytes of a range, in the same storage; bounds are `enum iobufs_bound`. IOBUFS_BAD_KIND if a kind is none of these,
- * IOBUFS_OUT_OF_RANGE if the range isn't within the bytes. Memory none today. (IoBuf::slice) */
+/* The bytes of a range, in the same storage; bounds are `enum iobufs_bound`. (IoBuf::slice)
+ * Fails: IOBUFS_BAD_KIND if a kind is none of these; IOBUFS_OUT_OF_RANGE if the range isn't within the bytes;
+ *   IOBUFS_MEMORY (reserved). */
 IOBUFS_CHECKED iobufs_status iobuf_slice(const struct iobuf_at *src, uint8_t lo_kind, size_t lo, uint8_t hi_kind, size_t hi, struct iobuf_at *out);
-/* The bytes from offset lo to hi, in the same storage, in memory that holds no view; IOBUFS_OUT_OF_RANGE if lo is above hi, or hi
- * above the length. Memory none today. (IoBuf::slice) */
+/* The bytes from offset lo to hi, in the same storage, in memory that holds no view. (IoBuf::slice)
+ * Fails: IOBUFS_OUT_OF_RANGE if lo is above hi, or hi above the length; IOBUFS_MEMORY (reserved). */
 IOBUFS_CHECKED iobufs_status iobuf_slice_init(const struct iobuf_at *src, size_t lo, size_t hi, struct iobuf_at *out);
-/* Recovers the storage as a writable buffer, and leaves the empty view; or IOBUFS_DECLINED, and the view stays. It recovers
- * native storage that no other view shares: tested, not proved. No memory. (IoBuf::try_into_mut) */
+/* Recovers the storage as a writable buffer, and leaves the empty view. It recovers native storage that no other
+ * view shares: tested, not proved. (IoBuf::try_into_mut)
+ * Fails: IOBUFS_DECLINED if the storage isn't recovered.
+ * Keeps: the view. */
 IOBUFS_CHECKED iobufs_status iobuf_try_into_mut(struct iobuf_at *src, struct iobufmut_at *out);
-/* Recovers the storage, as iobuf_try_into_mut does, to memory that holds no buffer. (IoBuf::try_into_mut) */
+/* Recovers the storage, as iobuf_try_into_mut does, to memory that holds no buffer. (IoBuf::try_into_mut)
+ * Fails: IOBUFS_DECLINED if the storage isn't recovered.
+ * Keeps: the view. */
 IOBUFS_CHECKED iobufs_status iobuf_try_into_mut_init(struct iobuf_at *src, struct iobufmut_at *out);
 
 /* ---- iobufmut (IoBufMut): a buffer to write, of a fixed capacity. None reads as one of capacity 0 ---- */
@@ -207,24 +224,30 @@ IOBUFS_CHECKED iobufs_status iobuf_try_into_mut_init(struct iobuf_at *src, struc
 size_t iobufmut_size(void);
 /* The library's alignment of a `struct iobufmut`. */
 size_t iobufmut_align(void);
-/* Makes a handle with no buffer of memory. No memory. */
+/* Makes a handle with no buffer of memory. */
 void iobufmut_init(struct iobufmut *at);
 /* Drops the buffer; none is left. (Drop) */
 void iobufmut_drop(struct iobufmut_at *part);
-/* An empty buffer of capacity n: memory except for 0; IOBUFS_BAD_LAYOUT above SSIZE_MAX. (IoBufMut::with_capacity) */
+/* An empty buffer of capacity n. (IoBufMut::with_capacity)
+ * Fails: IOBUFS_BAD_LAYOUT if n is above SSIZE_MAX; IOBUFS_MEMORY except for 0. */
 IOBUFS_CHECKED iobufs_status iobufmut_with_capacity(size_t n, struct iobufmut_at *out);
-/* An empty buffer of capacity n, after testing the alignment, a power of two (otherwise IOBUFS_BAD_LAYOUT, except for 0
- * bytes); addresses are not promised. Memory except for 0. (with_alignment) */
+/* An empty buffer of capacity n, after testing the alignment; addresses are not promised. (with_alignment)
+ * Fails: IOBUFS_BAD_LAYOUT except for 0 if the alignment is no power of two, or n, rounded up to it, is above
+ *   SSIZE_MAX; IOBUFS_MEMORY except for 0. */
 IOBUFS_CHECKED iobufs_status iobufmut_with_alignment(size_t n, size_t align, struct iobufmut_at *out);
-/* A buffer of n bytes, all zero: memory except for 0; IOBUFS_BAD_LAYOUT above SSIZE_MAX. (IoBufMut::zeroed) */
+/* A buffer of n bytes, all zero. (IoBufMut::zeroed)
+ * Fails: IOBUFS_BAD_LAYOUT if n is above SSIZE_MAX; IOBUFS_MEMORY except for 0. */
 IOBUFS_CHECKED iobufs_status iobufmut_zeroed(size_t n, struct iobufmut_at *out);
-/* A buffer of n zeros, after testing the alignment, as iobufmut_with_alignment does. Memory except for 0.
- * (zeroed_with_alignment) */
+/* A buffer of n zeros, after testing the alignment, as iobufmut_with_alignment does. (zeroed_with_alignment)
+ * Fails: IOBUFS_BAD_LAYOUT except for 0 if the alignment is no power of two, or n, rounded up to it, is above
+ *   SSIZE_MAX; IOBUFS_MEMORY except for 0. */
 IOBUFS_CHECKED iobufs_status iobufmut_zeroed_with_alignment(size_t n, size_t align, struct iobufmut_at *out);
-/* A copy of n bytes, without spare capacity; memory except for 0 bytes. (From<&[u8]>) */
+/* A copy of n bytes, without spare capacity. (From<&[u8]>)
+ * Fails: IOBUFS_MEMORY except for 0 bytes. */
 IOBUFS_CHECKED iobufs_status iobufmut_copy_from_slice(const uint8_t *src, size_t n, struct iobufmut_at *out);
-/* The bytes of a view: recovered as by iobuf_try_into_mut, else copied (memory); the empty view is left. If the
- * allocation fails, both stay. (From<IoBuf>) */
+/* The bytes of a view: recovered as by iobuf_try_into_mut, else copied; the empty view is left. (From<IoBuf>)
+ * Fails: IOBUFS_MEMORY, for the copy.
+ * Keeps: both. */
 IOBUFS_CHECKED iobufs_status iobufmut_from_view(struct iobuf_at *src, struct iobufmut_at *out);
 /* The number of readable bytes. (len) */
 size_t iobufmut_len(const struct iobufmut_at *part);
@@ -234,39 +257,51 @@ bool iobufmut_is_empty(const struct iobufmut_at *part);
 size_t iobufmut_capacity(const struct iobufmut_at *part);
 /* How many bytes may still be put. (BufMut::remaining_mut) */
 size_t iobufmut_remaining_mut(const struct iobufmut_at *part);
-/* Writes a pointer to the readable bytes, as iobuf_chunk does, and returns how many there are; they may be overwritten there.
- * If there is no buffer, it writes none. (AsRef, AsMut) */
+/* Writes a pointer to the readable bytes, as iobuf_chunk does, and returns how many there are; they may be
+ * overwritten there. If there is no buffer, it writes none. (AsRef, AsMut) */
 size_t iobufmut_chunk(struct iobufmut_at *part, uint8_t **out);
-/* Appends bytes; IOBUFS_OUT_OF_RANGE if they don't fit. No memory. (BufMut::put_slice) */
+/* Appends bytes. (BufMut::put_slice)
+ * Fails: IOBUFS_OUT_OF_RANGE if they don't fit. */
 IOBUFS_CHECKED iobufs_status iobufmut_put_slice(struct iobufmut_at *part, const uint8_t *src, size_t n);
-/* Puts a byte n times; IOBUFS_OUT_OF_RANGE if they don't fit. No memory. (BufMut::put_bytes) */
+/* Puts a byte n times. (BufMut::put_bytes)
+ * Fails: IOBUFS_OUT_OF_RANGE if they don't fit. */
 IOBUFS_CHECKED iobufs_status iobufmut_put_bytes(struct iobufmut_at *part, uint8_t value, size_t n);
-/* Puts one byte; IOBUFS_OUT_OF_RANGE if it doesn't fit. No memory. (BufMut::put_u8) */
+/* Puts one byte. (BufMut::put_u8)
+ * Fails: IOBUFS_OUT_OF_RANGE if it doesn't fit. */
 IOBUFS_CHECKED iobufs_status iobufmut_put_u8(struct iobufmut_at *part, uint8_t n);
-/* Appends a big-endian number of two bytes; IOBUFS_OUT_OF_RANGE if it doesn't fit. No memory. (BufMut::put_u16) */
+/* Appends a big-endian number of two bytes. (BufMut::put_u16)
+ * Fails: IOBUFS_OUT_OF_RANGE if it doesn't fit. */
 IOBUFS_CHECKED iobufs_status iobufmut_put_u16(struct iobufmut_at *part, uint16_t n);
-/* Appends a big-endian number of four bytes; IOBUFS_OUT_OF_RANGE if it doesn't fit. (BufMut::put_u32) */
+/* Appends a big-endian number of four bytes. (BufMut::put_u32)
+ * Fails: IOBUFS_OUT_OF_RANGE if it doesn't fit. */
 IOBUFS_CHECKED iobufs_status iobufmut_put_u32(struct iobufmut_at *part, uint32_t n);
-/* Appends a big-endian number of eight bytes; IOBUFS_OUT_OF_RANGE if it doesn't fit. (BufMut::put_u64) */
+/* Appends a big-endian number of eight bytes. (BufMut::put_u64)
+ * Fails: IOBUFS_OUT_OF_RANGE if it doesn't fit. */
 IOBUFS_CHECKED iobufs_status iobufmut_put_u64(struct iobufmut_at *part, uint64_t n);
-/* Appends a varint length (see iobufs_length_size); IOBUFS_OUT_OF_RANGE if it doesn't fit. No memory.
- * (usize::write) */
+/* Appends a varint length (see iobufs_length_size). (usize::write)
+ * Fails: IOBUFS_OUT_OF_RANGE if it doesn't fit. */
 IOBUFS_CHECKED iobufs_status iobufmut_put_length(struct iobufmut_at *part, size_t n);
-/* Writes over n readable bytes from `at` on; IOBUFS_OUT_OF_RANGE if they pass the readable bytes. No memory. (AsMut) */
+/* Writes over n readable bytes from `at` on. (AsMut)
+ * Fails: IOBUFS_OUT_OF_RANGE if they pass the readable bytes. */
 IOBUFS_CHECKED iobufs_status iobufmut_write_at(struct iobufmut_at *part, size_t at, const uint8_t *src, size_t n);
-/* Makes n bytes readable; those that were not are zero. IOBUFS_OUT_OF_RANGE above the capacity. No memory. (set_len) */
+/* Makes n bytes readable; those that were not are zero. (set_len)
+ * Fails: IOBUFS_OUT_OF_RANGE if n is above the capacity. */
 IOBUFS_CHECKED iobufs_status iobufmut_set_len(struct iobufmut_at *part, size_t n);
 /* Keeps at most the first n bytes. (truncate) */
 void iobufmut_truncate(struct iobufmut_at *part, size_t n);
 /* Keeps no byte, and the capacity. (clear) */
 void iobufmut_clear(struct iobufmut_at *part);
-/* Drops the first n readable bytes; IOBUFS_OUT_OF_RANGE if there are fewer. (Buf::advance) */
+/* Drops the first n readable bytes. (Buf::advance)
+ * Fails: IOBUFS_OUT_OF_RANGE if there are fewer. */
 IOBUFS_CHECKED iobufs_status iobufmut_advance(struct iobufmut_at *part, size_t n);
-/* Copies the first n bytes out and drops them; IOBUFS_END_OF_BUFFER if there are fewer. (Buf::copy_to_slice) */
+/* Copies the first n bytes out and drops them. (Buf::copy_to_slice)
+ * Fails: IOBUFS_END_OF_BUFFER if there are fewer. */
 IOBUFS_CHECKED iobufs_status iobufmut_copy_to_slice(struct iobufmut_at *part, uint8_t *dst, size_t n);
-/* The bytes as a view, not copied; no buffer is left. Memory none today; on IOBUFS_MEMORY the buffer is dropped. (freeze) */
+/* The bytes as a view, not copied; no buffer is left. (freeze)
+ * Fails: IOBUFS_MEMORY (reserved), and the buffer is dropped. */
 IOBUFS_CHECKED iobufs_status iobufmut_freeze(struct iobufmut_at *part, struct iobuf_at *out);
-/* The bytes as a view, as iobufmut_freeze makes it, in memory that holds none. (freeze) */
+/* The bytes as a view, as iobufmut_freeze makes it, in memory that holds none. (freeze)
+ * Fails: IOBUFS_MEMORY (reserved), and the buffer is dropped. */
 IOBUFS_CHECKED iobufs_status iobufmut_freeze_init(struct iobufmut_at *part, struct iobuf_at *out);
 
 /* ---- iobufs (IoBufs): bytes in several chunks, none of which is copied ---- */
@@ -275,15 +310,17 @@ IOBUFS_CHECKED iobufs_status iobufmut_freeze_init(struct iobufmut_at *part, stru
 size_t iobufs_size(void);
 /* The library's alignment of a `struct iobufs`. */
 size_t iobufs_align(void);
-/* Makes memory an empty iobufs. No memory. (IoBufs::default) */
+/* Makes memory an empty iobufs. (IoBufs::default) */
 void iobufs_init(struct iobufs *at);
 /* Drops the bytes; it is empty then. (Drop) */
 void iobufs_drop(struct iobufs_at *bufs);
-/* An iobufs of one view, which is left empty. No memory. (From<IoBuf>) */
+/* An iobufs of one view, which is left empty. (From<IoBuf>) */
 void iobufs_from_view(struct iobuf_at *src, struct iobufs_at *out);
-/* An iobufs of a writable buffer; none is left. Memory none today; IOBUFS_MEMORY drops the buffer. (From<IoBufMut>) */
+/* An iobufs of a writable buffer; none is left. (From<IoBufMut>)
+ * Fails: IOBUFS_MEMORY (reserved), and the buffer is dropped. */
 IOBUFS_CHECKED iobufs_status iobufs_from_mut(struct iobufmut_at *part, struct iobufs_at *out);
-/* The same bytes once more, in their storage; memory for the deque of chunks. (Clone) */
+/* The same bytes once more, in their storage. (Clone)
+ * Fails: IOBUFS_MEMORY, for the deque of chunks. */
 IOBUFS_CHECKED iobufs_status iobufs_clone(const struct iobufs_at *bufs, struct iobufs_at *out);
 /* The number of bytes. (IoBufs::len) */
 size_t iobufs_len(const struct iobufs_at *bufs);
@@ -297,52 +334,67 @@ bool iobufs_is_single(const struct iobufs_at *bufs);
 size_t iobufs_chunk_count(const struct iobufs_at *bufs);
 /* Writes a pointer to the first chunk, as iobuf_chunk does, and returns its length. (Buf::chunk) */
 size_t iobufs_chunk(const struct iobufs_at *bufs, const uint8_t **out);
-/* Writes a pointer to chunk i, counted from 0, and returns its length; 0 if there is none, and it writes nothing. (chunk_at) */
+/* Writes a pointer to chunk i, counted from 0, and returns its length; 0 if there is none, and it writes nothing.
+ * (chunk_at) */
 size_t iobufs_chunk_at(const struct iobufs_at *bufs, size_t i, const uint8_t **out);
-/* Fills a list of n for writev with the first chunks, and returns how many it filled. No memory.
- * iobufs_advance then takes the count that writev returns. (Buf::chunks_vectored) */
+/* Fills a list of n for writev with the first chunks, and returns how many it filled. iobufs_advance then takes the
+ * count that writev returns. (Buf::chunks_vectored) */
 size_t iobufs_chunks(const struct iobufs_at *bufs, struct iobufs_iovec *out, size_t n);
-/* Fills a list of n with the chunks from chunk first on, counted from 0, and returns how many it filled; 0 if there are
- * none. So a loop takes many chunks at a time. No memory. (own) */
+/* Fills a list of n with the chunks from chunk first on, counted from 0, and returns how many it filled; 0 if there
+ * are none. So a loop takes many chunks at a time. (own) */
 size_t iobufs_chunks_from(const struct iobufs_at *bufs, size_t first, struct iobufs_iovec *out, size_t n);
 /* Writes the byte at offset i, and returns whether there is one. (own) */
 bool iobufs_byte_at(const struct iobufs_at *bufs, size_t i, uint8_t *out);
-/* Writes the index of the chunk that contains an offset, and the distance from its start; IOBUFS_OUT_OF_RANGE at the end.
- * No memory. (own) */
+/* Writes the index of the chunk that contains an offset, and the distance from its start. (own)
+ * Fails: IOBUFS_OUT_OF_RANGE if the offset is at the end, or after it. */
 IOBUFS_CHECKED iobufs_status iobufs_locate(const struct iobufs_at *bufs, size_t at, size_t *index, size_t *offset);
-/* Adds a view at the end, and leaves its handle empty; at times memory for the deque of chunks. IOBUFS_TOO_LONG if the
- * length would pass SIZE_MAX. After an error both are unchanged. (append) */
+/* Adds a view at the end, and leaves its handle empty. (append)
+ * Fails: IOBUFS_TOO_LONG if the length would pass SIZE_MAX; IOBUFS_MEMORY, at times, for the deque of chunks.
+ * Keeps: both. */
 IOBUFS_CHECKED iobufs_status iobufs_append(struct iobufs_at *bufs, struct iobuf_at *view);
-/* Adds a view at the start, and leaves its handle empty; at times memory; IOBUFS_TOO_LONG as above. (prepend) */
+/* Adds a view at the start, and leaves its handle empty. (prepend)
+ * Fails: IOBUFS_TOO_LONG if the length would pass SIZE_MAX; IOBUFS_MEMORY, at times, for the deque of chunks.
+ * Keeps: both. */
 IOBUFS_CHECKED iobufs_status iobufs_prepend(struct iobufs_at *bufs, struct iobuf_at *view);
-/* Takes the first `at` bytes; IOBUFS_OUT_OF_RANGE if there are fewer; at times memory. (IoBufs::split_to) */
+/* Takes the first `at` bytes. (IoBufs::split_to)
+ * Fails: IOBUFS_OUT_OF_RANGE if there are fewer; IOBUFS_MEMORY, at times. */
 IOBUFS_CHECKED iobufs_status iobufs_split_to(struct iobufs_at *bufs, size_t at, struct iobufs_at *out);
-/* Takes the first `at` bytes, as iobufs_split_to does, to memory that holds no iobufs. (IoBufs::split_to) */
+/* Takes the first `at` bytes, as iobufs_split_to does, to memory that holds no iobufs. (IoBufs::split_to)
+ * Fails: IOBUFS_OUT_OF_RANGE if there are fewer; IOBUFS_MEMORY, at times. */
 IOBUFS_CHECKED iobufs_status iobufs_split_to_init(struct iobufs_at *bufs, size_t at, struct iobufs_at *out);
-/* The bytes from offset lo to hi, in their storage; IOBUFS_OUT_OF_RANGE if lo is above hi, or hi above the length; memory. It costs
- * the chunks of that range alone. (own) */
+/* The bytes from offset lo to hi, in their storage. It costs the chunks of that range alone. (own)
+ * Fails: IOBUFS_OUT_OF_RANGE if lo is above hi, or hi above the length; IOBUFS_MEMORY. */
 IOBUFS_CHECKED iobufs_status iobufs_slice(const struct iobufs_at *bufs, size_t lo, size_t hi, struct iobufs_at *out);
-/* Drops the first n bytes; IOBUFS_OUT_OF_RANGE if there are fewer. No memory. (Buf::advance) */
+/* Drops the first n bytes. (Buf::advance)
+ * Fails: IOBUFS_OUT_OF_RANGE if there are fewer. */
 IOBUFS_CHECKED iobufs_status iobufs_advance(struct iobufs_at *bufs, size_t n);
-/* Keeps at most the first n bytes; memory, unless n is 0 or there are no more. After an error nothing has changed. (own) */
+/* Keeps at most the first n bytes. (own)
+ * Fails: IOBUFS_MEMORY, unless n is 0 or there are no more.
+ * Keeps: all bytes. */
 IOBUFS_CHECKED iobufs_status iobufs_truncate(struct iobufs_at *bufs, size_t n);
-/* Copies the first n bytes out and drops them; IOBUFS_END_OF_BUFFER if there are fewer. (Buf::copy_to_slice) */
+/* Copies the first n bytes out and drops them. (Buf::copy_to_slice)
+ * Fails: IOBUFS_END_OF_BUFFER if there are fewer. */
 IOBUFS_CHECKED iobufs_status iobufs_copy_to_slice(struct iobufs_at *bufs, uint8_t *dst, size_t n);
-/* Copies the n bytes after the first `skip` out, of which none is dropped; IOBUFS_END_OF_BUFFER if there are fewer, and nothing is
- * written. With 0 and iobufs_len it copies all. (own) */
+/* Copies the n bytes after the first `skip` out, of which none is dropped. With 0 and iobufs_len it copies all.
+ * (own)
+ * Fails: IOBUFS_END_OF_BUFFER if there are fewer, and nothing is written. */
 IOBUFS_CHECKED iobufs_status iobufs_peek(const struct iobufs_at *bufs, size_t skip, uint8_t *dst, size_t n);
-/* Takes the first n bytes as one view: shared within a chunk, a copy (memory) across chunks; IOBUFS_END_OF_BUFFER
- * if there are fewer. (take_owned, Buf::copy_to_bytes) */
+/* Takes the first n bytes as one view: shared within a chunk, a copy across chunks. (take_owned, Buf::copy_to_bytes)
+ * Fails: IOBUFS_END_OF_BUFFER if there are fewer; IOBUFS_MEMORY, for the copy. */
 IOBUFS_CHECKED iobufs_status iobufs_take(struct iobufs_at *bufs, size_t n, struct iobuf_at *out);
-/* Takes the first n bytes, as iobufs_take does, to memory that holds no view. (take_owned, Buf::copy_to_bytes) */
+/* Takes the first n bytes, as iobufs_take does, to memory that holds no view. (take_owned, Buf::copy_to_bytes)
+ * Fails: IOBUFS_END_OF_BUFFER if there are fewer; IOBUFS_MEMORY, for the copy. */
 IOBUFS_CHECKED iobufs_status iobufs_take_init(struct iobufs_at *bufs, size_t n, struct iobuf_at *out);
-/* Takes the n bytes after the first `skip`, which are dropped too, as one view, as iobufs_take does. (own) */
+/* Takes the n bytes after the first `skip`, which are dropped too, as one view, as iobufs_take does. (own)
+ * Fails: IOBUFS_END_OF_BUFFER if there are fewer; IOBUFS_MEMORY, for the copy. */
 IOBUFS_CHECKED iobufs_status iobufs_take_after(struct iobufs_at *bufs, size_t skip, size_t n, struct iobuf_at *out);
-/* All bytes as one view, with a copy (memory) of several chunks; IOBUFS_BAD_LAYOUT if they have more than SSIZE_MAX bytes.
- * It is left empty, also after an error: clone it first to keep it. (coalesce) */
+/* All bytes as one view, with a copy of several chunks. It is left empty, also after an error: clone it first to
+ * keep it. (coalesce)
+ * Fails: IOBUFS_BAD_LAYOUT if several chunks have more than SSIZE_MAX bytes; IOBUFS_MEMORY, for the copy. */
 IOBUFS_CHECKED iobufs_status iobufs_coalesce(struct iobufs_at *bufs, struct iobuf_at *out);
-/* The only chunk as a view; it is left empty. IOBUFS_DECLINED if there are more, and it stays. No memory.
- * (try_into_single) */
+/* The only chunk as a view; it is left empty. (try_into_single)
+ * Fails: IOBUFS_DECLINED if there are more.
+ * Keeps: the chunks. */
 IOBUFS_CHECKED iobufs_status iobufs_try_into_single(struct iobufs_at *bufs, struct iobuf_at *out);
 
 /* ---- iobufsmut (IoBufsMut): several writable buffers as one. None reads as one part of capacity 0 ---- */
@@ -351,14 +403,15 @@ IOBUFS_CHECKED iobufs_status iobufs_try_into_single(struct iobufs_at *bufs, stru
 size_t iobufsmut_size(void);
 /* The library's alignment of a `struct iobufsmut`. */
 size_t iobufsmut_align(void);
-/* Makes a handle with no parts of memory. No memory. */
+/* Makes a handle with no parts of memory. */
 void iobufsmut_init(struct iobufsmut *at);
 /* Drops the buffers; none are left. (Drop) */
 void iobufsmut_drop(struct iobufsmut_at *parts);
-/* The one part of a buffer; none is left. No memory. (From<IoBufMut>) */
+/* The one part of a buffer; none is left. (From<IoBufMut>) */
 void iobufsmut_from_mut(struct iobufmut_at *part, struct iobufsmut_at *out);
-/* The buffers of n handles in order, without those that can hold no byte; none are left there. Memory; on
- * IOBUFS_MEMORY or IOBUFS_TOO_LONG the buffers may be dropped. (FromIterator) */
+/* The buffers of n handles in order, without those that can hold no byte; none are left there. (FromIterator)
+ * Fails: IOBUFS_TOO_LONG if the capacities would pass SIZE_MAX; IOBUFS_MEMORY. After both the buffers may be
+ *   dropped. */
 IOBUFS_CHECKED iobufs_status iobufsmut_from_parts(struct iobufmut_at *buffers, size_t n, struct iobufsmut_at *out);
 /* The number of readable bytes. (len) */
 size_t iobufsmut_len(const struct iobufsmut_at *parts);
@@ -375,48 +428,59 @@ bool iobufsmut_is_single(const struct iobufsmut_at *parts);
 /* Writes a pointer to the first chunk of the readable bytes, as iobuf_chunk does, and returns its length; it may be
  * overwritten there. If there are no parts, it writes none. (Buf::chunk) */
 size_t iobufsmut_chunk(struct iobufsmut_at *parts, uint8_t **out);
-/* Writes a pointer to the readable bytes of part i, as iobuf_chunk does, and its capacity, and returns how many they are; if
- * there is no part i, writes no pointer and the capacity 0. (own) */
+/* Writes a pointer to the readable bytes of part i, as iobuf_chunk does, and its capacity, and returns how many they
+ * are; if there is no part i, writes no pointer and the capacity 0. (own) */
 size_t iobufsmut_part_at(struct iobufsmut_at *parts, size_t i, uint8_t **out, size_t *capacity);
 /* Fills a list of n for readv (or writev) with the first chunks of the readable bytes, and returns how many it
- * filled. No memory. To read into parts, set their length first. (Buf::chunks_vectored) */
+ * filled. To read into parts, set their length first. (Buf::chunks_vectored) */
 size_t iobufsmut_chunks(const struct iobufsmut_at *parts, struct iobufs_iovec *out, size_t n);
 /* Writes the readable byte at offset i, and returns whether there is one. (own) */
 bool iobufsmut_byte_at(const struct iobufsmut_at *parts, size_t i, uint8_t *out);
-/* Puts bytes, part after part; IOBUFS_OUT_OF_RANGE if they don't fit. No memory. (BufMut::put_slice) */
+/* Puts bytes, part after part. (BufMut::put_slice)
+ * Fails: IOBUFS_OUT_OF_RANGE if they don't fit. */
 IOBUFS_CHECKED iobufs_status iobufsmut_put_slice(struct iobufsmut_at *parts, const uint8_t *src, size_t n);
-/* Puts a byte n times; IOBUFS_OUT_OF_RANGE if they don't fit. No memory. (BufMut::put_bytes) */
+/* Puts a byte n times. (BufMut::put_bytes)
+ * Fails: IOBUFS_OUT_OF_RANGE if they don't fit. */
 IOBUFS_CHECKED iobufs_status iobufsmut_put_bytes(struct iobufsmut_at *parts, uint8_t value, size_t n);
-/* Puts one byte; IOBUFS_OUT_OF_RANGE if it doesn't fit. No memory. (BufMut::put_u8) */
+/* Puts one byte. (BufMut::put_u8)
+ * Fails: IOBUFS_OUT_OF_RANGE if it doesn't fit. */
 IOBUFS_CHECKED iobufs_status iobufsmut_put_u8(struct iobufsmut_at *parts, uint8_t n);
-/* Appends a big-endian number of two bytes; IOBUFS_OUT_OF_RANGE if it doesn't fit. No memory. (BufMut::put_u16) */
+/* Appends a big-endian number of two bytes. (BufMut::put_u16)
+ * Fails: IOBUFS_OUT_OF_RANGE if it doesn't fit. */
 IOBUFS_CHECKED iobufs_status iobufsmut_put_u16(struct iobufsmut_at *parts, uint16_t n);
-/* Appends a big-endian number of four bytes; IOBUFS_OUT_OF_RANGE if it doesn't fit. (BufMut::put_u32) */
+/* Appends a big-endian number of four bytes. (BufMut::put_u32)
+ * Fails: IOBUFS_OUT_OF_RANGE if it doesn't fit. */
 IOBUFS_CHECKED iobufs_status iobufsmut_put_u32(struct iobufsmut_at *parts, uint32_t n);
-/* Appends a big-endian number of eight bytes; IOBUFS_OUT_OF_RANGE if it doesn't fit. (BufMut::put_u64) */
+/* Appends a big-endian number of eight bytes. (BufMut::put_u64)
+ * Fails: IOBUFS_OUT_OF_RANGE if it doesn't fit. */
 IOBUFS_CHECKED iobufs_status iobufsmut_put_u64(struct iobufsmut_at *parts, uint64_t n);
-/* Appends a varint length; IOBUFS_OUT_OF_RANGE if it doesn't fit. No memory. (usize::write) */
+/* Appends a varint length. (usize::write)
+ * Fails: IOBUFS_OUT_OF_RANGE if it doesn't fit. */
 IOBUFS_CHECKED iobufs_status iobufsmut_put_length(struct iobufsmut_at *parts, size_t n);
-/* Makes n bytes readable, the parts filled in order; those that were not are zero. IOBUFS_OUT_OF_RANGE above the capacity.
- * No memory. (set_len) */
+/* Makes n bytes readable, the parts filled in order; those that were not are zero. (set_len)
+ * Fails: IOBUFS_OUT_OF_RANGE if n is above the capacity. */
 IOBUFS_CHECKED iobufs_status iobufsmut_set_len(struct iobufsmut_at *parts, size_t n);
-/* Drops the first n readable bytes; a drained part keeps its spare capacity. IOBUFS_OUT_OF_RANGE if there are fewer. No
- * memory. (Buf::advance) */
+/* Drops the first n readable bytes; a drained part keeps its spare capacity. (Buf::advance)
+ * Fails: IOBUFS_OUT_OF_RANGE if there are fewer. */
 IOBUFS_CHECKED iobufs_status iobufsmut_advance(struct iobufsmut_at *parts, size_t n);
-/* Copies the first n bytes out and drops them; IOBUFS_END_OF_BUFFER if there are fewer. (Buf::copy_to_slice) */
+/* Copies the first n bytes out and drops them. (Buf::copy_to_slice)
+ * Fails: IOBUFS_END_OF_BUFFER if there are fewer. */
 IOBUFS_CHECKED iobufs_status iobufsmut_copy_to_slice(struct iobufsmut_at *parts, uint8_t *dst, size_t n);
-/* Overwrites the readable bytes, of which there have to be n: otherwise IOBUFS_OUT_OF_RANGE. (copy_from_slice) */
+/* Overwrites the readable bytes, of which there have to be n. (copy_from_slice)
+ * Fails: IOBUFS_OUT_OF_RANGE if there are fewer or more. */
 IOBUFS_CHECKED iobufs_status iobufsmut_copy_from_slice(struct iobufsmut_at *parts, const uint8_t *src, size_t n);
-/* The parts that hold bytes as the chunks of one iobufs, not copied; none are left. Memory for the deque; on
- * IOBUFS_MEMORY the parts are dropped. (freeze) */
+/* The parts that hold bytes as the chunks of one iobufs, not copied; none are left. (freeze)
+ * Fails: IOBUFS_MEMORY, for the deque, and the parts are dropped. */
 IOBUFS_CHECKED iobufs_status iobufsmut_freeze(struct iobufsmut_at *parts, struct iobufs_at *out);
-/* The parts as one iobufs, as iobufsmut_freeze makes it, in memory that holds none. (freeze) */
+/* The parts as one iobufs, as iobufsmut_freeze makes it, in memory that holds none. (freeze)
+ * Fails: IOBUFS_MEMORY, for the deque, and the parts are dropped. */
 IOBUFS_CHECKED iobufs_status iobufsmut_freeze_init(struct iobufsmut_at *parts, struct iobufs_at *out);
-/* The parts as one buffer, with a copy (memory) of several; IOBUFS_BAD_LAYOUT if they have more than SSIZE_MAX bytes. None
- * are left, also after an error. (coalesce) */
+/* The parts as one buffer, with a copy of several. None are left, also after an error. (coalesce)
+ * Fails: IOBUFS_BAD_LAYOUT if several have more than SSIZE_MAX bytes; IOBUFS_MEMORY, for the copy. */
 IOBUFS_CHECKED iobufs_status iobufsmut_coalesce(struct iobufsmut_at *parts, struct iobufmut_at *out);
-/* The only part as a buffer; none are left. IOBUFS_DECLINED if there are more, and they stay. No memory.
- * (try_into_single) */
+/* The only part as a buffer; none are left. (try_into_single)
+ * Fails: IOBUFS_DECLINED if there are more.
+ * Keeps: the parts. */
 IOBUFS_CHECKED iobufs_status iobufsmut_try_into_single(struct iobufsmut_at *parts, struct iobufmut_at *out);
 
 /* ---- iobufs_builder (Builder): bytes that are put, and views that are pushed, as one iobufs ---- */
@@ -425,72 +489,104 @@ IOBUFS_CHECKED iobufs_status iobufsmut_try_into_single(struct iobufsmut_at *part
 size_t iobufs_builder_size(void);
 /* The library's alignment of a `struct iobufs_builder`. */
 size_t iobufs_builder_align(void);
-/* Makes a handle with no builder of memory. No memory. */
+/* Makes a handle with no builder of memory. */
 void iobufs_builder_init(struct iobufs_builder *at);
 /* Drops the builder; none is left. (Drop) */
 void iobufs_builder_drop(struct iobufs_builder_at *builder);
-/* A builder for this many bytes that are put: memory except for 0; IOBUFS_BAD_LAYOUT above SSIZE_MAX. (Builder::new) */
+/* A builder for this many bytes that are put. (Builder::new)
+ * Fails: IOBUFS_BAD_LAYOUT if they are above SSIZE_MAX; IOBUFS_MEMORY except for 0. */
 IOBUFS_CHECKED iobufs_status iobufs_builder_new(size_t capacity, struct iobufs_builder_at *out);
 /* How many bytes may still be put. (BufMut::remaining_mut) */
 size_t iobufs_builder_remaining_mut(const struct iobufs_builder_at *builder);
-/* Puts bytes; IOBUFS_OUT_OF_RANGE if they don't fit. No memory. (BufMut::put_slice) */
+/* Puts bytes. (BufMut::put_slice)
+ * Fails: IOBUFS_OUT_OF_RANGE if they don't fit. */
 IOBUFS_CHECKED iobufs_status iobufs_builder_put_slice(struct iobufs_builder_at *builder, const uint8_t *src, size_t n);
-/* Puts a byte n times; IOBUFS_OUT_OF_RANGE if they don't fit. No memory. (BufMut::put_bytes) */
+/* Puts a byte n times. (BufMut::put_bytes)
+ * Fails: IOBUFS_OUT_OF_RANGE if they don't fit. */
 IOBUFS_CHECKED iobufs_status iobufs_builder_put_bytes(struct iobufs_builder_at *builder, uint8_t value, size_t n);
-/* Puts one byte; IOBUFS_OUT_OF_RANGE if it doesn't fit. No memory. (BufMut::put_u8) */
+/* Puts one byte. (BufMut::put_u8)
+ * Fails: IOBUFS_OUT_OF_RANGE if it doesn't fit. */
 IOBUFS_CHECKED iobufs_status iobufs_builder_put_u8(struct iobufs_builder_at *builder, uint8_t n);
-/* Appends a big-endian number of two bytes; IOBUFS_OUT_OF_RANGE if it doesn't fit. No memory. (BufMut::put_u16) */
+/* Appends a big-endian number of two bytes. (BufMut::put_u16)
+ * Fails: IOBUFS_OUT_OF_RANGE if it doesn't fit. */
 IOBUFS_CHECKED iobufs_status iobufs_builder_put_u16(struct iobufs_builder_at *builder, uint16_t n);
-/* Appends a big-endian number of four bytes; IOBUFS_OUT_OF_RANGE if it doesn't fit. (BufMut::put_u32) */
+/* Appends a big-endian number of four bytes. (BufMut::put_u32)
+ * Fails: IOBUFS_OUT_OF_RANGE if it doesn't fit. */
 IOBUFS_CHECKED iobufs_status iobufs_builder_put_u32(struct iobufs_builder_at *builder, uint32_t n);
-/* Appends a big-endian number of eight bytes; IOBUFS_OUT_OF_RANGE if it doesn't fit. (BufMut::put_u64) */
+/* Appends a big-endian number of eight bytes. (BufMut::put_u64)
+ * Fails: IOBUFS_OUT_OF_RANGE if it doesn't fit. */
 IOBUFS_CHECKED iobufs_status iobufs_builder_put_u64(struct iobufs_builder_at *builder, uint64_t n);
-/* Appends a varint length; IOBUFS_OUT_OF_RANGE if it doesn't fit. No memory. (usize::write) */
+/* Appends a varint length. (usize::write)
+ * Fails: IOBUFS_OUT_OF_RANGE if it doesn't fit. */
 IOBUFS_CHECKED iobufs_status iobufs_builder_put_length(struct iobufs_builder_at *builder, size_t n);
-/* Pushes a view, not copied, and leaves its handle empty; memory for the deque. IOBUFS_DECLINED if there is no builder,
- * IOBUFS_TOO_LONG if the bytes would pass SIZE_MAX. After an error both are unchanged. (Builder::push) */
+/* Pushes a view, not copied, and leaves its handle empty. (Builder::push)
+ * Fails: IOBUFS_DECLINED if there is no builder; IOBUFS_TOO_LONG if the bytes would pass SIZE_MAX; IOBUFS_MEMORY,
+ *   for the deque.
+ * Keeps: both. */
 IOBUFS_CHECKED iobufs_status iobufs_builder_push(struct iobufs_builder_at *builder, struct iobuf_at *view);
-/* All that was put and pushed as an iobufs; no builder is left, also after IOBUFS_MEMORY. Memory none today.
- * (Builder::finish) */
+/* All that was put and pushed as an iobufs; no builder is left, also after an error. (Builder::finish)
+ * Fails: IOBUFS_MEMORY (reserved). */
 IOBUFS_CHECKED iobufs_status iobufs_builder_finish(struct iobufs_builder_at *builder, struct iobufs_at *out);
 
 /* ---- varint lengths: seven bits a byte, lowest first, in the shortest form ---- */
 
-/* The number of bytes of a varint length: at most ten. No memory. (usize::encode_size) */
+/* The number of bytes of a varint length: at most ten. (usize::encode_size) */
 size_t iobufs_length_size(size_t n);
-/* Reads the length at the front, from lo to hi, and drops it. IOBUFS_END_OF_BUFFER if it may continue after the end,
- * IOBUFS_INVALID_VARINT, or IOBUFS_INVALID_LENGTH, which writes the length that is outside; after each the bytes are
- * unchanged. No memory. (usize::read_cfg) */
+/* Reads the length at the front, from lo to hi, and drops it. (usize::read_cfg)
+ * Fails: IOBUFS_END_OF_BUFFER if it may continue after the end; IOBUFS_INVALID_VARINT if it is no varint;
+ *   IOBUFS_INVALID_LENGTH if it is outside, which writes it.
+ * Keeps: the bytes. */
 IOBUFS_CHECKED iobufs_status iobufs_read_length(struct iobufs_at *bufs, size_t lo, size_t hi, size_t *out);
-/* Reads the length at the front of a view, as iobufs_read_length does. (Read) */
+/* Reads the length at the front of a view, as iobufs_read_length does. (Read)
+ * Fails: IOBUFS_END_OF_BUFFER if it may continue after the end; IOBUFS_INVALID_VARINT if it is no varint;
+ *   IOBUFS_INVALID_LENGTH if it is outside, which writes it.
+ * Keeps: the bytes. */
 IOBUFS_CHECKED iobufs_status iobuf_read_length(struct iobuf_at *src, size_t lo, size_t hi, size_t *out);
-/* Reads a length from lo to hi and the bytes after it, as one view: shared within a chunk, a copy (memory) across chunks.
- * The statuses of iobufs_read_length, and IOBUFS_END_OF_BUFFER if fewer bytes follow; after each both are unchanged.
- * (IoBuf::read_cfg) */
+/* Reads a length from lo to hi and the bytes after it, as one view: shared within a chunk, a copy across chunks.
+ * (IoBuf::read_cfg)
+ * Fails: IOBUFS_END_OF_BUFFER if the length may continue after the end, or fewer bytes follow; IOBUFS_INVALID_VARINT
+ *   if it is no varint; IOBUFS_INVALID_LENGTH if it is outside; IOBUFS_MEMORY, for the copy.
+ * Keeps: both. */
 IOBUFS_CHECKED iobufs_status iobufs_read_view(struct iobufs_at *bufs, size_t lo, size_t hi, struct iobuf_at *out);
-/* Reads a length and the bytes after it from a view, in its storage, as iobufs_read_view does. Memory none today.
- * (IoBuf::read_cfg) */
+/* Reads a length and the bytes after it from a view, in its storage, as iobufs_read_view does. (IoBuf::read_cfg)
+ * Fails: IOBUFS_END_OF_BUFFER if the length may continue after the end, or fewer bytes follow; IOBUFS_INVALID_VARINT
+ *   if it is no varint; IOBUFS_INVALID_LENGTH if it is outside; IOBUFS_MEMORY (reserved).
+ * Keeps: both. */
 IOBUFS_CHECKED iobufs_status iobuf_read_view(struct iobuf_at *src, size_t lo, size_t hi, struct iobuf_at *out);
 
 /* ---- big-endian numbers of a fixed size ---- */
 
-/* Reads the byte at the front, and drops it; IOBUFS_END_OF_BUFFER if there is none; then both are unchanged. No memory.
- * (u8::read_cfg, Buf::get_u8) */
+/* Reads the byte at the front, and drops it. (u8::read_cfg, Buf::get_u8)
+ * Fails: IOBUFS_END_OF_BUFFER if there is none.
+ * Keeps: both. */
 IOBUFS_CHECKED iobufs_status iobuf_get_u8(struct iobuf_at *src, uint8_t *out);
-/* Reads a big-endian number of two bytes, as iobuf_get_u8 reads a byte. (u16::read_cfg, Buf::get_u16) */
+/* Reads a big-endian number of two bytes, as iobuf_get_u8 reads a byte. (u16::read_cfg, Buf::get_u16)
+ * Fails: IOBUFS_END_OF_BUFFER if there are fewer.
+ * Keeps: both. */
 IOBUFS_CHECKED iobufs_status iobuf_get_u16(struct iobuf_at *src, uint16_t *out);
-/* Reads a big-endian number of four bytes, as iobuf_get_u8 reads a byte. (u32::read_cfg, Buf::get_u32) */
+/* Reads a big-endian number of four bytes, as iobuf_get_u8 reads a byte. (u32::read_cfg, Buf::get_u32)
+ * Fails: IOBUFS_END_OF_BUFFER if there are fewer.
+ * Keeps: both. */
 IOBUFS_CHECKED iobufs_status iobuf_get_u32(struct iobuf_at *src, uint32_t *out);
-/* Reads a big-endian number of eight bytes, as iobuf_get_u8 reads a byte. (u64::read_cfg, Buf::get_u64) */
+/* Reads a big-endian number of eight bytes, as iobuf_get_u8 reads a byte. (u64::read_cfg, Buf::get_u64)
+ * Fails: IOBUFS_END_OF_BUFFER if there are fewer.
+ * Keeps: both. */
 IOBUFS_CHECKED iobufs_status iobuf_get_u64(struct iobuf_at *src, uint64_t *out);
-/* Reads the byte at the front, and drops it; IOBUFS_END_OF_BUFFER if there is none; then both are unchanged. No memory.
- * (u8::read_cfg, Buf::get_u8) */
+/* Reads the byte at the front, and drops it. (u8::read_cfg, Buf::get_u8)
+ * Fails: IOBUFS_END_OF_BUFFER if there is none.
+ * Keeps: both. */
 IOBUFS_CHECKED iobufs_status iobufs_get_u8(struct iobufs_at *bufs, uint8_t *out);
-/* Reads a big-endian number of two bytes, as iobufs_get_u8 reads a byte. (u16::read_cfg, Buf::get_u16) */
+/* Reads a big-endian number of two bytes, as iobufs_get_u8 reads a byte. (u16::read_cfg, Buf::get_u16)
+ * Fails: IOBUFS_END_OF_BUFFER if there are fewer.
+ * Keeps: both. */
 IOBUFS_CHECKED iobufs_status iobufs_get_u16(struct iobufs_at *bufs, uint16_t *out);
-/* Reads a big-endian number of four bytes, as iobufs_get_u8 reads a byte. (u32::read_cfg, Buf::get_u32) */
+/* Reads a big-endian number of four bytes, as iobufs_get_u8 reads a byte. (u32::read_cfg, Buf::get_u32)
+ * Fails: IOBUFS_END_OF_BUFFER if there are fewer.
+ * Keeps: both. */
 IOBUFS_CHECKED iobufs_status iobufs_get_u32(struct iobufs_at *bufs, uint32_t *out);
-/* Reads a big-endian number of eight bytes, as iobufs_get_u8 reads a byte. (u64::read_cfg, Buf::get_u64) */
+/* Reads a big-endian number of eight bytes, as iobufs_get_u8 reads a byte. (u64::read_cfg, Buf::get_u64)
+ * Fails: IOBUFS_END_OF_BUFFER if there are fewer.
+ * Keeps: both. */
 IOBUFS_CHECKED iobufs_status iobufs_get_u64(struct iobufs_at *bufs, uint64_t *out);
 
 /* ---- iobufs_frames (Frames): frames, each a length and a body, of bytes that come in chunks ---- */
@@ -499,28 +595,36 @@ IOBUFS_CHECKED iobufs_status iobufs_get_u64(struct iobufs_at *bufs, uint64_t *ou
 size_t iobufs_frames_size(void);
 /* The library's alignment of a `struct iobufs_frames`. */
 size_t iobufs_frames_align(void);
-/* Makes frames of memory, to which nothing was fed, with varint lengths. No memory. (own) */
+/* Makes frames of memory, to which nothing was fed, with varint lengths. (own) */
 void iobufs_frames_init(struct iobufs_frames *at);
 /* Drops what was fed; nothing is left, and lengths are varints. (Drop) */
 void iobufs_frames_drop(struct iobufs_frames_at *frames);
-/* Says how lengths are written from the next frame on, by an `enum iobufs_prefix`; IOBUFS_BAD_KIND if it is none. (own) */
+/* Says how lengths are written from the next frame on, by an `enum iobufs_prefix`. (own)
+ * Fails: IOBUFS_BAD_KIND if it is none. */
 IOBUFS_CHECKED iobufs_status iobufs_frames_set_prefix(struct iobufs_frames_at *frames, uint8_t prefix);
 /* How many bytes were fed and not taken. (own) */
 size_t iobufs_frames_len(const struct iobufs_frames_at *frames);
-/* The bytes that were fed and not taken, in their storage; memory for the deque. (own) */
+/* The bytes that were fed and not taken, in their storage. (own)
+ * Fails: IOBUFS_MEMORY, for the deque. */
 IOBUFS_CHECKED iobufs_status iobufs_frames_rest(const struct iobufs_frames_at *frames, struct iobufs_at *out);
-/* Adds a view at the end, and leaves its handle empty; at times memory. IOBUFS_TOO_LONG if that would pass SIZE_MAX. After
- * an error both are unchanged. (own) */
+/* Adds a view at the end, and leaves its handle empty. (own)
+ * Fails: IOBUFS_TOO_LONG if the length would pass SIZE_MAX; IOBUFS_MEMORY, at times.
+ * Keeps: both. */
 IOBUFS_CHECKED iobufs_status iobufs_frames_feed(struct iobufs_frames_at *frames, struct iobuf_at *view);
-/* Takes the first frame, whose length is from lo to hi: shared within a chunk, a copy (memory) across chunks.
- * IOBUFS_END_OF_BUFFER if it is not whole yet, IOBUFS_INVALID_VARINT or IOBUFS_INVALID_LENGTH if no further bytes make it
- * whole; after each both are unchanged. Writes the length that is outside to `wrong`. A loop of iobufs_frames_feed and this call is `Frames::run`. (own) */
+/* Takes the first frame, whose length is from lo to hi: shared within a chunk, a copy across chunks. Writes the
+ * length that is outside to `wrong`. No further bytes make a frame whole after IOBUFS_INVALID_VARINT or
+ * IOBUFS_INVALID_LENGTH. A loop of iobufs_frames_feed and this call is `Frames::run`. (own)
+ * Fails: IOBUFS_END_OF_BUFFER if it is not whole yet; IOBUFS_INVALID_VARINT if its length is no varint;
+ *   IOBUFS_INVALID_LENGTH if its length is outside; IOBUFS_MEMORY, for the copy.
+ * Keeps: both. */
 IOBUFS_CHECKED iobufs_status iobufs_frames_next(struct iobufs_frames_at *frames, size_t lo, size_t hi, struct iobuf_at *out,
     size_t *wrong);
 
-/* Writes a body's length n, which is sent before the body, as an `enum iobufs_prefix` to `out`, and its size to `len`: at most
- * ten bytes. IOBUFS_BAD_KIND if the prefix is unknown, IOBUFS_TOO_LONG if n can't be written so, IOBUFS_OUT_OF_RANGE if it
- * doesn't fit into `room` bytes; then nothing is written. No memory. (own) */
+/* Writes a body's length n, which is sent before the body, as an `enum iobufs_prefix` to `out`, and its size to
+ * `len`: at most ten bytes. (own)
+ * Fails: IOBUFS_BAD_KIND if the prefix is unknown; IOBUFS_TOO_LONG if n can't be written so; IOBUFS_OUT_OF_RANGE if
+ *   it doesn't fit into `room` bytes.
+ * Keeps: `out` and `len`. */
 IOBUFS_CHECKED iobufs_status iobufs_frames_head(uint8_t prefix, size_t n, uint8_t *out, size_t room, size_t *len);
 
 /* ---- iobufs_received (Received): frames of bytes that are read into one block. None reads as one that holds nothing ---- */
@@ -529,24 +633,30 @@ IOBUFS_CHECKED iobufs_status iobufs_frames_head(uint8_t prefix, size_t n, uint8_
 size_t iobufs_received_size(void);
 /* The library's alignment of a `struct iobufs_received`. */
 size_t iobufs_received_align(void);
-/* Makes a handle with no receive block of memory. No memory. */
+/* Makes a handle with no receive block of memory. */
 void iobufs_received_init(struct iobufs_received *at);
 /* Drops what came and was not taken; no receive block is left. (Drop) */
 void iobufs_received_drop(struct iobufs_received_at *received);
-/* An empty receive block of frames whose lengths are written as an `enum iobufs_prefix`; IOBUFS_BAD_KIND if it is none. No
- * memory. (own) */
+/* An empty receive block of frames whose lengths are written as an `enum iobufs_prefix`. (own)
+ * Fails: IOBUFS_BAD_KIND if it is none. */
 IOBUFS_CHECKED iobufs_status iobufs_received_new(uint8_t prefix, struct iobufs_received_at *out);
 /* How many bytes came and were not taken. (own) */
 size_t iobufs_received_len(const struct iobufs_received_at *received);
-/* Lends the space for a read: writes its address to `out`, and to `n` how many bytes it has, at least one. They are zeros, or
- * what the block held before. Memory if there is no space, or if the block was made for one frame above 64 KiB;
- * IOBUFS_DECLINED if there is no receive block. (own) */
+/* Lends the space for a read: writes its address to `out`, and to `n` how many bytes it has, at least one. They are
+ * zeros, or what the block held before. It allocates if there is no space, or if the block was made for one frame
+ * above 64 KiB. (own)
+ * Fails: IOBUFS_DECLINED if there is no receive block; IOBUFS_MEMORY, at times. */
 IOBUFS_CHECKED iobufs_status iobufs_frames_space(struct iobufs_received_at *received, uint8_t **out, size_t *n);
 /* Counts the first n bytes of the space as received, after they were written there; the space is what is after them.
- * IOBUFS_OUT_OF_RANGE if it has fewer, and nothing changes. No memory. (own) */
+ * (own)
+ * Fails: IOBUFS_OUT_OF_RANGE if it has fewer.
+ * Keeps: the block. */
 IOBUFS_CHECKED iobufs_status iobufs_frames_filled(struct iobufs_received_at *received, size_t n);
-/* Takes the first frame, whose length is from lo to hi, not copied: its body shares the block, and keeps all of it. Statuses,
- * and `wrong`, as of iobufs_frames_next. Memory, at times. (own) */
+/* Takes the first frame, whose length is from lo to hi, not copied: its body shares the block, and keeps all of it.
+ * Writes the length that is outside to `wrong`, as iobufs_frames_next does. (own)
+ * Fails: IOBUFS_END_OF_BUFFER if it is not whole yet; IOBUFS_INVALID_VARINT if its length is no varint;
+ *   IOBUFS_INVALID_LENGTH if its length is outside; IOBUFS_MEMORY, at times.
+ * Keeps: both. */
 IOBUFS_CHECKED iobufs_status iobufs_received_next(struct iobufs_received_at *received, size_t lo, size_t hi, struct iobuf_at *out,
     size_t *wrong);
 
@@ -564,9 +674,11 @@ static inline uint64_t iobufs_swap64(uint64_t n) {
 
 /* ---- one iobufs at the end of another ---- */
 
-/* Moves the chunks of `other` to the end of `bufs`, and leaves it empty. IOBUFS_TOO_LONG if the length would pass SIZE_MAX,
- * IOBUFS_DECLINED if both are one buffer, and nothing has changed; memory: after IOBUFS_MEMORY some of the first chunks have
- * moved, and the others stay. It is made of calls above: the chunks share their storage until they leave `other`. (own) */
+/* Moves the chunks of `other` to the end of `bufs`, and leaves it empty. It is made of calls above: the chunks share
+ * their storage until they leave `other`. (own)
+ * Fails: IOBUFS_TOO_LONG if the length would pass SIZE_MAX; IOBUFS_DECLINED if both are one buffer; IOBUFS_MEMORY,
+ *   after which some of the first chunks have moved, and the others stay.
+ * Keeps: both, except after IOBUFS_MEMORY. */
 static inline IOBUFS_CHECKED iobufs_status iobufs_append_all(struct iobufs_at *bufs, struct iobufs_at *other) {
     struct iobufs front_memory;
     struct iobuf view_memory;

@@ -1,19 +1,21 @@
-"""What is compared with the tree beside the generated parts: names, links, heads of specs, lemmas, imports, layout."""
+"""What is compared with the tree besides the generated parts: names, links, heads of specs, lemmas, imports, layout."""
 import re
 import subprocess
 from collections import Counter
 from functools import cache
-from pathlib import Path
 
-from pages.tree import CRATES, ROOT, prose, sources
+from common import kit
+from pages.tree import BLOCK, CRATES, ROOT, prose, sources
 
-KIT = Path("/opt/rattle/rattle")
 KIT_CRATES = ("alloc", "bytes", "clap", "core", "std", "std_alloc", "std_collections", "std_io", "thiserror")
-WORD = re.compile(r"[A-Za-z_][A-Za-z0-9_\-]*")
-PATH = re.compile(r"[\w.\-]+(?:/[\w.\-]+)*/[\w.\-]*")
+WORD = re.compile(r"[A-Za-z_][A-Za-z0-9_\-]*")  # A word of a source: IoBufs, split_to, must-fail
+TOKEN = re.compile(r"`([^`\n]+)`")  # What a page has in backticks: `IoBufs::split_to`
+PATH = re.compile(r"[\w.\-]+(?:/[\w.\-]+)*/[\w.\-]*")  # A path: crates/iobufs/src/lib.rt
+# A name, with its modules and its arguments: Vec<u8>::push(n)
 NAME = re.compile(r"(?:[A-Za-z_]\w*(?:<[^>]*>)?::)*[A-Za-z_]\w*(?:\([^)]*\))?")
+# What a name has and another word hasn't: split_to, IoBufs::len, run(..), Iter, isEmpty, HANDLES
 FORM = re.compile(r"_|::|\(|^[A-Z][a-z]|[a-z][A-Z]|^[A-Z]{2,}")
-# What a run makes, a reader makes or fills in: no path of the tree.
+# What a run makes, a reader makes or fills in, and no path of the tree: crates/iobuf/out/iobuf, tests/FILE
 MADE = re.compile(r"(^|/)out(/|$)|\b[A-Z]{3,}\b|my_codec|^must-fail/$")
 
 
@@ -21,12 +23,13 @@ MADE = re.compile(r"(^|/)out(/|$)|\b[A-Z]{3,}\b|my_codec|^must-fail/$")
 def words():
     """Each word that a name may be made of."""
     found = set((ROOT / "tests/known_names").read_text().split())
-    for crate in [*CRATES.iterdir(), *(KIT / name for name in KIT_CRATES)]:
+    for crate in [*CRATES.iterdir(), *(kit() / "rattle" / name for name in KIT_CRATES)]:
         for file in sources(crate):
             found.update(WORD.findall(file.read_text()))
-    others = [*(ROOT / "tests").rglob("*"), *CRATES.glob("*/stdout"), *(ROOT / "bench").iterdir(), *(ROOT / "bindings").rglob("*"), ROOT / "crates.txt", ROOT / "HANDLES"]
-    for file in others:
-        if file.is_file() and file.suffix != ".md" and file.name != "docs" and "pages" not in file.relative_to(ROOT).parts:
+    others = [*(ROOT / "tests").rglob("*"), *(ROOT / "bindings").rglob("*"), *(ROOT / "bench").iterdir()]
+    for file in [*others, *CRATES.glob("*/stdout"), ROOT / "crates.txt", ROOT / "HANDLES"]:
+        is_ours = file.name == "docs" or "pages" in file.relative_to(ROOT).parts
+        if file.is_file() and file.suffix != ".md" and not is_ours:
             found.add(file.stem)
             found.update(WORD.findall(file.read_text(errors="ignore")))
     return found
@@ -35,9 +38,9 @@ def words():
 @cache
 def paths():
     """Each path of the tree and each end of one, with and without the ending of its file."""
-    listed = subprocess.run(["git", "ls-files", "-co", "--exclude-standard"], cwd=ROOT, capture_output=True, text=True, check=True).stdout
+    git = ["git", "ls-files", "-co", "--exclude-standard"]
     found = set()
-    for line in listed.splitlines():
+    for line in subprocess.run(git, cwd=ROOT, capture_output=True, text=True, check=True).stdout.splitlines():
         parts = line.split("/")
         for end in range(1, len(parts) + 1):
             for begin in range(end):
@@ -48,37 +51,53 @@ def paths():
 
 def faults_of_names(text):
     """Names in backticks that the tree has not, and no block of code of the page either."""
-    shown = {word for block in re.findall(r"^```\w*\n(.*?)^```$", text, flags=re.S | re.M) for word in WORD.findall(block)}
-    for token in re.findall(r"`([^`\n]+)`", prose(text)):
+    shown = {word for block in BLOCK.findall(text) for word in WORD.findall(block)}
+    for token in TOKEN.findall(prose(text)):
         if PATH.fullmatch(token):
             if not MADE.search(token) and token not in paths() and token not in words():
                 yield f"no path `{token}`"
         elif NAME.fullmatch(token) and FORM.search(token):
-            for word in WORD.findall(re.sub(r"\(.*", "", token)):
+            for word in WORD.findall(token.partition("(")[0]):
                 if word not in words() and word not in paths() and word not in shown:
                     yield f"no name `{token}`"
 
 
+# The definition of a link, its use, a link by itself, and a heading, to which one may lead:
+# [bytes]: https://docs.rs/bytes    [the crate][bytes]    [values](docs/MODEL.md#values)    ## Values
+LINK_DEFINED = re.compile(r"^\[([^\]]+)\]: (\S+)$", re.M)
+LINK_USED = re.compile(r"\]\[([^\]]+)\]")
+LINK = re.compile(r"\]\(([^)\s]+)\)")
+HEADING = re.compile(r"^#+ (.*)$", re.M)
+LEFT_OUT = re.compile(r"[^\w\- ]")  # What the address of a heading leaves out: the `, of `Promises`
+
+
+def anchors(page):
+    """The addresses of a page's headings: of `## The values` it is the-values."""
+    return {LEFT_OUT.sub("", it.strip().lower()).replace(" ", "-") for it in HEADING.findall(page.read_text())}
+
+
 def faults_of_links(page, text):
     """Links to no file of the repository, or to no heading of one."""
-    anchor = lambda heading: re.sub(r"[^\w\- ]", "", heading.strip().lower()).replace(" ", "-")
-    text = re.sub(r"^```.*?^```", "", text, flags=re.S | re.M)
-    defined = dict(re.findall(r"^\[([^\]]+)\]: (\S+)$", text, flags=re.M))
-    yield from (f"no link is called [{name}]" for name in re.findall(r"\]\[([^\]]+)\]", text) if name not in defined)
-    for target in [*re.findall(r"\]\(([^)\s]+)\)", text), *defined.values()]:
+    text = BLOCK.sub("", text)
+    defined = dict(LINK_DEFINED.findall(text))
+    yield from (f"no link is called [{name}]" for name in LINK_USED.findall(text) if name not in defined)
+    for target in [*LINK.findall(text), *defined.values()]:
         file, _, heading = target.partition("#")
         linked = (page.parent / file) if file else page
-        if re.match(r"[a-z]+:", target):
+        if "://" in target:
             continue
         if not linked.exists():
             yield f"no file for the link {target}"
-        elif heading and heading not in [anchor(line) for line in re.findall(r"^#+ (.*)$", linked.read_text(), flags=re.M)]:
+        elif heading and heading not in anchors(linked):
             yield f"no heading for the link {target}"
 
 
-DEFINED = re.compile(r"^(?:abbrev pub|unfoldable pub|pub record|pub data) ([^\s:(]+)", re.M)
-# The names of a row at a head; its phrases, and their further lines, come after two blanks.
+# The comment at the head of a file of specs/, and the names of a row in it, from which two blanks part its phrases:
+# --     first, rest   the first row, and the others
+HEAD = re.compile(r"(?:--.*\n)*")
 LISTED = re.compile(r"^--     (\S.*?)(?:  |$)", re.M)
+# A definition: abbrev pub first : ℕ
+DEFINED = re.compile(r"^(?:abbrev pub|unfoldable pub|pub record|pub data) ([^\s:(]+)", re.M)
 
 
 @cache
@@ -86,14 +105,15 @@ def naming():
     """In how many files of the crates each word occurs, lines of comment aside."""
     found = Counter()
     for file in (file for crate in CRATES.iterdir() for file in sources(crate)):
-        found.update(set(WORD.findall(re.sub(r"^\s*(?:--|//).*$", "", file.read_text(), flags=re.M))))
+        lines = (it for it in file.read_text().splitlines() if not it.lstrip().startswith(("--", "//")))
+        found.update(set(WORD.findall("\n".join(lines))))
     return found
 
 
 def faults_of_head(text, files):
     """Definitions of a file of specs/ that another file names and that the list at its head lacks; `files` says in how
     many files a word occurs."""
-    head = re.match(r"(?:--.*\n)*", text)[0]
+    head = HEAD.match(text)[0]
     listed = {word for names in LISTED.findall(head) for word in WORD.findall(names)}
     yield from (f"no `{name}`" for name in DEFINED.findall(text) if files[name] > 1 and name not in listed)
     known = set(WORD.findall(text[len(head) :]))
@@ -102,44 +122,59 @@ def faults_of_head(text, files):
 
 def faults_of_heads():
     for file in sorted(CRATES.glob("*/specs/**/*.antt")):
-        yield from (f"{fault} at the head of {file.relative_to(ROOT)}" for fault in faults_of_head(file.read_text(), naming()))
+        where = file.relative_to(ROOT)
+        yield from (f"{fault} at the head of {where}" for fault in faults_of_head(file.read_text(), naming()))
 
 
-LEMMA = re.compile(r"^(?:pub )?([^\s:()]+) :")
+LEMMA = re.compile(r"^(?:pub )?([^\s:()]+) :")  # A lemma: pub rest_of_all : (b : Bytes) → ..
+# An import of lemmas: use Rattle.iobufs.proofs.Text.{rest_of_all, ends as ends_of}
 CITES = re.compile(r"\buse Rattle\.(\w+)\.proofs\.([\w.+\-]+)\.\{([^}]*)\}")
 
 
 def proof_sources():
-    return {str(file.relative_to(CRATES)): file.read_text() for crate in sorted(CRATES.iterdir()) for file in sources(crate)}
+    files = (file for crate in sorted(CRATES.iterdir()) for file in sources(crate))
+    return {str(file.relative_to(CRATES)): file.read_text() for file in files}
 
 
-def faults_of_lemmas(files):
-    """Lemmas that another file cites and that no comment says in words, and files with lemmas that begin without one."""
-    cited = set()
+def cited(files):
+    """The lemmas that another file imports: the path of their file, and the name."""
     for path, text in files.items():
         for crate, module, names in CITES.findall(text):
             target = f"{crate}/proofs/{module.replace('.', '/')}.antt"
-            cited.update((target, name.split(" as ")[0].strip()) for name in names.split(",") if target != path)
+            if target != path:
+                yield from ((target, name.split(" as ")[0].strip()) for name in names.split(","))
+
+
+def faults_of_lemmas(files):
+    """Lemmas that another file cites and no comment says in words, and files with lemmas that begin without one."""
+    needed = set(cited(files))
     for path, text in files.items():
-        lines = text.split("\n")
-        lemmas = [(found[1], above) for above, line in zip(["", *lines], lines) if (found := LEMMA.match(line))] if "/proofs/" in path else []
+        lines = text.split("\n") if "/proofs/" in path else []
+        lemmas = [(found[1], above) for above, line in zip(["", *lines], lines) if (found := LEMMA.match(line))]
         if lemmas and not path.endswith(("Answers.antt", "Invariants.antt")) and not text.startswith("-- "):
             yield f"no comment at the head of crates/{path}"
-        yield from (f"no comment above `{name}` of crates/{path}" for name, above in lemmas if (path, name) in cited and not re.match(r"-- (?!----)", above))
+        for name, above in lemmas:
+            # A line -- ---- parts a file, and says nothing of a lemma.
+            if (path, name) in needed and (not above.startswith("-- ") or above.startswith("-- ----")):
+                yield f"no comment above `{name}` of crates/{path}"
+
+
+USE = re.compile(r"^\s*(pub(?:\([a-z]+\))? )?use ([^;]*);", re.M)  # pub(crate) use crate::row::{Piece, Row};
+BRACES = re.compile(r"([^,{}]*)\{([^{}]*)\}")  # The innermost braces, and what is before them: row::{Piece, Row}
 
 
 def unfolded(tree):
     """The paths of a `use`, without its braces."""
-    front, brace, inner = tree.partition("{")
-    if not brace:
-        return [tree.strip().split(" as ")[0]]
-    parts = re.findall(r"(?:[^,{}]|\{[^{}]*(?:\{[^{}]*\}[^{}]*)*\})+", inner.rsplit("}", 1)[0])
-    return [path for part in parts for path in unfolded(front.strip() + part.strip())]
+    while found := BRACES.search(tree):
+        inner = (found[1].strip() + it.strip() for it in found[2].split(",") if it.strip())
+        tree = tree.replace(found[0], ",".join(inner))
+    return [path.strip().split(" as ")[0] for path in tree.split(",")]
 
 
-def paths_used(file, name, modules, visible=""):
-    """The paths of a module's `use` items, from the crate's root on."""
-    for path in (path for tree in re.findall(rf"^\s*{visible}use ([^;]*);", file.read_text(), flags=re.M) for path in unfolded(tree)):
+def paths_used(file, name, modules, passed_on=False):
+    """The paths of a module's imports, from the crate's root on: of those that it passes on, or of the others."""
+    trees = (tree for public, tree in USE.findall(file.read_text()) if bool(public) == passed_on)
+    for path in (path for tree in trees for path in unfolded(tree)):
         first, *rest = path.split("::")
         own = name.split("::") if name else []
         above = {"crate": [], "super": own[:-1], "self": own}.get(first)
@@ -151,11 +186,12 @@ def paths_used(file, name, modules, visible=""):
 
 def imports(folder):
     """For each module of a crate those that it imports, also by way of a module that passes an item on."""
-    files = {"::".join(file.relative_to(folder / "src").with_suffix("").parts): file for file in folder.glob("src/**/*.rt")}
+    sources = folder / "src"
+    files = {"::".join(it.relative_to(sources).with_suffix("").parts): it for it in sources.glob("**/*.rt")}
     modules = {name: file for name, file in files.items() if name not in ("lib", "main")}
     passed_on = {}
     for name, file in [*modules.items(), *(("", files[root]) for root in ("lib", "main") if root in files)]:
-        for path in paths_used(file, name, modules, r"pub(?:\([a-z]+\))? "):
+        for path in paths_used(file, name, modules, passed_on=True):
             passed_on["::".join([*filter(None, [name]), path.split("::")[-1]])] = path
 
     def module_of(path):
@@ -164,9 +200,10 @@ def imports(folder):
             seen.add(path)
             path = passed_on[path]
         parts = path.split("::")
-        return next(("::".join(parts[:n]) for n in range(len(parts), 0, -1) if "::".join(parts[:n]) in modules), "")
+        return next((it for n in range(len(parts), 0, -1) if (it := "::".join(parts[:n])) in modules), "")
 
-    return {name: {module_of(path) for path in paths_used(file, name, modules)} - {"", name} for name, file in modules.items()}
+    found = {name: {module_of(path) for path in paths_used(file, name, modules)} for name, file in modules.items()}
+    return {name: deps - {"", name} for name, deps in found.items()}
 
 
 def faults_of_imports(found):
@@ -178,15 +215,16 @@ def faults_of_imports(found):
         yield f"modules import each other: {', '.join(sorted(left))}"
 
 
-# The replies, refusals, steps and kinds of the buffers and of the owner machine, and the run of frames and that of commands.
+# The replies, refusals, steps and kinds of the buffers and of the owner machine, and the runs of frames and commands.
 SHARED = {"Kind", "Refusal", "Reply", "Run", "Step"}
+# A definition of specs/: pub record Table, or abbrev pub first : ℕ
 DECLARED = re.compile(r"^(?:abbrev|unfoldable) (?:pub )?([^\s:]+) :|^(?:pub )?(?:record|data) (\w+)", re.M)
-PUBLIC = re.compile(r"^pub (?:struct|enum|trait) (\w+)", re.M)
+PUBLIC = re.compile(r"^pub (?:struct|enum|trait) (\w+)", re.M)  # A public type: pub struct IoBufs
 
 
 def meanings():
-    """Each definition of specs/ and each public type with the files that declare it. A type and the definition that is its
-    value may share a name in a crate."""
+    """Each definition of specs/ and each public type with the files that declare it. A type and the definition that is
+    its value may share a name in a crate."""
     found = {}
     for file in (file for crate in sorted(CRATES.iterdir()) for file in sources(crate)):
         path = str(file.relative_to(CRATES))
@@ -206,5 +244,7 @@ def faults_of_meanings(found):
 
 def faults_of_layout(files):
     """Sources that rt fmt would change: rt ci refuses their crate."""
-    said = subprocess.run([KIT.parent / "bin/rattle", "fmt", "--check", *files], capture_output=True, text=True, check=False)
-    return re.findall(r"^.* is not in the layout$", said.stdout, re.M) or [said.stderr] * (said.returncode != 0)
+    words = [kit() / "bin/rattle", "fmt", "--check", *files]
+    said = subprocess.run(words, capture_output=True, text=True, check=False)
+    found = [line for line in said.stdout.splitlines() if line.endswith(" is not in the layout")]
+    return found or [said.stderr] * (said.returncode != 0)

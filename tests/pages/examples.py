@@ -1,14 +1,15 @@
-"""The worked examples that the tests hold, for the comparison with tests/examples: one that is lost or new is a fault."""
+"""The worked examples that the tests hold, compared with tests/examples: one that is lost or new is a fault."""
 import re
 
 from pages.tree import CRATES, ROOT
 
+BLANK = re.compile(r"\n\n+")  # What is between two sessions: an empty line, or several.
 TABLE = re.compile(r"^const (\w+): \[.*; (\d+)\] =", re.M)  # const RANGES: [(&'static [u8], bool); 10] =
 
 
 def sessions(file):
     """The sessions of a file: each with its heading, or without one with its last line, and how many lines it has."""
-    for block in re.split(r"\n\n+", file.read_text().strip()):
+    for block in BLANK.split(file.read_text().strip()):
         lines = [line for line in block.splitlines() if not line.startswith("#")]
         headings = [line[2:] for line in block.splitlines() if line.startswith("#")]
         if lines:
@@ -20,7 +21,8 @@ def found():
     for file in sorted([*ROOT.glob("tests/rows/*"), *ROOT.glob("tests/sessions/*")]):
         yield from (f"{file.relative_to(ROOT)}: {name}" for name in sessions(file))
     for file in sorted(CRATES.glob("*tests/src/**/*.rt")):
-        yield from (f"{file.relative_to(CRATES)}: {name} ({rows} rows)" for name, rows in TABLE.findall(file.read_text()))
+        where = file.relative_to(CRATES)
+        yield from (f"{where}: {name} ({rows} rows)" for name, rows in TABLE.findall(file.read_text()))
 
 
 def faults_of_examples(stored, held):

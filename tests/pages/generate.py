@@ -1,7 +1,8 @@
-"""The generated parts of the pages: between `<!-- generated: NAME -->` and `<!-- end -->` stands what `PARTS[NAME]` makes."""
+"""The generated parts of the pages: `PARTS[NAME]` makes what is between `<!-- generated: NAME -->` and its end."""
 import re
+from functools import cache
 
-from pages.tree import CRATES, MARKED, ROOT, by_layer, declarations, direct, layer, purpose, uses
+from pages.tree import CRATES, MARKED, ROOT, STOP, by_layer, declarations, direct, layer, purpose, uses
 from pages.trusted import contracts
 
 # ---- docs/API.md
@@ -12,10 +13,12 @@ API = {
     "IoBufs": "iobufs/src/bufs.rt",
     "IoBufsMut": "iobufs/src/bufs_mut.rt",
     "Builder, EncodeExt": "iobufs/src/builder.rt",
-    "Buf, OwnedBuf, Peek, OwnedBytes": "iobufs_core/src/codec/buf.rt iobufs_core/src/codec/owned_buf.rt iobufs_core/src/codec/peek.rt",
+    "Buf, OwnedBuf, Peek, OwnedBytes": "iobufs_core/src/codec/buf.rt iobufs_core/src/codec/owned_buf.rt"
+    " iobufs_core/src/codec/peek.rt",
     "BufMut": "iobufs_core/src/codec/buf_mut.rt",
     "BufsMut, EncodeSize, Write, Read, Encode": "iobufs_core/src/codec/wire.rt iobufs_core/src/codec/encode.rt",
-    "RangeCfg, lengths, find_end": "iobufs_core/src/codec/base.rt iobufs_core/src/codec/length.rt iobufs/src/bufs/search.rt",
+    "RangeCfg, lengths, find_end": "iobufs_core/src/codec/base.rt iobufs_core/src/codec/length.rt"
+    " iobufs/src/bufs/search.rt",
     "Frames, Prefix, Received": "iobufs_frames/src/lib.rt iobufs_frames/src/lengths.rt iobufs_frames/src/block.rt",
     "FrameReader, FrameWriter": "iobufs_frames/src/reader.rt iobufs_frames/src/writer.rt",
     "FrameCodec": "iobufs_codec/src/lib.rt",
@@ -23,52 +26,69 @@ API = {
     "Machine": "iobufs_owner/src/owner.rt iobufs_owner/src/owner/reserve.rt",
     "Table": "iobufs_run/src/table.rt",
 }
-# The words of a condition, and what a caller knows them by.
+# What a caller knows parts of a condition by, and each part as in the example after it.
 SHORT = [
-    (r"IsTrue \((.*)\)$", r"\1"),
-    (r"length \((?:Self\.)?text self\.(?:old|now)\)", "remaining"),
-    (r"length self\.(?:old|now)\.bytes|text_len self\.(?:old|now)|length \(parts_filled self\.old\)", "len"),
-    (r"parts?_capacity self\.old", "capacity"),
-    (r"(?:B\.)?room (?:self|buf)\.old", "remaining_mut"),
-    (r"length \((?:Self\.)?written self\.now\)", "encode_size"),
-    (r"items_inline \(Self\.items self\.now\)", "encode_inline_size"),
-    (r"length \(B\.text src\)", "src.remaining"),
-    (r"length (\w+)\.(?:now|old)", r"\1.len"),
-    (r"self\.old\.rest\.bytes ≡ \[\]", "rest.is_empty"),
-    (r"n < prefix_limit self", "fits(n)"),
-    (r"self\.old\.space", "space"),
-    (r"E\.probed ends\.old ≡ 0", "no probe was counted before"),
-    (r"I\.can_next \w+", "the iterator can go on"),
-    (r"IsFinite \(.*\)$", "the iterator ends"),
-    (r" ≡ ", " == "),
-    (r"≤", "<="),
+    (r"\1", r"IsTrue \((.*)\)$"),  # IsTrue (range_fits lo hi len)
+    ("remaining", r"length \((?:Self\.)?text self\.(?:old|now)\)"),  # length (text self.old)
+    ("len", r"length self\.(?:old|now)\.bytes|text_len self\.(?:old|now)"),  # text_len self.old
+    ("len", r"length \(parts_filled self\.old\)"),  # length (parts_filled self.old)
+    ("capacity", r"parts?_capacity self\.old"),  # part_capacity self.old
+    ("remaining_mut", r"(?:B\.)?room (?:self|buf)\.old"),  # B.room buf.old
+    ("encode_size", r"length \((?:Self\.)?written self\.now\)"),  # length (written self.now)
+    ("encode_inline_size", r"items_inline \(Self\.items self\.now\)"),  # items_inline (Self.items self.now)
+    ("src.remaining", r"length \(B\.text src\)"),  # length (B.text src)
+    (r"\1.len", r"length (\w+)\.(?:now|old)"),  # length dst.old
+    ("rest.is_empty", r"self\.old\.rest\.bytes ≡ \[\]"),  # self.old.rest.bytes ≡ []
+    ("fits(n)", r"n < prefix_limit self"),  # n < prefix_limit self
+    ("space", r"self\.old\.space"),  # self.old.space
+    ("no probe was counted before", r"E\.probed ends\.old ≡ 0"),  # E.probed ends.old ≡ 0
+    ("the iterator can go on", r"I\.can_next \w+"),  # I.can_next items
+    ("the iterator ends", r"IsFinite \(.*\)$"),  # IsFinite (I.remaining items)
+    (" == ", r" ≡ "),  # at ≡ 0
+    ("<=", r"≤"),  # n ≤ len
 ]
-WORDED = {words for _, words in SHORT if words.count(" ") > 1}
-# When a call cannot fail: the condition of a clause that ends in `IsOk result`.
+WORDED = {words for words, _ in SHORT if words.count(" ") > 1}
+# When a call cannot fail, and the condition of a clause that ends in `IsOk result`, as in the example after it.
 SURE = [
-    (r"text_len self\.old ≡ 0|length self\.old\.bytes ≡ 0", "empty target"),
-    (r"(?:length .*|text_len .*|n|at|len|max|capacity|threads) ≡ 0|range\.start ≡ range\.end|start_place lo .*|building_items self ≡ \[\]", "nothing to do"),
-    (r"(?:at|n) ≡ (?:length self\.old\.bytes|text_len self\.old)", "at the end"),
-    (r"(?:at|len) ≡ length \(first_chunk .*", "at the first chunk's end"),
-    (r"\(front : .*", "at the last chunk's start"),
-    (r"text_len self\.old ≤ len .*", "`len` or fewer bytes"),
-    (r"self(?:\.\w+)?\.mark ≡ static_mark", "static"),
-    (r"self(?:\.\w+)?\.mark ≡ bytes_mark", "a `Bytes`"),
-    (r"(?:at|len) ≤ length \(first_chunk .* static_mark", "in a static first chunk"),
-    (r"\(taken_view self\.now [^→]*static_mark", "in one static chunk"),
-    (r"(?:n ≤ [^→]*→ )?\(taken_view .*static_mark.*T\.is_free.*|HasStaticView .*", "in one static chunk †"),
-    (r".*length \(first_chunk .*T\.is_free.*", "the whole first chunk †"),
-    (r"is_free view(?:\.old)?", "freely taken †"),
-    (r"items_pushed .* ≡ 0", "nothing pushed"),
-    (r"items_inline .* ≡ 0", "no inline bytes"),
-    (r"length self ≡ 1|is_single self ≡ true", "single"),
-    (r"length self\.old\.state\.tables.*", "the space is there"),
+    ("empty target", r"text_len self\.old ≡ 0|length self\.old\.bytes ≡ 0"),  # text_len self.old ≡ 0
+    ("nothing to do", r"(?:length .*|text_len .*|n|at|len|max|capacity|threads) ≡ 0"),  # n ≡ 0
+    ("nothing to do", r"range\.start ≡ range\.end|start_place lo .*|building_items self ≡ \[\]"),  # start_place lo ..
+    ("at the end", r"(?:at|n) ≡ (?:length self\.old\.bytes|text_len self\.old)"),  # at ≡ text_len self.old
+    ("at the first chunk's end", r"(?:at|len) ≡ length \(first_chunk .*"),  # at ≡ length (first_chunk chunks)
+    ("at the last chunk's start", r"\(front : .*"),  # (front : List (List ℕ)) (chunk : List ℕ) → ..
+    ("`len` or fewer bytes", r"text_len self\.old ≤ len .*"),  # text_len self.old ≤ len → ..
+    ("static", r"self(?:\.\w+)?\.mark ≡ static_mark"),  # self.old.mark ≡ static_mark
+    ("a `Bytes`", r"self(?:\.\w+)?\.mark ≡ bytes_mark"),  # self.mark ≡ bytes_mark
+    # at ≤ length (first_chunk chunks) → (taken_view self.old 0 at).mark ≡ static_mark
+    ("in a static first chunk", r"(?:at|len) ≤ length \(first_chunk .* static_mark"),
+    ("in one static chunk", r"\(taken_view self\.now [^→]*static_mark"),  # (taken_view self.now 0 n).mark ≡ static_mark
+    # n ≤ .. → (taken_view (marked self.old) 0 n).mark ≡ static_mark → T.is_free (taken_view (marked self.old) 0 n)
+    ("in one static chunk †", r"(?:n ≤ [^→]*→ )?\(taken_view .*static_mark.*T\.is_free.*|HasStaticView .*"),
+    # n ≡ length (first_chunk (Self.pieces self.old)) → T.is_free (taken_view (marked self.old) 0 n)
+    ("the whole first chunk †", r".*length \(first_chunk .*T\.is_free.*"),
+    ("freely taken †", r"is_free view(?:\.old)?"),  # is_free view
+    ("nothing pushed", r"items_pushed .* ≡ 0"),  # items_pushed (Self.items self.now) ≡ 0
+    ("no inline bytes", r"items_inline .* ≡ 0"),  # items_inline (building_items self) ≡ 0
+    ("single", r"length self ≡ 1|is_single self ≡ true"),  # is_single self ≡ true
+    ("the space is there", r"length self\.old\.state\.tables.*"),  # length self.old.state.tables.blocks + blocks ≤ ..
 ]
+# A clause on what a call returns: ensures rest { n ≤ length self.old → IsOk result }
+ENSURES = re.compile(r"ensures (\w+) \{(.*?) \}(?=\s*(?:ensures|\{|;|$))", re.S)
+REQUIRES = re.compile(r"requires(?: \w+)? \{(.*?)\}\n", re.S)  # requires { at ≤ length self.old }
+RESULT = re.compile(r"->\s*(.*?)(?=\n\s*(?:requires|ensures|where)|\{|;)", re.S)  # -> Option<u8>
+ARGUMENTS = re.compile(r"\w+(?:<.*?>)?\((.*?)\)\s*(?:->|\n|\{|;)", re.S)  # get<T>(&self, at: usize) ->
+TOLD = re.compile(r"End\.Bad Error\.\w+")  # An error that a clause tells of, and no call returns: End.Bad Error.TooLong
+KIND = re.compile(r"\b(TooLong|BadLayout|InvalidVarint|InvalidLength|EndOfBuffer|Memory|ExtraData)\b")  # TooLong
+ERROR = re.compile(r"\b(FrameError|TryGetError|AllocError|Fault|Refusal|Error)>")  # Result<IoBuf, FrameError>
+# The original's name in a comment: (the crate's `Buf::get_u8()`, of one byte), or (own)
+ORIGINAL = re.compile(r" ?\((own|(?:the \w+(?:'s)? )?`[^`]+`)[^()]*(?:\([^()]*\)[^()]*)*\)")
+# A public type with its comment: /// A view.\n#[derive(Clone)]\npub struct IoBuf
+TYPE = re.compile(r"((?:^///[^\n]*\n)+)(?:^#\[[^\n]*\n)*^pub (?:struct|enum|trait) (\w+)", re.M)
 
 
 def short(condition):
     """A condition in code font, or in words if a row of SHORT has it whole."""
-    for pattern, words in SHORT:
+    for words, pattern in SHORT:
         condition = re.sub(pattern, words, condition)
     return condition if condition in WORDED else f"`{condition}`"
 
@@ -76,55 +96,64 @@ def short(condition):
 def sure(declared):
     """When a call cannot fail, a phrase for each clause that says so; a condition that no row of SURE has, as it is."""
     found = []
-    for name, body in re.findall(r"ensures (\w+) \{(.*?) \}(?=\s*(?:ensures|\{|;|$))", declared, flags=re.S):
+    for _, body in ENSURES.findall(declared):
         body = " ".join(body.split())
         if body.endswith("IsOk result"):
             condition = body.removesuffix("IsOk result").rstrip().removesuffix("→").rstrip()
-            words = next((words for pattern, words in SURE if re.fullmatch(pattern, condition)), f"`{condition}`")
+            words = next((words for words, pattern in SURE if re.fullmatch(pattern, condition)), f"`{condition}`")
             found.append(words if condition else "ever")
     return ", ".join(dict.fromkeys(found))
 
 
 def errors(declared, comment):
     """The errors that a declaration names, or the type of its error."""
-    answer = re.search(r"->\s*(.*?)(?=\n\s*(?:requires|ensures|where)|\{|;)", declared, flags=re.S)
-    answer = " ".join(answer[1].split()) if answer else ""
-    if answer.startswith("Option<"):
+    found = RESULT.search(declared)
+    result = found[1] if found else ""
+    if result.startswith("Option<"):
         return "`None`"
-    if "Result<" not in answer:
+    if "Result<" not in result:
         return ""
-    declared = re.sub(r"End\.Bad Error\.\w+", "", declared)
-    kinds = re.findall(r"\b(TooLong|BadLayout|InvalidVarint|InvalidLength|EndOfBuffer|Memory|ExtraData)\b", comment + declared)
-    kind = re.search(r"\b(FrameError|TryGetError|AllocError|Fault|Refusal|Error)>", answer)
-    said = ", ".join(sorted(set(kinds), key=kinds.index)) if not kind or kind[1] == "Error" else f"`{kind[1]}`"
-    said = said or (f"`{kind[1]}`" if kind else "`io::Error`" if "io::Result" in answer else "the buffer")
-    return said + (", handed back" if "Refused<" in answer else "")
+    kinds = KIND.findall(comment + TOLD.sub("", declared))
+    kind = ERROR.search(result)
+    said = ", ".join(dict.fromkeys(kinds)) if not kind or kind[1] == "Error" else f"`{kind[1]}`"
+    said = said or (f"`{kind[1]}`" if kind else "`io::Error`" if "io::Result" in result else "the buffer")
+    return said + (", handed back" if "Refused<" in result else "")
 
 
 def original(comment):
     """What a comment says of the original's name: the first bracket that begins with it, or `own`."""
-    found = re.search(r"\((own|(?:the \w+(?:'s)? )?`[^`]+`)[^()]*(?:\([^()]*\)[^()]*)*\)", comment)
+    found = ORIGINAL.search(comment)
     return found[1] if found else ""
 
 
 def does(comment):
     """The first sentence of a comment, without its bracket."""
-    return re.sub(r" \((?:own|(?:the \w+(?:'s)? )?`)[^()]*(?:\([^()]*\)[^()]*)*\)", "", re.split(r"(?<=\.) ", comment)[0]).rstrip(".")
+    return ORIGINAL.sub("", STOP.split(comment)[0]).rstrip(".")
+
+
+def arguments(declared):
+    """The names of a call's arguments, without `self`."""
+    listed = ARGUMENTS.match(declared)
+    typed = (it.partition(":") for it in listed[1].split(",") if "self" not in it) if listed else ()
+    return [name.replace("mut ", "").strip() for name, colon, _ in typed if colon]
+
+
+def row(comment, name, declared):
+    """The row of a call: with its arguments, what it does, requires, its errors, when it cannot fail, the original."""
+    conditions = ", ".join(short(" ".join(it.split())) for it in REQUIRES.findall(declared))
+    about = errors(declared, comment), sure(declared), original(comment)
+    return f"{name}({', '.join(arguments(declared))})", does(comment), conditions, *about
 
 
 def calls(files):
     """The rows of these files, and the calls that have nothing to say in them."""
     rows, plain = {}, []
-    for file in files.split():
-        for comment, name, declared in declarations((CRATES / file).read_text()):
-            names = re.match(r"\w+(?:<.*?>)?\((.*?)\)\s*(?:->|\n|\{|;)", declared, flags=re.S)
-            takes = [it.split(":")[0].replace("mut ", "").strip() for it in (names[1] if names else "").split(",") if ":" in it and "self" not in it]
-            conditions = [short(" ".join(it.split())) for it in re.findall(r"requires(?: \w+)? \{(.*?)\}\n", declared, flags=re.S)]
-            row = (f"{name}({', '.join(takes)})", does(comment), ", ".join(conditions), errors(declared, comment), sure(declared), original(comment))
-            if any(row[2:5]) or "alloc" in takes:
-                rows.setdefault(name if name not in rows or rows[name] == row else f"{name}{len(rows)}", row)
-            else:
-                plain.append(name)
+    for comment, name, declared in (it for file in files.split() for it in declarations((CRATES / file).read_text())):
+        made = row(comment, name, declared)
+        if any(made[2:5]) or "alloc" in arguments(declared):
+            rows.setdefault(name if rows.get(name, made) == made else f"{name}{len(rows)}", made)
+        else:
+            plain.append(name)
     return rows.values(), list(dict.fromkeys(plain))
 
 
@@ -142,10 +171,9 @@ def api():
 
 def own():
     """The calls and types whose comment says `(own)`: the original has none such."""
-    types = r"((?:^///[^\n]*\n)+)(?:^#\[[^\n]*\n)*^pub (?:struct|enum|trait) (\w+)"
     for title, files in API.items():
         texts = [(CRATES / file).read_text() for file in files.split()]
-        found = [name for text in texts for comment, name in re.findall(types, text, flags=re.M) if original(comment) == "own"]
+        found = [name for text in texts for comment, name in TYPE.findall(text) if original(comment) == "own"]
         found += [name for text in texts for comment, name, _ in declarations(text) if original(comment) == "own"]
         if found:
             yield f"- {title}: " + ", ".join(f"`{name}`" for name in dict.fromkeys(found))
@@ -159,21 +187,25 @@ def edits(crate):
     return file.read_text().split("\n\n") if file.is_file() else []
 
 
+CLAUSE = re.compile(r"^\s*(requires|ensures)\b", re.M)  #     ensures rest { .. }
+FUNCTION = re.compile(r"\bfn \w+")  # fn len
+
+
 def matrix():
     yield "|crate|layer|code lines|functions|`requires`|`ensures`|mutants|tests|\n|---|--:|--:|--:|--:|--:|--:|--:|"
     totals = [0] * 6
     for crate in by_layer():
         text = "\n".join(file.read_text() for file in (CRATES / crate / "src").rglob("*.rt"))
         code = [line for line in text.splitlines() if line.strip() and not line.strip().startswith("//")]
-        clauses = [len(re.findall(rf"^\s*{word}\b", text, flags=re.M)) for word in ("requires", "ensures")]
-        row = [len(code), len(re.findall(r"\bfn \w+", text)), *clauses, len(edits(crate)), text.count("#[test]")]
-        totals = [a + b for a, b in zip(totals, row)]
-        yield f"|`{crate}`|{layer(crate)}|" + "|".join(map(str, row)) + "|"
+        clauses = [CLAUSE.findall(text).count(word) for word in ("requires", "ensures")]
+        counts = [len(code), len(FUNCTION.findall(text)), *clauses, len(edits(crate)), text.count("#[test]")]
+        totals = [a + b for a, b in zip(totals, counts)]
+        yield f"|`{crate}`|{layer(crate)}|" + "|".join(map(str, counts)) + "|"
     yield "|all||" + "|".join(map(str, totals)) + "|"
     named = sum("\nnamed: yes" in edit for crate in uses() for edit in edits(crate))
-    requests = [line.split() for line in (ROOT / "tests/requests").read_text().splitlines() if not line.endswith(" cargo")]
-    swept = sum(int(number) for it in requests for number in it[:3])
-    yield f"\n{totals[4]} mutants, {named} of them named. Allocations that `tests/refuse` fails in turn: {swept} of {len(requests)} stored sessions."
+    rows = [it.split() for it in (ROOT / "tests/requests").read_text().splitlines() if not it.endswith(" cargo")]
+    swept = f"{sum(int(number) for it in rows for number in it[:3])} of {len(rows)} stored sessions"
+    yield f"\n{totals[4]} mutants, {named} of them named. Allocations that `tests/refuse` fails in turn: {swept}."
 
 
 def crates():
@@ -182,56 +214,78 @@ def crates():
         yield f"|`{crate}`|{purpose(crate)}|" + ", ".join(f"`{dep}`" for dep in direct(crate)) + "|"
 
 
+@cache
+def shown():
+    """The crates of the picture: tests and workloads are left out."""
+    return [crate for crate in by_layer() if not crate.endswith(("_tests", "_bench"))]
+
+
+def line(crate):
+    """The line of a crate's box, counted from the lowest: the one below its lowest user."""
+    return min((line(user) for user in shown() if crate in direct(user)), default=layer(crate) + 1) - 1
+
+
+def places(step, high):
+    """The centre of each crate's box, and the width and the height of the picture."""
+    lines = [[crate for crate in shown() if line(crate) == n] for n in range(layer(shown()[-1]) + 1)]
+    width, height, at = step * max(map(len, lines)) + 20, high * len(lines) + 20, {}
+    near = lambda crate: sum(at[dep][0] for dep in direct(crate)) / max(1, len(direct(crate))) or width
+    for n, crates_of_line in enumerate(lines):
+        for i, crate in enumerate(sorted(crates_of_line, key=near) if n else crates_of_line):
+            at[crate] = (width / 2 + step * (i - (len(crates_of_line) - 1) / 2), height - 40 - high * n)
+    return at, width, height
+
+
 def picture():
-    """The crates as boxes, each in the row below its lowest user; tests and workloads are left out."""
-    shown = [crate for crate in by_layer() if not crate.endswith(("_tests", "_bench"))]
-    row = lambda crate: min((row(user) for user in shown if crate in direct(user)), default=layer(crate) + 1) - 1
-    rows = [[crate for crate in shown if row(crate) == n] for n in range(layer(shown[-1]) + 1)]
-    step, high, wide, tall = 170, 74, 150, 30
-    width, height = step * max(map(len, rows)) + 20, high * len(rows) + 20
-    at = {}
-    for n, crates_of_row in enumerate(rows):
-        near = lambda crate: sum(at[dep][0] for dep in direct(crate)) / max(1, len(direct(crate))) or width
-        for i, crate in enumerate(sorted(crates_of_row, key=near) if n else crates_of_row):
-            at[crate] = (width / 2 + step * (i - (len(crates_of_row) - 1) / 2), height - 40 - high * n)
-    out = [f'<svg xmlns="http://www.w3.org/2000/svg" viewBox="0 0 {width} {height}" width="{width}" height="{height}" font-family="sans-serif" font-size="12" text-anchor="middle">']
-    out += ['<title>The crates: each uses those that its lines lead down to</title>', f'<rect width="{width}" height="{height}" fill="#fff"/>']
-    for crate in shown:
-        for dep in direct(crate):
-            (x, y), (u, v) = at[crate], at[dep]
-            out.append(f'<line x1="{x:.0f}" y1="{y + tall / 2:.0f}" x2="{u:.0f}" y2="{v - tall / 2:.0f}" stroke="#999"/>')
-    for crate in shown:
+    """The crates as boxes, each a line below its lowest user."""
+    (at, width, height), wide, tall = places(170, 74), 150, 30
+    yield f'<svg xmlns="http://www.w3.org/2000/svg" viewBox="0 0 {width} {height}" width="{width}" height="{height}"'
+    yield ' font-family="sans-serif" font-size="12" text-anchor="middle">\n'
+    yield "<title>The crates: each uses those that its lines lead down to</title>\n"
+    yield f'<rect width="{width}" height="{height}" fill="#fff"/>\n'
+    for (x, y), (u, v) in ((at[crate], at[dep]) for crate in shown() for dep in direct(crate)):
+        ends = f'x1="{x:.0f}" y1="{y + tall / 2:.0f}" x2="{u:.0f}" y2="{v - tall / 2:.0f}"'
+        yield f'<line {ends} stroke="#999"/>\n'
+    for crate in shown():
         x, y = at[crate]
-        fill = "#fbe3cf" if (CRATES / crate / "src/main.rt").exists() else "#e3e8f8" if crate.endswith("_c") else "#dff0ec"
-        out.append(f'<rect x="{x - wide / 2:.0f}" y="{y - tall / 2:.0f}" width="{wide}" height="{tall}" rx="5" fill="{fill}" stroke="#555"/>')
-        out.append(f'<text x="{x:.0f}" y="{y + 4:.0f}">{crate}</text>')
-    return "\n".join(out) + "\n</svg>\n"
+        is_program = (CRATES / crate / "src/main.rt").exists()
+        fill = "#fbe3cf" if is_program else "#e3e8f8" if crate.endswith("_c") else "#dff0ec"
+        box = f'x="{x - wide / 2:.0f}" y="{y - tall / 2:.0f}" width="{wide}" height="{tall}"'
+        yield f'<rect {box} rx="5" fill="{fill}" stroke="#555"/>\n'
+        yield f'<text x="{x:.0f}" y="{y + 4:.0f}">{crate}</text>\n'
+    yield "</svg>\n"
 
 
 # ---- specifications and code
 
 
+PROMISES = re.compile(r"^pub record Promises .*?where\n(.*?)(?=^\S|\Z)", re.M | re.S)  # pub record Promises .. where
+# Fields and the comment above them:   -- The words are alike.\n  pub words : ..
+FIELDS = re.compile(r"((?:^  -- .*\n)+)((?:^  (?!--).*\n|^      .*\n)+)", re.M)
+FIELD = re.compile(r"^  pub (\w+)", re.M)  #   pub words : ..
+
+
 def promises():
     """The fields of `Promises`, by the comment above them."""
-    text = (CRATES / "iobufs_owner/specs/Promises.antt").read_text()
-    body = re.search(r"^pub record Promises .*?where\n(.*?)(?=^\S|\Z)", text, flags=re.M | re.S)[1]
+    body = PROMISES.search((CRATES / "iobufs_owner/specs/Promises.antt").read_text())[1]
     yield "|fields|what holds after every step|\n|---|---|"
-    for comment, fields in re.findall(r"((?:^  -- .*\n)+)((?:^  (?!--).*\n|^      .*\n)+)", body, flags=re.M):
+    for comment, fields in FIELDS.findall(body):
         said = " ".join(line.strip().removeprefix("-- ") for line in comment.splitlines())
-        yield "|" + ", ".join(f"`{name}`" for name in re.findall(r"^  pub (\w+)", fields, flags=re.M)) + f"|{said}|"
+        yield "|" + ", ".join(f"`{name}`" for name in FIELD.findall(fields)) + f"|{said}|"
 
 
 LANGUAGES = {".rt": "rust", ".c": "c"}
+# The lines of a source that a page shows: // [docs: echo]\n..\n// [docs end]
+SHOWN = re.compile(r"^ *(?://|--) \[docs: ([^\]\n]*)\]\n(.*?)^ *(?://|--) \[docs end\]", re.M | re.S)
 
 
 def code(name):
     """The lines of a source or a proof between `// [docs: NAME]` and `// [docs end]` (there `-- ..`)."""
     globs = ["crates/*/src/**/*.rt", "crates/*/proofs/**/*.antt", "bindings/c/examples/*.c"]
     for file in [file for it in globs for file in sorted(ROOT.glob(it))]:
-        found = re.search(rf"^ *(?://|--) \[docs: {name}\]\n(.*?)^ *(?://|--) \[docs end\]", file.read_text(), flags=re.M | re.S)
-        if found:
+        if found := dict(SHOWN.findall(file.read_text())).get(name):
             path = file.relative_to(ROOT)
-            return f"[{path}](PATH{path}):\n\n```{LANGUAGES.get(file.suffix, '')}\n{found[1].strip()}\n```"
+            return f"[{path}](PATH{path}):\n\n```{LANGUAGES.get(file.suffix, '')}\n{found.strip()}\n```"
     raise LookupError(f"no source has `// [docs: {name}]`")
 
 
@@ -253,4 +307,4 @@ def generated(page, text):
         made = code(name).replace("PATH", above) if kind == "code" else "\n".join(PARTS[found[1]]())
         return f"<!-- generated: {found[1]} -->\n{made}\n<!-- end -->"
 
-    return re.sub(MARKED, part, text, flags=re.S)
+    return MARKED.sub(part, text)

@@ -6,15 +6,24 @@ import common
 from common import CRATES, TOP as ROOT
 
 PAGES = [ROOT / "README.md", *sorted((ROOT / "docs").glob("*.md")), *sorted((ROOT / "bench").glob("*.md"))]
-MARKED = r"<!-- generated: ([^>]*) -->\n(.*?)<!-- end -->"
+# A generated part of a page: <!-- generated: crates -->\n..\n<!-- end -->
+MARKED = re.compile(r"<!-- generated: ([^>]*) -->\n(.*?)<!-- end -->", re.S)
+BLOCK = re.compile(r"^```\w*\n(.*?)^```$", re.M | re.S)  # A block of code: ```rust\n..\n```
+# A line of a quotation, or where a link leads: > I refuse.    [bytes]: https://docs.rs/bytes
+QUOTATION = re.compile(r"^(?:\[[^\]]+\]: |> ).*$", re.M)
+TARGET = re.compile(r"\]\([^)]*\)|\]\[[^\]]*\]")  # The target of a link: ](docs/MODEL.md) or ][bytes]
+HEAD = re.compile(r"(?://[^\n]*\n)*")  # The comment at the head of a source: // Frames.
+STOP = re.compile(r"(?<=\.)\s")  # The end of a sentence, and its blank: first. Second
+TRAIT = re.compile(r"^pub trait .*?^\}", re.M | re.S)  # A public trait: pub trait Buf {\n..\n}
+# A function with its comment and attributes: /// Drops.\n    #[inline]\n    pub const fn clear(
+FUNCTION = re.compile(r"((?:^ *///[^\n]*\n)*)(?:^ *#\[[^\n]*\n)*^( *)((?:pub |final |const )*)fn (\w+)", re.M)
+# The end of its declaration: with clauses a brace on a line of its own, else one at the end of a line; or a semicolon.
+DECLARATION = re.compile(r"^ *\{$|^(?! *(?:requires|ensures)).*\{$|;$", re.M)
 
 
 def prose(text):
     """A page without its blocks of code, its quotations, its generated parts and the targets of its links."""
-    text = re.sub(MARKED, "", text, flags=re.S)
-    text = re.sub(r"^```.*?^```", "", text, flags=re.S | re.M)
-    text = re.sub(r"^(?:\[[^\]]+\]: |> ).*$", "", text, flags=re.M)
-    return re.sub(r"\]\([^)]*\)|\]\[[^\]]*\]", "]", text)
+    return TARGET.sub("]", QUOTATION.sub("", BLOCK.sub("", MARKED.sub("", text))))
 
 
 def sources(folder):
@@ -37,8 +46,7 @@ def layer(crate):
 
 def direct(crate):
     """The used crates that no other used crate uses."""
-    below = lambda name: {name}.union(*(below(dep) for dep in uses()[name]))
-    return [dep for dep in uses()[crate] if not any(dep in below(other) - {other} for other in uses()[crate])]
+    return [dep for dep in uses()[crate] if not any(dep in common.below(other) for other in uses()[crate])]
 
 
 def by_layer():
@@ -48,19 +56,18 @@ def by_layer():
 def purpose(crate):
     """The first sentence at the head of a crate's root file."""
     root = next(file for name in ("lib", "main") if (file := CRATES / crate / f"src/{name}.rt").exists())
-    head = re.match(r"(?://[^\n]*\n)*", root.read_text())[0]
-    said = " ".join(line.lstrip("/!").strip() for line in head.split("\n"))
-    return re.split(r"(?<=\.)\s", said.strip())[0].rstrip(".")
+    said = " ".join(line.lstrip("/!").strip() for line in HEAD.match(root.read_text())[0].split("\n"))
+    return STOP.split(said.strip())[0].rstrip(".")
 
 
 def declarations(text):
-    """Each public function of a source, and each function of a public trait: its comment, its name, and its declaration."""
-    form = r"((?:^ *///[^\n]*\n)*)(?:^ *#\[[^\n]*\n)*^( *)((?:pub |final |const )*)fn (\w+)"
-    traits = [m.span() for m in re.finditer(r"^pub trait .*?^\}", text, flags=re.M | re.S)]
-    for m in re.finditer(form, text, flags=re.M):
+    """Each public function of a source, and each function of a public trait: its comment, its name, its declaration."""
+    traits = [m.span() for m in TRAIT.finditer(text)]
+    for m in FUNCTION.finditer(text):
         comment, _, public, name = m.groups()
         if "pub" in public or ("///" in comment and any(a < m.start() < b for a, b in traits)):
             rest = text[m.start(4) :]
-            end = re.search(r"^ *\{$|^(?! *(?:requires|ensures)).*\{$|;$", rest, flags=re.M)
-            comment = " ".join(line.strip().removeprefix("///").strip() for line in comment.splitlines() if "///" in line)
-            yield comment, name, rest[: end.end() if end else 400]
+            end = DECLARATION.search(rest)
+            lines = (line.strip() for line in comment.splitlines())
+            said = " ".join(line.removeprefix("///").strip() for line in lines if "///" in line)
+            yield said, name, rest[: end.end() if end else 400]

@@ -4,11 +4,16 @@ from functools import cache
 
 from pages.tree import CRATES
 
-TOKEN = re.compile(r"[^\s(){}\[\],;.|λ:=]+|[(){}\[\],;.|λ:=]")
+TOKEN = re.compile(r"[^\s(){}\[\],;.|λ:=]+|[(){}\[\],;.|λ:=]")  # A name or a sign: text_len, λ
+# An import: use Rattle.iobufs.specs.Rows.{rest, first as front} or ghost use Rattle.iobufs.specs.Rows as R;
 IMPORT = re.compile(r"(?:ghost |pub )?use (?:Rattle\.)?([\w.'\-]+?)(?:\.\{(.*)\})?(?: as (\w+))?;?$")
+# The head of a declaration: pub record Table, or abbrev pub first : ℕ
 HEAD = re.compile(r"(?:abbrev |unfoldable |pub )*(?:(?:record|data|ruleset) (\S+)|(\S+) : )")
-# The contracts whose definitions docs/ASSURANCE.md counts: the name there, the source, the function, and the clauses that
-# aren't counted.
+FUNCTION = re.compile(r"\bpub fn (\w+)")  # A public function: pub fn run
+BRACE = re.compile(r"^ *\{$", re.M)  # The brace before a body, on a line of its own.
+CLAUSE = re.compile(r"^ *(?=(?:ensures|requires)\b)", re.M)  # What comes before a clause:     ensures moves { .. }
+# The contracts whose definitions docs/ASSURANCE.md counts: the name there, the source, the function, and the clauses
+# that aren't counted.
 CONTRACTS = [
     ("`Table::run`", "iobufs_run/src/table.rt", "run", ()),
     ("`Machine::run`, the promises", "iobufs_owner/src/owner.rt", "run", ("moves",)),
@@ -57,8 +62,9 @@ def module(path):
     lines = file.read_text().splitlines()
     own = declared(lines)
     for name, text in list(own.items()):
-        if re.match(r"(?:pub )?data ", text[0]):
-            own.update({m[1]: text for line in text if (m := re.match(r"\s+(\S+) :", line)) and m[1] not in own})
+        if text[0].startswith(("data ", "pub data ")):
+            made = (line.split()[0] for line in text if line[0] == " " and line.split()[1:2] == [":"])
+            own.update({it: text for it in made if it not in own})
     return own, imported(it for it in lines if it.startswith(("use", "pub use")))
 
 
@@ -88,9 +94,8 @@ def named(text, brought, path=None):
 def contract(source, function, without):
     """The contract of a public function without some clauses, and the imports of its source."""
     text = source.read_text()
-    begin = re.search(rf"pub fn {function}\b", text).start()
-    end = re.compile(r"^ *\{$", re.M).search(text, begin).start()
-    clauses = re.split(r"^ *(?=(?:ensures|requires)\b)", text[begin:end], flags=re.M)
+    begin = next(m.start() for m in FUNCTION.finditer(text) if m[1] == function)
+    clauses = CLAUSE.split(text[begin : BRACE.search(text, begin).start()])
     kept = (it for it in clauses if it.split()[1] not in without)
     return "".join(kept), imported(it for it in text.splitlines() if it.startswith("ghost use"))
 
