@@ -219,43 +219,42 @@ fn received(alloc: Global, count: u32) -> Result<Vec<IoBuf>, RunError> {
     cut_up(alloc, all, 1400)
 }
 
-// Appends views until there are `len` bytes, or no more views.
-fn receive<I: Iterator<Item = IoBuf>>(
+// Reads a frame, encodes it, and sends 16 KiB if there are so many bytes.
+#[inline(always)]
+fn pass_on(
     alloc: Global,
-    views: &mut I,
     input: &mut IoBufs,
-    len: usize,
+    output: &mut IoBufs,
+    sum: &mut Sum,
 ) -> Result<(), RunError> {
-    for _ in 0..len {
-        if input.len() >= len {
-            break;
-        }
-        match views.next() {
-            Some(view) => input.append(alloc, view)?,
-            None => break,
-        }
+    let frame = IoBuf::read_cfg(alloc, input, &RANGE)?;
+    sum.mark(frame.as_ref());
+    append_frame(alloc, &frame, output)?;
+    if output.len() >= SENT {
+        sum.mark(output.chunk());
+        output.advance(SENT);
     }
     Ok(())
 }
 
-/// Reads frames of mixed lengths, encodes each, and sends 16 KiB at once.
+/// Receives frames of mixed lengths, and passes on each that is whole.
 pub fn proxy(rt: &HostRuntime) -> Result<Run, RunError> {
     let alloc = rt.alloc();
-    let mut views = received(alloc, 1000)?.into_iter();
+    let views = received(alloc, 1000)?;
     let mut input = IoBufs::default();
     let mut output = IoBufs::default();
     let mut sum = Sum::new();
+    let mut next = 0u32;
     let start = begun(rt);
-    for i in 0..1000u32 {
-        // A length up to 16 KiB has at most three bytes.
-        let len = proxied_len(i).saturating_add(3);
-        receive(alloc, &mut views, &mut input, len)?;
-        let frame = IoBuf::read_cfg(alloc, &mut input, &RANGE)?;
-        sum.mark(frame.as_ref());
-        append_frame(alloc, &frame, &mut output)?;
-        if output.len() >= SENT {
-            sum.mark(output.chunk());
-            output.advance(SENT);
+    for view in views {
+        input.append(alloc, view)?;
+        for _ in 0..1000 {
+            // The length itself takes at most three bytes.
+            if input.len() < proxied_len(next).saturating_add(3) {
+                break;
+            }
+            pass_on(alloc, &mut input, &mut output, &mut sum)?;
+            next = next.saturating_add(1);
         }
     }
     sum.add(output.len());
