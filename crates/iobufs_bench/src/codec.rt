@@ -63,13 +63,8 @@ pub fn build(rt: &HostRuntime) -> Result<Run, RunError> {
     Ok(run)
 }
 
-fn frames(alloc: Global, count: usize, len: usize, piece: usize) -> Result<IoBufs, RunError> {
-    let body = native(alloc, len)?;
-    let mut all = Vec::new(alloc);
-    for _ in 0..count {
-        let frame = body.encode_iobufs(alloc)?.coalesce(alloc)?;
-        all.extend_from_slice(frame.as_ref())?;
-    }
+// Cuts the bytes into views of `piece` bytes each; the last may be shorter.
+fn cut_up(alloc: Global, all: Vec<u8>, piece: usize) -> Result<Vec<IoBuf>, RunError> {
     let mut rest = IoBuf::from_vec(all)?;
     let mut views = Vec::new(alloc);
     for _ in 0..rest.len() {
@@ -79,7 +74,17 @@ fn frames(alloc: Global, count: usize, len: usize, piece: usize) -> Result<IoBuf
             break;
         }
     }
-    Ok(IoBufs::from_chunks(alloc, views.into_iter())?)
+    Ok(views)
+}
+
+fn frames(alloc: Global, count: usize, len: usize, piece: usize) -> Result<IoBufs, RunError> {
+    let body = native(alloc, len)?;
+    let mut all = Vec::new(alloc);
+    for _ in 0..count {
+        let frame = body.encode_iobufs(alloc)?.coalesce(alloc)?;
+        all.extend_from_slice(frame.as_ref())?;
+    }
+    Ok(IoBufs::from_chunks(alloc, cut_up(alloc, all, piece)?.into_iter())?)
 }
 
 fn decode(alloc: Global, text: &mut IoBufs, count: usize, sum: &mut Sum) -> Result<(), RunError> {
@@ -153,20 +158,26 @@ pub fn decoding(
     Ok(Run::since(rt, start, count.saturating_mul(4), sum))
 }
 
+// Encodes a view, and appends each chunk.
+#[inline(always)]
+fn append_frame(alloc: Global, body: &IoBuf, wire: &mut IoBufs) -> Result<(), RunError> {
+    let mut text = body.encode_iobufs(alloc)?;
+    for _ in 0..text.chunk_count() {
+        let n = text.chunk().len();
+        if text.len() < n {
+            return Err(RunError::Unfit);
+        }
+        let piece: IoBuf = text.take_owned(alloc, n)?;
+        wire.append(alloc, piece)?;
+    }
+    Ok(())
+}
+
 // Encodes views of many lengths, and appends each chunk to one text.
 fn wired(alloc: Global, master: &IoBuf) -> Result<IoBufs, RunError> {
     let mut wire = IoBufs::default();
     for i in 0..1000usize {
-        let body = cut(master, 0, i * 37 % 1400 + 1)?;
-        let mut text = body.encode_iobufs(alloc)?;
-        for _ in 0..text.chunk_count() {
-            let n = text.chunk().len();
-            if text.len() < n {
-                return Err(RunError::Unfit);
-            }
-            let piece: IoBuf = text.take_owned(alloc, n)?;
-            wire.append(alloc, piece)?;
-        }
+        append_frame(alloc, &cut(master, 0, i * 37 % 1400 + 1)?, &mut wire)?;
     }
     Ok(wire)
 }
@@ -179,5 +190,75 @@ pub fn there_and_back(rt: &HostRuntime, is_take: bool) -> Result<Run, RunError> 
     let mut wire = wired(alloc, &master)?;
     read_all(alloc, &mut wire, 1000, is_take, &mut sum)?;
     drop(wire);
+    Ok(Run::since(rt, start, 1000, sum))
+}
+
+// How many bytes a proxy sends at once.
+const SENT: usize = 16_384;
+
+// The lengths of a proxy's frames. Of ten, four have less than 64 bytes, three 200 to 1,399, two 1,400, and one 16 KiB.
+fn proxied_len(i: u32) -> usize {
+    let n = i as usize;
+    match n % 10 {
+        0..=3 => n % 56 + 8,
+        4..=6 => n * 37 % 1200 + 200,
+        7 | 8 => 1400,
+        _ => SENT,
+    }
+}
+
+// What a proxy receives: frames, in views of 1,400 bytes.
+fn received(alloc: Global, count: u32) -> Result<Vec<IoBuf>, RunError> {
+    let mut all = Vec::new(alloc);
+    for i in 0..count {
+        let frame = native(alloc, proxied_len(i))?
+            .encode_iobufs(alloc)?
+            .coalesce(alloc)?;
+        all.extend_from_slice(frame.as_ref())?;
+    }
+    cut_up(alloc, all, 1400)
+}
+
+// Reads a frame, encodes it, and sends 16 KiB if there are so many bytes.
+#[inline(always)]
+fn pass_on(
+    alloc: Global,
+    input: &mut IoBufs,
+    output: &mut IoBufs,
+    sum: &mut Sum,
+) -> Result<(), RunError> {
+    let frame = IoBuf::read_cfg(alloc, input, &RANGE)?;
+    sum.mark(frame.as_ref());
+    append_frame(alloc, &frame, output)?;
+    if output.len() >= SENT {
+        sum.mark(output.chunk());
+        output.advance(SENT);
+    }
+    Ok(())
+}
+
+/// Receives frames of mixed lengths, and passes on each that is whole.
+pub fn proxy(rt: &HostRuntime) -> Result<Run, RunError> {
+    let alloc = rt.alloc();
+    let views = received(alloc, 1000)?;
+    let mut input = IoBufs::default();
+    let mut output = IoBufs::default();
+    let mut sum = Sum::new();
+    let mut next = 0u32;
+    let start = begun(rt);
+    for view in views {
+        input.append(alloc, view)?;
+        for _ in 0..1000 {
+            // The length itself takes at most three bytes.
+            if input.len() < proxied_len(next).saturating_add(3) {
+                break;
+            }
+            pass_on(alloc, &mut input, &mut output, &mut sum)?;
+            next = next.saturating_add(1);
+        }
+    }
+    sum.add(output.len());
+    drop(input);
+    drop(output);
     Ok(Run::since(rt, start, 1000, sum))
 }

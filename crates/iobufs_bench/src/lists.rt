@@ -42,11 +42,11 @@ pub fn freeze(rt: &HostRuntime, n: u32) -> Result<Run, RunError> {
     Ok(run)
 }
 
-/// Buffers of eight bytes, with spare capacity, made one.
-pub fn coalesce(rt: &HostRuntime, n: u32) -> Result<Run, RunError> {
+/// Makes one buffer of `n`, each of which has this many of its 256 bytes filled.
+pub fn coalesce(rt: &HostRuntime, n: u32, filled: usize) -> Result<Run, RunError> {
     let alloc = rt.alloc();
     let k = copies(n);
-    let lists = lists(alloc, k, n, 8)?;
+    let lists = lists(alloc, k, n, filled)?;
     let mut kept = Vec::with_capacity(alloc, k)?;
     let start = begun(rt);
     for list in lists {

@@ -22,6 +22,7 @@ pub fn run_named(rt: &HostRuntime, name: &str) -> Result<Run, RunError> {
         ),
         "new_share_drop_64" => single::new_share_drop(rt),
         "slice_drop_64" => single::slice_drop(rt),
+        "slice_of_slice" => single::slice_of_slice(rt),
         "read_view_bytewise_1m" => single::read_bytewise(rt),
         "read_view_64_1m" => single::read_64(rt),
         "take_view_1k_1m" => single::take_1k(rt),
@@ -45,6 +46,7 @@ fn run_wire(rt: &HostRuntime, name: &str) -> Result<Run, RunError> {
         "decode16k_chunks1024" => codec::decoding(rt, 16, 16384, 1024, false),
         "decode16k_chunks1024_take" => codec::decoding(rt, 16, 16384, 1024, true),
         "frames_echo64" => frames::echo(rt, 16384, 64),
+        "frames_proxy_mixed" => codec::proxy(rt),
         "frames_there_and_back" => codec::there_and_back(rt, false),
         "frames_there_and_back_take" => codec::there_and_back(rt, true),
         _ => run_sized(rt, name),
@@ -81,7 +83,11 @@ fn run_text(rt: &HostRuntime, n: u32, name: &str) -> Result<Run, RunError> {
         "advance100" => turns::advance100(rt, n, texts(rt.alloc(), copies(n), n)?),
         "take100" => turns::take(rt, n, 100, texts(rt.alloc(), copies(n), n)?),
         "take300" => turns::take(rt, n, 300, texts(rt.alloc(), copies(n), n)?),
-        "split1000" => texts::split1000(rt, n),
+        "split1000" => texts::split1000(rt, n, usize::MAX),
+        "split1000_few" => texts::split1000(rt, n, 200),
+        "queue_split" => texts::queue_split(rt, n),
+        "queue_advance" => texts::queue_advance(rt, n),
+        "locate" => texts::locate(rt, n),
         "split_mid" => texts::split_mid(rt, n),
         "slice" => texts::slice(rt, n),
         "equal" => texts::equal(rt, n),
@@ -97,6 +103,7 @@ fn run_text(rt: &HostRuntime, n: u32, name: &str) -> Result<Run, RunError> {
 
 fn run_parts(rt: &HostRuntime, n: u32, name: &str) -> Result<Run, RunError> {
     match name {
+        "put3" => lists::put(rt, n, 3),
         "put64" => lists::put(rt, n, 64),
         "put96" => lists::put(rt, n, 96),
         "advance100" => turns::advance100(rt, n, lists(rt.alloc(), copies(n), n, CHUNK)?),
@@ -104,7 +111,8 @@ fn run_parts(rt: &HostRuntime, n: u32, name: &str) -> Result<Run, RunError> {
         "take300" => turns::take(rt, n, 300, lists(rt.alloc(), copies(n), n, CHUNK)?),
         "freeze" => lists::freeze(rt, n),
         "overwrite" => lists::overwrite(rt, n),
-        "coalesce" => lists::coalesce(rt, n),
+        "coalesce" => lists::coalesce(rt, n, 8),
+        "coalesce_full" => lists::coalesce(rt, n, CHUNK),
         // Buffers of eight bytes that are read to their ends, and keep their spare capacity.
         "drain" => turns::drain(rt, n, lists(rt.alloc(), copies(n), n, 8)?),
         "hold" => lists::hold(rt, n),

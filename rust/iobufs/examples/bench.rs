@@ -116,6 +116,16 @@ fn slice_drop() -> Run {
     timed(n, || (0..n).map(|i| mark(black_box(&view).slice(i % 960..i % 960 + 64).chunk())).sum())
 }
 
+fn slice_of_slice() -> Run {
+    let whole = native(1064);
+    let mut view = whole.clone();
+    let slice = |_| {
+        view = view.slice(1..);
+        mark(view.chunk())
+    };
+    timed(1000, || (0..1000).map(slice).sum())
+}
+
 fn read_bytewise() -> Run {
     let whole = native(MIB);
     let mut view = whole.clone();
@@ -184,6 +194,16 @@ fn drained(n: usize, size: usize, step: impl Fn(&mut IoBufs) -> u64, rest: usize
         }
         sum
     })
+}
+
+/// A queue of n chunks: each turn appends one, and `take` takes one off.
+fn queue(n: usize, take: impl Fn(&mut IoBufs) -> u64) -> Run {
+    let (view, mut text, turns) = (native(256), text(n), 10_000);
+    let turn = |_| {
+        text.append(black_box(&view).clone());
+        take(&mut text)
+    };
+    timed(turns, || (0..turns).map(turn).sum())
 }
 
 fn text_len(n: usize) -> Run {
@@ -267,6 +287,21 @@ fn parts_freeze(n: usize) -> Run {
     (ns, operations, texts.iter().map(|text| text.len() as u64 + mark(text.chunk())).sum())
 }
 
+fn parts_coalesce(n: usize, len: usize) -> Run {
+    let part = || {
+        let mut part = IoBufMut::with_capacity(256);
+        part.put_slice(&pattern(len));
+        part
+    };
+    let rows: Vec<IoBufsMut> = (0..count(n)).map(|_| (0..n).map(|_| part()).collect()).collect();
+    let mut parts = Vec::with_capacity(rows.len());
+    let (ns, operations, _) = timed(rows.len(), || {
+        parts.extend(rows.into_iter().map(IoBufsMut::coalesce));
+        0
+    });
+    (ns, operations, parts.iter().map(|part| mark(part.as_ref())).sum())
+}
+
 type Workload = (String, Box<dyn Fn() -> Run>);
 
 fn workloads() -> Vec<Workload> {
@@ -280,9 +315,19 @@ fn workloads() -> Vec<Workload> {
     add("clone_drop_static".into(), Box::new(|| clone_drop(IoBuf::from(b"abcdefghijklmnopqrstuvwxyz"))));
     add("new_share_drop_64".into(), Box::new(new_share_drop));
     add("slice_drop_64".into(), Box::new(slice_drop));
+    add("slice_of_slice".into(), Box::new(slice_of_slice));
     add("read_view_bytewise_1m".into(), Box::new(read_bytewise));
     add("read_view_64_1m".into(), Box::new(read64));
     add("recover_put64_freeze".into(), Box::new(recover));
+    add("text1_coalesce".into(), Box::new(|| coalesced(1)));
+    for n in [1, 2] {
+        add(format!("text{n}_queue_split"), Box::new(move || queue(n, |text| mark(text.split_to(256).chunk()))));
+        let advance = |text: &mut IoBufs| {
+            text.advance(256);
+            mark(text.chunk())
+        };
+        add(format!("text{n}_queue_advance"), Box::new(move || queue(n, advance)));
+    }
     for n in [4, 64, 4096] {
         add(format!("text{n}_append"), Box::new(move || joined(n, IoBufs::append)));
         add(format!("text{n}_prepend"), Box::new(move || joined(n, IoBufs::prepend)));
@@ -307,7 +352,10 @@ fn workloads() -> Vec<Workload> {
         add(format!("text{n}_bytewise"), Box::new(move || text_bytewise(n)));
     }
     for n in [2, 3, 64] {
+        add(format!("parts{n}_put3"), Box::new(move || parts_put(n, 3)));
         add(format!("parts{n}_put64"), Box::new(move || parts_put(n, 64)));
+        add(format!("parts{n}_coalesce"), Box::new(move || parts_coalesce(n, 8)));
+        add(format!("parts{n}_coalesce_full"), Box::new(move || parts_coalesce(n, 256)));
         add(format!("parts{n}_freeze"), Box::new(move || parts_freeze(n)));
     }
     all
