@@ -76,8 +76,13 @@ impl<'a> Steps<'a> {
     }
 
     // The bytes that it gives now.
-    fn resume(&mut self, bytes: &'a [u8]) {
+    fn give(&mut self, bytes: &'a [u8]) {
         self.left = bytes;
+    }
+
+    // The bytes that it gives now, and then it ends.
+    fn resume(&mut self, bytes: &'a [u8]) {
+        self.give(bytes);
         self.is_broken = false;
     }
 }
@@ -549,8 +554,9 @@ fn assert_counted(rt: &(impl Abort + AllocGlobal), case: &Counting) -> Result<()
     }
     let framed = framed_with(rt.alloc(), VARINT, body.clone()?)?;
     let bytes = framed.to_vec(rt.alloc())?.leak();
-    let mut reader = FrameReader::new(rt.alloc(), Steps::new(bytes, most, true), LONG)?;
-    reader.from.interruptions = Interruptions::new(each);
+    let mut steps = Steps::new(bytes, most, true);
+    steps.interruptions = Interruptions::new(each);
+    let mut reader = FrameReader::new(rt.alloc(), steps, LONG)?;
     let found = reader.next()?.ok_or("no frame")?;
     assert_same!(rt; (found.len(), reader.from.reads), (body.len(), reads), "{lengths:?} by {most}");
     let mut writer = FrameWriter::new(Recorder::new(rt.alloc(), most, usize::MAX), LONG);
@@ -597,7 +603,7 @@ fn long_frames_go_in_turn(rt: HostRuntime) -> Result<(), Fail> {
         let bytes = framed_with(alloc, VARINT, long(alloc, n)?)?
             .to_vec(alloc)?
             .leak();
-        reader.from.left = bytes;
+        reader.from.give(bytes);
         let body = reader.next()?.ok_or("no frame")?;
         writer.to.calls.clear();
         writer.put(IoBufs::from(body))?;
