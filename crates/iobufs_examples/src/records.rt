@@ -1,5 +1,5 @@
 // Records in a file, each a frame.
-ghost use Rattle.std.specs.Prelude.{◌≡◌, ℕ, [], List, ◌++◌, IfOk, OnOk};
+ghost use Rattle.std.specs.Prelude.{◌≡◌, ℕ, List, ◌++◌, IfOk, OnOk};
 ghost use Rattle.std.specs.Io.KnownBytes.{Appends};
 ghost use Rattle.iobufs_frames.specs.Frames.{CanAllFollow, all_written, bodies, frame_written, joined_bytes};
 ghost use Rattle.iobufs_frames.specs.declared.lengths.Prefix.TheVariants.{Spelled};
@@ -16,14 +16,13 @@ use std::io::Write;
 use std::process::Abort;
 use std::test::Fail;
 
-/// Appends a record. After an error of the writer, `to.rest` has what isn't written, and `to.send()` goes on.
+/// Appends a record, once the one before it is sent; `to.send` sends it. What an error leaves is sent by the next call.
 pub fn append<W: Write + Drop>(to: &mut FrameWriter<W>, body: IoBufs) -> Result<(), FrameError>
-    requires { to.old.rest.bytes ≡ [] }
-    ensures { OnOk result (Appends (W.contents to.old.to) (W.contents to.new.to)
-        (frame_written to.old.prefix body.bytes)) }
+    ensures before { OnOk result (Appends (W.contents to.old.to) (W.contents to.new.to) to.old.rest.bytes) }
+    ensures put { OnOk result (to.new.rest.bytes ≡ frame_written to.old.prefix body.bytes) }
 {
-    to.put(body).map_err(Error::from)?;
     to.send()?;
+    to.put(body).map_err(Error::from)?;
     Ok(())
 }
 
@@ -46,6 +45,7 @@ fn a_cut_file_has_the_records_before_the_cut(rt: HostRuntime) -> Result<(), Fail
     for text in [b"ab".as_slice(), b"cde".as_slice()] {
         append(&mut to, IoBufs::from(text)).expect(&rt, "a record is appended");
     }
+    to.send()?;
     let file = fs::read(&rt, "records")?;
     assert_eq!(rt; file.as_slice(), b"\x02ab\x03cde".as_slice());
     for (len, whole, rest) in CUTS {

@@ -605,6 +605,7 @@ fn long_frames_go_in_turn(rt: HostRuntime) -> Result<(), Fail> {
             .leak();
         reader.from.give(bytes);
         let body = reader.next()?.ok_or("no frame")?;
+        writer.send()?;
         writer.to.calls.clear();
         writer.put(IoBufs::from(body))?;
         writer.send()?;
