@@ -542,7 +542,25 @@ fn is_kept(interruptions: &Interruptions) -> bool {
     interruptions.each == interruptions.left
 }
 
-// Frames that come one by one, of a reader that fails if it is read past one.
+// The length of the first frame of these bytes, how many reads it takes, and whether all interruptions came. The reader
+// fails if it is read past them.
+fn read_counted(
+    alloc: Global,
+    bytes: &'static [u8],
+    each: usize,
+    most: usize,
+) -> Result<(usize, usize, bool), Fail> {
+    let mut steps = Steps::new(bytes, most, true);
+    steps.interruptions = Interruptions::new(each);
+    let mut reader = FrameReader::new(alloc, steps, LONG)?;
+    let found = reader.next()?.ok_or("no frame")?;
+    Ok((
+        found.len(),
+        reader.from.reads,
+        is_kept(&reader.from.interruptions),
+    ))
+}
+
 fn assert_counted(rt: &(impl Abort + AllocGlobal), case: &Counting) -> Result<(), Fail> {
     let (each, most, lengths, reads, writes) = *case;
     let mut body = IoBufs::default();
@@ -554,17 +572,18 @@ fn assert_counted(rt: &(impl Abort + AllocGlobal), case: &Counting) -> Result<()
     }
     let framed = framed_with(rt.alloc(), VARINT, body.clone()?)?;
     let bytes = framed.to_vec(rt.alloc())?.leak();
-    let mut steps = Steps::new(bytes, most, true);
-    steps.interruptions = Interruptions::new(each);
-    let mut reader = FrameReader::new(rt.alloc(), steps, LONG)?;
-    let found = reader.next()?.ok_or("no frame")?;
-    assert_same!(rt; (found.len(), reader.from.reads), (body.len(), reads), "{lengths:?} by {most}");
+    let found = read_counted(rt.alloc(), bytes, each, most)?;
+    assert_same!(rt; found, (body.len(), reads, true), "{lengths:?} by {most}");
     let mut writer = FrameWriter::new(Recorder::new(rt.alloc(), most, usize::MAX), LONG);
     writer.to.interruptions = Interruptions::new(each);
     writer.put(body)?;
     writer.send()?;
-    assert_same!(rt; (writer.to.count, writer.to.calls.as_slice()), (writes, bytes), "{lengths:?} by {most}");
-    assert!(rt; is_kept(&reader.from.interruptions) && is_kept(&writer.to.interruptions));
+    let sent = (
+        writer.to.count,
+        writer.to.calls.as_slice(),
+        is_kept(&writer.to.interruptions),
+    );
+    assert_same!(rt; sent, (writes, bytes, true), "{lengths:?} by {most}");
     Ok(())
 }
 
