@@ -542,8 +542,17 @@ fn is_kept(interruptions: &Interruptions) -> bool {
     interruptions.each == interruptions.left
 }
 
-// The length of the first frame of these bytes, how many reads it takes, and whether all interruptions came. The reader
-// fails if it is read past them.
+// A body of chunks of these lengths.
+fn chunked(alloc: Global, lengths: &[usize]) -> Result<IoBufs, Fail> {
+    let mut body = IoBufs::default();
+    for n in lengths {
+        body.append(alloc, IoBuf::copy_from_slice(alloc, &[7; 1000][..*n])?)?;
+    }
+    Ok(body)
+}
+
+// The length of the frame of these bytes, how many reads it takes, and whether all interruptions came. The reader fails
+// if it is read past them.
 fn read_counted(
     alloc: Global,
     bytes: &'static [u8],
@@ -561,29 +570,42 @@ fn read_counted(
     ))
 }
 
-fn assert_counted(rt: &(impl Abort + AllocGlobal), case: &Counting) -> Result<(), Fail> {
-    let (each, most, lengths, reads, writes) = *case;
-    let mut body = IoBufs::default();
-    for n in lengths {
-        body.append(
-            rt.alloc(),
-            IoBuf::copy_from_slice(rt.alloc(), &[7; 1000][..*n])?,
-        )?;
-    }
-    let framed = framed_with(rt.alloc(), VARINT, body.clone()?)?;
-    let bytes = framed.to_vec(rt.alloc())?.leak();
-    let found = read_counted(rt.alloc(), bytes, each, most)?;
-    assert_same!(rt; found, (body.len(), reads, true), "{lengths:?} by {most}");
-    let mut writer = FrameWriter::new(Recorder::new(rt.alloc(), most, usize::MAX), LONG);
+// Whether the frame of this body is sent as these bytes, how many writes it takes, and whether all interruptions came.
+fn write_counted(
+    alloc: Global,
+    body: IoBufs,
+    bytes: &[u8],
+    each: usize,
+    most: usize,
+) -> Result<(bool, usize, bool), Fail> {
+    let mut writer = FrameWriter::new(Recorder::new(alloc, most, usize::MAX), LONG);
     writer.to.interruptions = Interruptions::new(each);
     writer.put(body)?;
     writer.send()?;
-    let sent = (
+    Ok((
+        writer.to.calls.as_slice() == bytes,
         writer.to.count,
-        writer.to.calls.as_slice(),
         is_kept(&writer.to.interruptions),
+    ))
+}
+
+fn assert_counted(rt: &(impl Abort + AllocGlobal), case: &Counting) -> Result<(), Fail> {
+    let (each, most, lengths, reads, writes) = *case;
+    let chunks = lengths.len();
+    let body = chunked(rt.alloc(), lengths)?;
+    let len = body.len();
+    let framed = framed_with(rt.alloc(), VARINT, body.clone()?)?;
+    let bytes = framed.to_vec(rt.alloc())?.leak();
+    let found = read_counted(rt.alloc(), bytes, each, most)?;
+    let sent = write_counted(rt.alloc(), body, bytes, each, most)?;
+    assert!(rt;
+        found == (len, reads, true),
+        "{chunks} chunks by {most}: {found:?}"
     );
-    assert_same!(rt; sent, (writes, bytes, true), "{lengths:?} by {most}");
+    assert!(rt;
+        sent == (true, writes, true),
+        "{chunks} chunks by {most}: {sent:?}"
+    );
     Ok(())
 }
 
