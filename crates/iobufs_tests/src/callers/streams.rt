@@ -524,31 +524,22 @@ fn frames_are_echoed(rt: HostRuntime) -> Result<(), Fail> {
     Ok(())
 }
 
-// How often each call is interrupted, how many bytes it moves at most, the lengths of a body's chunks, and how many
-// reads and writes its frame takes.
-type Counting = (usize, usize, &'static [usize], usize, usize);
+// How often each call is interrupted, how many bytes it moves at most, a body's chunks, and how many reads and writes its
+// frame takes.
+type Counting = (usize, usize, &'static [&'static [u8]], usize, usize);
 
 const COUNTINGS: [Counting; 7] = rows! {
     0, usize::MAX, &[], 1, 1;
-    0, usize::MAX, &[1000], 1, 2;
-    0, usize::MAX, &[500, 500], 1, 3;
-    0, 1, &[100], 101, 101;
-    0, 7, &[1000], 144, 144;
-    1000, usize::MAX, &[1000], 1, 2;
-    1000, 7, &[500, 500], 144, 145;
+    0, usize::MAX, &[&[7; 1000]], 1, 2;
+    0, usize::MAX, &[&[7; 500], &[7; 500]], 1, 3;
+    0, 1, &[&[7; 100]], 101, 101;
+    0, 7, &[&[7; 1000]], 144, 144;
+    1000, usize::MAX, &[&[7; 1000]], 1, 2;
+    1000, 7, &[&[7; 500], &[7; 500]], 144, 145;
 };
 
 fn is_kept(interruptions: &Interruptions) -> bool {
     interruptions.each == interruptions.left
-}
-
-// A body of chunks of these lengths.
-fn chunked(alloc: Global, lengths: &[usize]) -> Result<IoBufs, Fail> {
-    let mut body = IoBufs::default();
-    for n in lengths {
-        body.append(alloc, IoBuf::copy_from_slice(alloc, &[7; 1000][..*n])?)?;
-    }
-    Ok(body)
 }
 
 // The length of the frame of these bytes, how many reads it takes, and whether all interruptions came. The reader fails
@@ -578,34 +569,26 @@ fn write_counted(
     each: usize,
     most: usize,
 ) -> Result<(bool, usize, bool), Fail> {
-    let mut writer = FrameWriter::new(Recorder::new(alloc, most, usize::MAX), LONG);
-    writer.to.interruptions = Interruptions::new(each);
+    let mut to = Recorder::new(alloc, most, usize::MAX);
+    to.interruptions = Interruptions::new(each);
+    let mut writer = FrameWriter::new(to, LONG);
     writer.put(body)?;
     writer.send()?;
-    Ok((
-        writer.to.calls.as_slice() == bytes,
-        writer.to.count,
-        is_kept(&writer.to.interruptions),
-    ))
+    let is_same = writer.to.calls.as_slice() == bytes;
+    Ok((is_same, writer.to.count, is_kept(&writer.to.interruptions)))
 }
 
 fn assert_counted(rt: &(impl Abort + AllocGlobal), case: &Counting) -> Result<(), Fail> {
-    let (each, most, lengths, reads, writes) = *case;
-    let chunks = lengths.len();
-    let body = chunked(rt.alloc(), lengths)?;
+    let (each, most, chunks, reads, writes) = *case;
+    let n = chunks.len();
+    let body = text(rt.alloc(), chunks)?;
     let len = body.len();
     let framed = framed_with(rt.alloc(), VARINT, body.clone()?)?;
     let bytes = framed.to_vec(rt.alloc())?.leak();
     let found = read_counted(rt.alloc(), bytes, each, most)?;
     let sent = write_counted(rt.alloc(), body, bytes, each, most)?;
-    assert!(rt;
-        found == (len, reads, true),
-        "{chunks} chunks by {most}: {found:?}"
-    );
-    assert!(rt;
-        sent == (true, writes, true),
-        "{chunks} chunks by {most}: {sent:?}"
-    );
+    assert_same!(rt; found, (len, reads, true), "{n} chunks by {most}");
+    assert_same!(rt; sent, (true, writes, true), "{n} chunks by {most}");
     Ok(())
 }
 
