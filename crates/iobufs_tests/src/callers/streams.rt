@@ -524,8 +524,8 @@ fn frames_are_echoed(rt: HostRuntime) -> Result<(), Fail> {
     Ok(())
 }
 
-// How often each call is interrupted, how many bytes it moves at most, a body's chunks, and how many reads and writes its
-// frame takes.
+// How often each call is interrupted, how many bytes it moves at most, a body's chunks, and how many reads and writes
+// its frame takes.
 type Counting = (usize, usize, &'static [&'static [u8]], usize, usize);
 
 const COUNTINGS: [Counting; 7] = rows! {
