@@ -1,4 +1,4 @@
--- How a session of either half ends, once its replies are sent off.
+-- How a session of either half ends, once its replies are flushed.
 use Rattle.iobuf.proofs.Known.{refl, Bool, Err, IfSome, List, None, Ok, Option, Result, Some, [], inl, inr, replicate, ℕ, ◌∷◌, Keeps, Free, Halts, IsStopAt, MayEnd, ServesHalf, MachineAnsweredFirst, AnsweredFirst, commands_of, Obstacle, Memory, TooManyLines, Writing, Stop, BadCommand, CannotContinue, OtherWords, Half, Buffers, Machine}
 use Rattle.iobuf.proofs.Contents.{stays}
 use Rattle.iobuf.proofs.Going.{halted, where_known}
@@ -50,7 +50,7 @@ not_sent : (half : Half) (input before : List ℕ) (written : Option (List ℕ))
 not_sent Buffers input before written halts = halts
 not_sent half input before written halts = halts
 
--- a half that served its input up to where it stopped, and whose replies couldn't be sent off then, ends with what is written as it was, by
+-- a half that served its input up to where it stopped, and whose replies then couldn't be flushed, ends with what is written as it was, by
 -- a fault of writing
 pub unsent : (half : Half) (read told written new : Option (List ℕ)) (served : Result (Unit {0}) Stop)
     → IfSome read (λ input. IfSome told (λ before. ServesHalf half input before written served)) → Keeps written new

@@ -82,9 +82,8 @@ measured k (piece ∷ pieces) low =
     let (short, more) = measured k pieces (omega (arith, both, low)) in
     ((omega (arith, one, both, low), short), omega (arith, more, one, both))
 
--- where no cause holds against `Show`, and after a text stands the kind of what is held, its pieces and an end of a line, the line of a
--- reply
--- is printed
+-- where no cause holds against `Show`, and after a text stands the kind of what is held, its pieces and an end of a
+-- line, the line of a reply is printed
 pub is_printed : (names : List Slot) (target : ℕ) (k : Kind) (v : Vec ℕ Global) (before named all after : List ℕ)
     → refusal_for names (Show target) ≡ None → kind_of (slot_named names target) ≡ Some k
     → named ≡ before ++ kind_text k → all ≡ named ++ flat_map (held_text k) (pieces_of (slot_named names target))

@@ -309,11 +309,14 @@ either_is : (word : List ℕ) (v : Verb) (made : Option Verb) → making_of word
     → word ≡ verb_text v
 either_is word v (Some here) at e =
     named_is (verb.Three of_three.New ∷ verb.Three of_three.Zeroed ∷ verb.Bytes of_bytes.Adopt ∷ verb.Static ∷ verb.Bytes of_bytes.Bytes
-    ∷ verb.Two of_two.Freeze ∷ verb.Two of_two.Recover ∷ verb.Two of_two.Clone ∷ verb.Slice ∷ verb.Three of_three.Split ∷ verb.Numbers of_numbers.Gather
+    ∷ verb.Two of_two.Freeze ∷ verb.Two of_two.Recover ∷ verb.Two of_two.Clone ∷ verb.Slice ∷ verb.Three of_three.Split
+    ∷ verb.Numbers of_numbers.Gather
     ∷ verb.Numbers of_numbers.GatherMut ∷ verb.Two of_two.Coalesce ∷ verb.Build ∷ verb.Two of_two.Encode ∷ verb.Decode ∷ []) word v (at ∙ e)
 either_is word v None at e =
-    named_is (verb.Bytes of_bytes.Put ∷ verb.Fill ∷ verb.Two of_two.SetLen ∷ verb.Two of_two.Truncate ∷ verb.One of_one.Clear ∷ verb.Bytes of_bytes.Overwrite
-    ∷ verb.Two of_two.Advance ∷ verb.Two of_two.Take ∷ verb.Two of_two.Append ∷ verb.Two of_two.Prepend ∷ verb.One of_one.Drop ∷ verb.One of_one.Show ∷ [])
+    named_is (verb.Bytes of_bytes.Put ∷ verb.Fill ∷ verb.Two of_two.SetLen ∷ verb.Two of_two.Truncate ∷ verb.One of_one.Clear
+    ∷ verb.Bytes of_bytes.Overwrite
+    ∷ verb.Two of_two.Advance ∷ verb.Two of_two.Take ∷ verb.Two of_two.Append ∷ verb.Two of_two.Prepend ∷ verb.One of_one.Drop
+    ∷ verb.One of_one.Show ∷ [])
     word v e
 
 -- texts that spell a command

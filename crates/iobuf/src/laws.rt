@@ -40,8 +40,7 @@ pub fn setup_law()
 {}
 
 /// The steps that are asked of a machine, questions left out, are a run of it, in which tables may get more room before
-/// each
-/// step, and their answers are its replies.
+/// each step, and their answers are its replies.
 pub fn run_law()
     ensures { (m next : Seen) → (asks : List Ask) → (texts : List (List ℕ)) → AreAnswered m asks texts next
         → (replies : List Reply) × GrowingRuns m (steps_of asks) replies next

@@ -116,7 +116,8 @@ pub fn session<R: Read + Drop, W: Write, E: Write>(
     ensures buffers { map (λ arg. arg.now) args.now ≡ codes "buf" ∷ [] → IfSome (R.remaining input.old) (λ read.
         IfSome (W.contents output.old.writer) (λ before. Serves read before (W.contents output.new.writer) result.0)) }
     ensures machine { map (λ arg. arg.now) args.now ≡ codes "owner" ∷ [] → IfSome (R.remaining input.old) (λ read.
-        IfSome (W.contents output.old.writer) (λ before. ServesMachine read before (W.contents output.new.writer) result.0)) }
+        IfSome (W.contents output.old.writer) (λ before.
+        ServesMachine read before (W.contents output.new.writer) result.0)) }
     ensures usage { map (λ arg. arg.now) args.now ≢ codes "buf" ∷ []
         → map (λ arg. arg.now) args.now ≢ codes "owner" ∷ []
         → (result.0 ≡ Err OtherWords) × (input.new ≡ input.old) × (output.new ≡ output.old) }
@@ -150,7 +151,8 @@ pub fn serve<R: Read + Drop, W: Write, E: Write>(
     ensures buffers { map (λ arg. arg.now) args.now ≡ codes "buf" ∷ [] → IfSome (R.remaining input) (λ read.
         IfSome (W.contents output.old.writer) (λ before. HasStatus read before (W.contents output.new.writer) result)) }
     ensures machine { map (λ arg. arg.now) args.now ≡ codes "owner" ∷ [] → IfSome (R.remaining input) (λ read.
-        IfSome (W.contents output.old.writer) (λ before. HasMachineStatus read before (W.contents output.new.writer) result)) }
+        IfSome (W.contents output.old.writer) (λ before.
+        HasMachineStatus read before (W.contents output.new.writer) result)) }
     ensures usage { map (λ arg. arg.now) args.now ≢ codes "buf" ∷ []
         → map (λ arg. arg.now) args.now ≢ codes "owner" ∷ []
         → (result ≡ 2) × (output.new ≡ output.old) }

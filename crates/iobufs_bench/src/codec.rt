@@ -207,7 +207,7 @@ fn proxied_len(i: u32) -> usize {
     }
 }
 
-// What a proxy receives: frames, in views of 1,400 bytes.
+// The frames that a proxy receives, in views of 1,400 bytes.
 fn received(alloc: Global, count: u32) -> Result<Vec<IoBuf>, RunError> {
     let mut all = Vec::new(alloc);
     for i in 0..count {

@@ -1,4 +1,4 @@
--- What a codec of frames gives to the kit's `FramedRead`, and writes for its `FramedWrite`.
+-- A codec of frames: the items of the kit's `FramedRead`, and the bytes that its `FramedWrite` writes.
 --     gives_frames     a frame of a length in the range, in its block, and what is after it; why there is none; and the end,
 --                      which a frame that was begun cuts
 --     writes_frame     the frame of a body

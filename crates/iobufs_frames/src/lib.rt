@@ -1,5 +1,5 @@
 // Frames of bytes that come in chunks, also from std's readers and to its writers: each is a length followed by a body.
-// `reader` takes whole frames out of whatever a read gives. `writer` sends frames chunk by chunk, whatever a write takes.
+// `reader` takes whole frames out of whatever reads give. `writer` sends frames chunk by chunk, whatever writes take.
 #![tactic(auto)]
 
 ghost use Rattle.std.specs.Prelude.{◌≡◌, ◌⊎◌, ℕ, ◌+◌, ◌^◌, ◌<◌, ◌≤◌, List, ◌++◌, length, OnOk, OnErr, IfOk, IfErr, IsOk, IsErrAnd, IsOkUnless, IfNone, IfSome};

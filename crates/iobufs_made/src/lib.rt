@@ -9,7 +9,7 @@ use iobufs_core::buf::{IoBuf, IoBufMut};
 use iobufs_core::codec::{BufError, BufMut};
 use std::alloc::{AllocError, Global};
 
-// A writable buffer with these bytes and so much spare capacity.
+/// Makes a writable buffer of these bytes, with `spare` bytes of spare capacity.
 pub fn part(alloc: Global, bytes: &[u8], spare: usize) -> Result<IoBufMut, BufError> {
     let Some(capacity) = bytes.len().checked_add(spare) else {
         return Err(BufError::TooLong);
@@ -19,17 +19,17 @@ pub fn part(alloc: Global, bytes: &[u8], spare: usize) -> Result<IoBufMut, BufEr
     Ok(part)
 }
 
-// Native storage with these bytes and so much spare capacity.
+/// Makes a view of native storage with these bytes, with `spare` bytes of spare capacity.
 pub fn native(alloc: Global, bytes: &[u8], spare: usize) -> Result<IoBuf, BufError> {
     part(alloc, bytes, spare)?.freeze()
 }
 
-// Another view of the same bytes.
+/// Makes another view of the same bytes.
 pub fn twin_of(view: &IoBuf) -> Result<IoBuf, BufError> {
     Ok(view.clone()?)
 }
 
-// Writable buffers in a row, each as its bytes and its spare capacity.
+/// Makes writable buffers, each of its bytes and its spare capacity, in order.
 pub fn parts(alloc: Global, rows: &[(&[u8], usize)]) -> Result<IoBufsMut, BufError> {
     let mut parts = Vec::new(alloc);
     for (bytes, spare) in rows.iter() {
@@ -38,7 +38,7 @@ pub fn parts(alloc: Global, rows: &[(&[u8], usize)]) -> Result<IoBufsMut, BufErr
     IoBufsMut::from_parts(alloc, parts.into_iter())
 }
 
-// Static views, one after the other.
+/// Concatenates static views.
 pub fn text(alloc: Global, pieces: &[&'static [u8]]) -> Result<IoBufs, BufError> {
     let mut text = IoBufs::default();
     for piece in pieces {
@@ -47,7 +47,7 @@ pub fn text(alloc: Global, pieces: &[&'static [u8]]) -> Result<IoBufs, BufError>
     Ok(text)
 }
 
-// The chunks, with `|` between them.
+/// Returns the chunks, with `|` between them.
 pub fn chunks(alloc: Global, text: &IoBufs) -> Result<Vec<u8>, AllocError> {
     let mut shown = Vec::new(alloc);
     for i in 0..text.chunk_count() {
@@ -61,7 +61,7 @@ pub fn chunks(alloc: Global, text: &IoBufs) -> Result<Vec<u8>, AllocError> {
     Ok(shown)
 }
 
-// Whether these are the chunks.
+/// Tells whether these are the chunks.
 pub fn shows(text: &IoBufs, chunks: &[&[u8]]) -> bool {
     if text.chunk_count() != chunks.len() {
         return false;

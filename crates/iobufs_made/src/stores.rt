@@ -84,7 +84,7 @@ fn drained(mut view: IoBuf) -> IoBuf {
     view
 }
 
-// A view, and the other handle of its storage.
+/// Returns a view, and the other handle of its storage.
 pub fn stored(
     alloc: Global,
     kind: Store,
@@ -131,7 +131,7 @@ pub const ORIGINS: [Origin; 7] = [
     Origin::BytesMut,
 ];
 
-// Both halves of a block that holds the bytes twice.
+/// Returns both halves of a block that holds the bytes twice.
 pub fn block(alloc: Global, bytes: &[u8]) -> Result<(BytesMut, BytesMut), BufError> {
     let mut both = BytesMut::copy_from_slice(alloc, bytes)?;
     both.extend_from_slice(bytes)?;
@@ -154,7 +154,7 @@ pub fn stored_part(alloc: Global, origin: Origin, bytes: &[u8]) -> Result<IoBufM
     }
 }
 
-// The bytes in chunks of so many.
+/// Cuts the bytes into chunks of `len` bytes.
 pub fn cut(alloc: Global, bytes: &'static [u8], len: usize) -> Result<Vec<IoBuf>, BufError> {
     let count = bytes.len().checked_div(len).unwrap_or(0);
     let mut views = Vec::with_capacity(alloc, count)?;
@@ -167,7 +167,7 @@ pub fn cut(alloc: Global, bytes: &'static [u8], len: usize) -> Result<Vec<IoBuf>
     Ok(views)
 }
 
-// The chunks, each in storage of its own.
+/// Concatenates the chunks, each in storage of its own.
 pub fn text(
     alloc: Global,
     kind: Store,
@@ -185,7 +185,7 @@ pub fn text(
     Ok(text)
 }
 
-// The chunks as writable buffers.
+/// Makes writable buffers of the chunks.
 pub fn parts_of(
     alloc: Global,
     bytes: &'static [u8],

@@ -8,8 +8,7 @@ use std::alloc::Global;
 use std::test::Fail;
 
 // A name, a first chunk unless it is empty, chunks, and how often they come after it; an offset in these bytes, the
-// index of
-// its chunk, its offset in that, and how many ends are probed.
+// index of its chunk, its offset in that, and how many ends are probed.
 type Case = (
     &'static str,
     &'static [u8],
@@ -28,8 +27,7 @@ const CASES: [Case; 7] = rows! {
     "one chunk", b"", &[b"ab"], 1, 1, 0, 1, 0;
     "four chunks after a prepended one", b"xyz", &[b"ab", b"cd", b"ef", b"gh"], 1, 5, 2, 0, 2;
     // From 0 to 999 the halves end at 499, 249, 124, 62, 31, 15, 7, 3, 1 and 0, or begin at 500, 750, 875, 938, 969,
-    // 985,
-    // 993, 997 and 999.
+    // 985, 993, 997 and 999.
     "the first of a thousand chunks", b"", &[b"a"], 1000, 0, 0, 0, 10;
     "the last of a thousand chunks", b"", &[b"a"], 1000, 999, 999, 0, 9;
 };

@@ -27,7 +27,10 @@ struct Case {
 
 macro_rules! cases {
     ($($name:expr, $pieces:expr, $spare:expr, $before:expr, $skip:expr, $n:expr, $wanted:expr, $left:expr;)+) => {
-        [$(Case { name: $name, pieces: $pieces, spare: $spare, before: $before, skip: $skip, n: $n, wanted: $wanted, left: $left }),+]
+        [$(Case {
+            name: $name, pieces: $pieces, spare: $spare, before: $before, skip: $skip, n: $n, wanted: $wanted,
+            left: $left
+        }),+]
     };
 }
 

@@ -225,6 +225,7 @@ impl<
 
     ghost form = { form_as (λ p. (p.0, (p.1, (p.2, (p.3, (p.4, p.5))))))
         (λ cfg. (cfg.0, (cfg.1, (cfg.2, (cfg.3, (cfg.4, cfg.5))))))
-        (λ p. A.written p.0 ++ (B.written p.1 ++ (C.written p.2 ++ (D.written p.3 ++ (E.written p.4 ++ F.written p.5))))) (λ p. refl)
+        (λ p. A.written p.0 ++ (B.written p.1 ++ (C.written p.2
+        ++ (D.written p.3 ++ (E.written p.4 ++ F.written p.5))))) (λ p. refl)
         (pair_form A.form (pair_form B.form (pair_form C.form (pair_form D.form (pair_form E.form F.form))))) };
 }

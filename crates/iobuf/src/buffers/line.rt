@@ -148,8 +148,7 @@ fn acting_named(word: &[u8]) -> Option<Verb>
 }
 
 // The command of a line with this verb, whose other words are these. Each shape is read by a function of its own, since
-// a
-// function fills the locals of all its arms with zeros.
+// a function fills the locals of all its arms with zeros.
 fn said(alloc: Global, verb: Verb, words: &mut Words<'_>) -> Result<Cmd, LineError>
     ensures ok { IfOk result (λ cmd. said_by verb words.old ≡ Some (plain cmd)) }
     ensures err { IfErr result (λ error. (error ≡ LineError.Memory) ⊎ (said_by verb words.old ≡ None)) }

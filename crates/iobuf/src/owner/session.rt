@@ -28,11 +28,11 @@ impl Setup {
 }
 
 /// Takes a step, or looks at what a question asks for, and writes the answer as a line. Where writing fails, a step is
-/// taken
-/// all the same. Before a step room is made for a block, a handle and a record, where it can be had.
+/// taken all the same. Before a step room is made for a block, a handle and a record, where it can be had.
 pub fn answer<W: Write>(machine: &mut Machine, ask: Ask, output: &mut W) -> io::Result<()>
     ensures { OnOk result (IfSome (W.contents output.old) (λ before.
-        (text : List ℕ) × Answers machine.old ask text machine.new × (W.contents output.new ≡ Some (before ++ with_line_end text)))) }
+        (text : List ℕ) × Answers machine.old ask text machine.new
+        × (W.contents output.new ≡ Some (before ++ with_line_end text)))) }
 {
     match ask {
         Ask::Take(step) => {

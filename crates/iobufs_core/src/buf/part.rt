@@ -265,8 +265,7 @@ impl IoBufMut {
     }
 
     /// Returns the bytes of three buffers in one, without spare capacity (own, for layers). They go to the storage of
-    /// the
-    /// first if they fill half of it or it has at most 4 KiB. Otherwise they are copied. Fails as `with_capacity`.
+    /// the first if they fill half of it or it has at most 4 KiB. Otherwise they are copied. Fails as `with_capacity`.
     #[tactic(auto, using(crate::proofs::LayoutLaws::bad_layout_one))]
     pub fn coalesced(
         alloc: Global,

@@ -47,7 +47,8 @@ impl Write for Bytes {
         ensures left { OnErr result ((buf.new ≡ buf.old)
             ⊎ B.done buf.old (put_item (spell (length self.now)) ∷ []) buf.new) }
         ensures cause { IfErr result
-            (λ error. (error ≡ Error.Memory) ⊎ ((error ≡ Error.TooLong) × (B.pushable buf.old < items_pushed (bytes_items self.now)))) }
+            (λ error. (error ≡ Error.Memory) ⊎ ((error ≡ Error.TooLong)
+            × (B.pushable buf.old < items_pushed (bytes_items self.now)))) }
         ensures no_push { items_pushed (bytes_items self.now) ≡ 0 → IsOk result }
     {
         if self.is_empty() {

@@ -79,7 +79,15 @@ pub both-keeps : (g : Tables) (b : Block) → Keeps g (both g b)
 both-keeps g b =
     let one = grown-keeps g b in
     let two = recorded-keeps (grown g b) 1 (length g.blocks) in
-    record { align_bits = refl; tail_bits = refl; size_bits = refl; longer = one.longer; blocks = one.blocks; with' = one.with'; records = two.records }
+    record {
+      align_bits = refl;
+      tail_bits = refl;
+      size_bits = refl;
+      longer = one.longer;
+      blocks = one.blocks;
+      with' = one.with';
+      records = two.records;
+    }
 
 -- a new block at a good place, a record of it that counts one, and a handle by it inside the block, writable only where that
 -- is native, keep the machine sound, where there were fewer than 2^32 of each

@@ -22,8 +22,7 @@ fn block_with(blocks: &[Block], base: u64) -> Option<usize>
 
 impl Machine {
     /// Makes the machine's invariant known. The prover knows it of a borrowed machine only once a field of it is read,
-    /// so this
-    /// reads one; the call is gone when the program is built.
+    /// so this reads one; the call is gone when the program is built.
     pub(super) fn known(&self)
         ensures sound { IsSound self.now.state }
         ensures blocks { length self.now.state.tables.blocks ≤ self.now.room.blocks }

@@ -96,8 +96,7 @@ impl Machine {
     }
 
     /// A writable handle with a descriptor becomes a view: its tail goes into the word where it fits, else a record
-    /// takes
-    /// the word's place.
+    /// takes the word's place.
     fn freeze_described(
         &mut self,
         h: usize,

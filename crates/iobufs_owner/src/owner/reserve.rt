@@ -79,7 +79,8 @@ fn grown<T: Copy, B: Copy>(
     ensures enough_beside { IfOk result (λ larger. larger.1 ≡ None
         → length table.now.items + more ≤ vec_capacity beside.now) }
     ensures full { OnErr result (
-        (vec_capacity table.now < length table.now.items + more) ⊎ (vec_capacity beside.now < length table.now.items + more)) }
+        (vec_capacity table.now < length table.now.items + more)
+        ⊎ (vec_capacity beside.now < length table.now.items + more)) }
 {
     let entries = table.len().checked_add(more).ok_or(AllocError)?;
     Ok((larger(table, entries)?, larger(beside, entries)?))

@@ -120,8 +120,7 @@ pub enum Call {
     /// Tests whether a handle alone holds its block.
     IsUnique(usize),
     /// Turns the record of a view that alone holds a native block into a descriptor, if the block fits a word; the
-    /// record
-    /// is freed.
+    /// record is freed.
     Demote(usize),
     /// Clones a view, in several steps if it has a block.
     Clone(usize),

@@ -97,7 +97,8 @@ pub(super) fn lent(kinds: &[Kind], slots: &[Slot], src: usize, dst: usize) -> Re
 /// A view that keeps its name, and a free destination.
 pub(super) fn lent_view(slots: &[Slot], src: usize, dst: usize) -> Result<&IoBuf, Refusal>
     ensures causes { MatchResult result
-        (λ view. (first_cause (lent_causes (Kind.View ∷ []) slots.now src dst []) ≡ None) × (slot_named slots.now src ≡ Slot.View view.now))
+        (λ view. (first_cause (lent_causes (Kind.View ∷ []) slots.now src dst []) ≡ None)
+        × (slot_named slots.now src ≡ Slot.View view.now))
         (λ refusal. first_cause (lent_causes (Kind.View ∷ []) slots.now src dst []) ≡ Some refusal) }
     ensures known { IfErr result (λ refusal. refusal ≢ Refusal.Memory) }
 {

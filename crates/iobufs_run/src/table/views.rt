@@ -22,7 +22,8 @@ fn split_slot(alloc: Global, slot: &mut Slot, at: usize) -> Result<Slot, Refusal
     ensures ok { IfOk result (λ front. (front ≡ slot_split_front slot.old at) × (slot.new ≡ slot_rest slot.old at)) }
     ensures unchanged { OnErr result (slot.new ≡ slot.old) }
     ensures err { IfErr result (λ refusal.
-        ((refusal ≡ Refusal.Memory) × (nat_eq at 0 ≡ false) × (nat_eq at (readable_bytes slot.old) ≡ false) × (is_static_view slot.old ≡ false))
+        ((refusal ≡ Refusal.Memory) × (nat_eq at 0 ≡ false) × (nat_eq at (readable_bytes slot.old) ≡ false)
+        × (is_static_view slot.old ≡ false))
         ⊎ (is_one_of (Kind.View ∷ Kind.Text ∷ []) slot.old ≡ false)) }
 {
     match slot {

@@ -64,10 +64,8 @@ fn left_behind(alloc: Global, most: usize, before: usize) -> Result<Option<usize
 }
 
 // How many chunks are sent at a time, how many writes come before the one that is refused, and what is left. Each chunk
-// is
-// a write. If the first write of a batch is refused, `send` returns the error; if another one is, the writer returns
-// how
-// many bytes it took, and the next batch begins there. No chunk at a time is an error.
+// is a write. If the first write of a batch is refused, `send` returns the error; if another one is, the writer returns
+// how many bytes it took, and the next batch begins there. No chunk at a time is an error.
 const BATCHES: [(usize, usize, Option<usize>); 10] = [
     (1, 0, Some(6)),
     (1, 1, Some(4)),

@@ -179,13 +179,17 @@ struct Reading {
 
 macro_rules! readings {
     ($($name:expr, $prefix:expr, $bytes:expr, $is_broken:expr, $most:expr, $bodies:expr, $ending:expr;)+) => {
-        [$(Reading { name: $name, prefix: $prefix, bytes: $bytes, is_broken: $is_broken, most: $most, bodies: $bodies, ending: $ending }),+]
+        [$(Reading {
+            name: $name, prefix: $prefix, bytes: $bytes, is_broken: $is_broken, most: $most, bodies: $bodies,
+            ending: $ending
+        }),+]
     };
 }
 
 const READINGS: [Reading; 18] = readings! {
     "whole frames", VARINT, FRAMES, false, &[1, 2, 3, 4, 7, 100], b"abc||hello|", Ending::End;
-    "frames that are held before the reader fails", VARINT, FRAMES, true, &[100], b"abc||hello|", Ending::Io(ErrorKind::ConnectionReset);
+    "frames that are held before the reader fails", VARINT, FRAMES, true, &[100],
+        b"abc||hello|", Ending::Io(ErrorKind::ConnectionReset);
     "the end inside a body", VARINT, b"\x05hell", false, &[3], b"", Ending::Cut;
     "the end after a length", VARINT, b"\x05", false, &[3], b"", Ending::Cut;
     "the end inside a length", VARINT, b"\x88", false, &[3], b"", Ending::Cut;
@@ -449,10 +453,12 @@ struct Echo {
 }
 
 macro_rules! echoes {
-    ($($name:expr, $prefix:expr, $bytes:expr, $is_broken:expr, $more:expr, $other:expr, $fails_at:expr, $first:expr, $calls:expr, $rest:expr,
-        $last:expr, $all:expr;)+) => {
-        [$(Echo { name: $name, prefix: $prefix, bytes: $bytes, is_broken: $is_broken, more: $more, other: $other, fails_at: $fails_at,
-            first: $first, calls: $calls, rest: $rest, last: $last, all: $all }),+]
+    ($($name:expr, $prefix:expr, $bytes:expr, $is_broken:expr, $more:expr, $other:expr, $fails_at:expr, $first:expr,
+        $calls:expr, $rest:expr, $last:expr, $all:expr;)+) => {
+        [$(Echo {
+            name: $name, prefix: $prefix, bytes: $bytes, is_broken: $is_broken, more: $more, other: $other,
+            fails_at: $fails_at, first: $first, calls: $calls, rest: $rest, last: $last, all: $all
+        }),+]
     };
 }
 
@@ -463,24 +469,36 @@ const RESET: Ending = Ending::Io(ErrorKind::ConnectionReset);
 const ALL: &[u8] = b"\x03abc|\0|\x05hello|";
 
 const ECHOES: [Echo; 20] = echoes! {
-    "no failure", VARINT, FRAMES, false, b"", VARINT, usize::MAX, Ending::End, ALL, 0, Ending::End, b"\x03abc|\0|\x05hello|";
-    "the end inside a body", VARINT, b"\x01a\x02b", false, b"", VARINT, usize::MAX, Ending::Cut, b"\x01a|", 0, Ending::Cut, b"\x01a|";
+    "no failure", VARINT, FRAMES, false, b"", VARINT, usize::MAX, Ending::End, ALL, 0, Ending::End, ALL;
+    "the end inside a body", VARINT, b"\x01a\x02b", false, b"",
+        VARINT, usize::MAX, Ending::Cut, b"\x01a|", 0, Ending::Cut, b"\x01a|";
     "u16, big", BIG_16, FRAMES_BIG_16, false, b"",
         BIG_16, usize::MAX, Ending::End, b"\0\x03abc|\0\0|\0\x05hello|", 0, Ending::End, b"\0\x03abc|\0\0|\0\x05hello|";
-    "u16, big, to varints", BIG_16, FRAMES_BIG_16, false, b"", VARINT, usize::MAX, Ending::End, ALL, 0, Ending::End, b"\x03abc|\0|\x05hello|";
+    "u16, big, to varints", BIG_16, FRAMES_BIG_16, false, b"",
+        VARINT, usize::MAX, Ending::End, ALL, 0, Ending::End, ALL;
     "u16, little", LITTLE_16, FRAMES_LITTLE_16, false, b"",
-        LITTLE_16, usize::MAX, Ending::End, b"\x03\0abc|\0\0|\x05\0hello|", 0, Ending::End, b"\x03\0abc|\0\0|\x05\0hello|";
-    "u16, little, to varints", LITTLE_16, FRAMES_LITTLE_16, false, b"", VARINT, usize::MAX, Ending::End, ALL, 0, Ending::End, b"\x03abc|\0|\x05hello|";
+        LITTLE_16, usize::MAX, Ending::End, b"\x03\0abc|\0\0|\x05\0hello|", 0,
+        Ending::End, b"\x03\0abc|\0\0|\x05\0hello|";
+    "u16, little, to varints", LITTLE_16, FRAMES_LITTLE_16, false, b"",
+        VARINT, usize::MAX, Ending::End, ALL, 0, Ending::End, ALL;
     "u32, big", BIG_32, FRAMES_BIG_32, false, b"",
-        BIG_32, usize::MAX, Ending::End, b"\0\0\0\x03abc|\0\0\0\0|\0\0\0\x05hello|", 0, Ending::End, b"\0\0\0\x03abc|\0\0\0\0|\0\0\0\x05hello|";
-    "u32, big, to varints", BIG_32, FRAMES_BIG_32, false, b"", VARINT, usize::MAX, Ending::End, ALL, 0, Ending::End, b"\x03abc|\0|\x05hello|";
+        BIG_32, usize::MAX, Ending::End, b"\0\0\0\x03abc|\0\0\0\0|\0\0\0\x05hello|", 0,
+        Ending::End, b"\0\0\0\x03abc|\0\0\0\0|\0\0\0\x05hello|";
+    "u32, big, to varints", BIG_32, FRAMES_BIG_32, false, b"",
+        VARINT, usize::MAX, Ending::End, ALL, 0, Ending::End, ALL;
     "u32, little", LITTLE_32, FRAMES_LITTLE_32, false, b"",
-        LITTLE_32, usize::MAX, Ending::End, b"\x03\0\0\0abc|\0\0\0\0|\x05\0\0\0hello|", 0, Ending::End, b"\x03\0\0\0abc|\0\0\0\0|\x05\0\0\0hello|";
-    "u32, little, to varints", LITTLE_32, FRAMES_LITTLE_32, false, b"", VARINT, usize::MAX, Ending::End, ALL, 0, Ending::End, b"\x03abc|\0|\x05hello|";
-    "two frames a read", VARINT, b"\0\0\0\0", false, b"", VARINT, usize::MAX, Ending::End, b"\0\0|\0\0|", 0, Ending::End, b"\0\0|\0\0|";
-    "a read between two frames", VARINT, b"\x03abc", true, b"\0\x05hello", VARINT, usize::MAX, RESET, b"\x03abc|", 0, Ending::End, b"\x03abc|\0|\x05hello|";
-    "a read inside a body", VARINT, b"\x03abc\0\x05he", true, b"llo", VARINT, usize::MAX, RESET, b"\x03abc|\0|", 0, Ending::End, b"\x03abc|\0|\x05hello|";
-    "a read inside a length", BIG_16, b"\0\0\0", true, b"\x03abc", BIG_16, usize::MAX, RESET, b"\0\0|", 0, Ending::End, b"\0\0|\0\x03abc|";
+        LITTLE_32, usize::MAX, Ending::End, b"\x03\0\0\0abc|\0\0\0\0|\x05\0\0\0hello|", 0,
+        Ending::End, b"\x03\0\0\0abc|\0\0\0\0|\x05\0\0\0hello|";
+    "u32, little, to varints", LITTLE_32, FRAMES_LITTLE_32, false, b"",
+        VARINT, usize::MAX, Ending::End, ALL, 0, Ending::End, ALL;
+    "two frames a read", VARINT, b"\0\0\0\0", false, b"",
+        VARINT, usize::MAX, Ending::End, b"\0\0|\0\0|", 0, Ending::End, b"\0\0|\0\0|";
+    "a read between two frames", VARINT, b"\x03abc", true, b"\0\x05hello",
+        VARINT, usize::MAX, RESET, b"\x03abc|", 0, Ending::End, ALL;
+    "a read inside a body", VARINT, b"\x03abc\0\x05he", true, b"llo",
+        VARINT, usize::MAX, RESET, b"\x03abc|\0|", 0, Ending::End, ALL;
+    "a read inside a length", BIG_16, b"\0\0\0", true, b"\x03abc",
+        BIG_16, usize::MAX, RESET, b"\0\0|", 0, Ending::End, b"\0\0|\0\x03abc|";
     "the write of a length", VARINT, FRAMES, false, b"", VARINT, 0, PIPE, b"", 4, Ending::End, ALL;
     "the write of a body", VARINT, FRAMES, false, b"", VARINT, 1, PIPE, b"\x03", 3, Ending::End, ALL;
     "the first flush", VARINT, FRAMES, false, b"", VARINT, 2, PIPE, b"\x03abc", 0, Ending::End, ALL;

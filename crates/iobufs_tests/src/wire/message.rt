@@ -42,7 +42,8 @@ impl EncodeSize for Message {
     ghost joins_items = { λ m. joins_two (put_item (to_be_bytes w32 m.number) ∷ [])
         ((put_item (m.kind ∷ []) ∷ []) ++ view_items m.body)
         (to_be_bytes w32 m.number) ((m.kind ∷ []) ++ view_written m.body) (joins-put (to_be_bytes w32 m.number))
-        (joins_two (put_item (m.kind ∷ []) ∷ []) (view_items m.body) (m.kind ∷ []) (view_written m.body) (joins-put (m.kind ∷ [])) (joins-view m.body)) };
+        (joins_two (put_item (m.kind ∷ []) ∷ []) (view_items m.body) (m.kind ∷ []) (view_written m.body)
+        (joins-put (m.kind ∷ [])) (joins-view m.body)) };
 }
 
 impl Write for Message {

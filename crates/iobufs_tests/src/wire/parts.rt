@@ -1,6 +1,5 @@
 // Types that are read by their parts, out of a chunk for each byte: a letter of several fields, and a request of one
-// kind
-// or another.
+// kind or another.
 use crate::same::assert_same;
 use crate::wire::chunks::{ANY, UP_TO_9, assert_chunks, concatenated, copied_bytewise, view};
 use crate::wire::encode::assert_written;

@@ -37,7 +37,8 @@ returns-in-Ok-false-read_line-clause-serves g c =
     c.read_line-in-loop-number.ensures.kept
 
 pub returns-in-Err-read_line-clause-serves : goal.returns-in-Err-read_line-clause-serves
-returns-in-Err-read_line-clause-serves g c = not_read machine _ _ _ _ _ _ _ _ c.loop-number.invariant c.in-Err-read_line.ensures.err c.read_line-in-loop-number.ensures.kept
+returns-in-Err-read_line-clause-serves g c = not_read machine _ _ _ _ _ _ _ _ c.loop-number.invariant c.in-Err-read_line.ensures.err
+    c.read_line-in-loop-number.ensures.kept
 
 pub returns-in-Err-NoCommand-answer-clause-serves : goal.returns-in-Err-NoCommand-answer-clause-serves
 returns-in-Err-NoCommand-answer-clause-serves g c =

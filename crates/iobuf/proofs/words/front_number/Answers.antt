@@ -22,7 +22,8 @@ returns-in_default-clause-err c = (
 pub loop-place-preserved : goal.loop-place-preserved
 loop-place-preserved c =
     let more = c.in-Some.ensures in
-    one_more c.args.line.now c.loop-place.place c.loop-place.n c.in-Some.more c.loop-place-test.true c.loop-place.invariant more.0 more.1 more.2
+    one_more c.args.line.now c.loop-place.place c.loop-place.n c.in-Some.more c.loop-place-test.true c.loop-place.invariant more.0 more.1
+    more.2
 
 pub returns-clause-ok : goal.returns-clause-ok
 returns-clause-ok c =

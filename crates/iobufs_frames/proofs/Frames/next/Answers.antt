@@ -33,7 +33,8 @@ returns-in-Err-clause-next c =
     let fits : l.len + l.value ≤ length c.args.self.now.rest.bytes = omega (arith, size, within, c.len.ensures.value) in
     elim (less 0 l.value) [
       | inl some ↦ (
-        wanted-with c.args.self.now.prefix c.args.range.now c.args.self.now.rest l.value l.len at c.in_ok-frame_size.ensures.inside long fits some,
+        wanted-with c.args.self.now.prefix c.args.range.now c.args.self.now.rest l.value l.len at c.in_ok-frame_size.ensures.inside long
+            fits some,
         ap (λ (t : MarkedText). t.bytes) c.in-Err.ensures.unchanged,
       )
       | inr none ↦ absurd (false≢true (c.in-Err.ensures.nothing (omega (arith, none))))

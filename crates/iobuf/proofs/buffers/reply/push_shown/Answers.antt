@@ -15,5 +15,6 @@ returns c =
     let all = pieces ∙ ap (λ (slot : Slot). string_bytes c.push_str.new.self
     ++ flat_map (held_text c.in-Some.kind) (pieces_of slot)) held in
     let low : length (string_bytes c.push_held.new.text) < 2 ^ 63 = omega (arith, text.ok.0, text.ok.1, text.small) in
-    on_ok c.push_end.result (λ last. is_printed c.args.table.now c.args.target c.in-Some.kind text _ _ _ _ c.in-Ok.ensures.ok.0 is named all last low)
+    on_ok c.push_end.result (λ last. is_printed c.args.table.now c.args.target c.in-Some.kind text _ _ _ _ c.in-Ok.ensures.ok.0 is named all
+    last low)
     c.push_end.ensures

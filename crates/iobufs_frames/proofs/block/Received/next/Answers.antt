@@ -12,7 +12,8 @@ returns-in-Ok-clause-next c =
     let seen = rw c.in-Some.is at c.in_ok-found.ensures.found in
     let (size, within) = rw c.in-Some-2.is at c.in_ok-size.ensures.whole in
     let same : c.self.inside.block.items ≡ c.args.self.now.bytes = ap (λ (r : ReceivedBytes). r.bytes) c.self.view_is in
-    view_taken c.args.self.now.prefix c.args.range.now c.args.self.now.bytes c.take.new.self.bytes l.value l.len c.in-Some-2.size c.in-Ok.body seen
+    view_taken c.args.self.now.prefix c.args.range.now c.args.self.now.bytes c.take.new.self.bytes l.value l.len c.in-Some-2.size
+    c.in-Ok.body seen
     c.in_ok-size.ensures.inside size (omega (arith, within, c.len.ensures.value, ap (λ (w : List ℕ). length w) same))
     (c.in-Ok.ensures.body ∙ ap (λ w. view_of_bytes (drop l.len (take c.in-Some-2.size w))) same)
     (c.in-Ok.ensures.rest ∙ ap (drop c.in-Some-2.size) same)

@@ -17,4 +17,5 @@ invariant_of-self c =
     let e2 = rw (← c.self.view_is) at c.block-block.ensures in
     still c.self.invariant refl (length-set _ _ _) c.push_reserved.ensures.capacity c.push_reserved-2.ensures.capacity refl refl
     (rw (c.push_reserved.ensures.items, c.push_reserved-2.ensures.items, e2, e1)
-    (sound-freed_counted _ c.args.h c.args.x c.args.r c.args.rest c.self.invariant.sound t.at t.free t.kind_is c.requires.word c.requires.rest))
+    (sound-freed_counted _ c.args.h c.args.x c.args.r c.args.rest c.self.invariant.sound t.at t.free t.kind_is c.requires.word
+    c.requires.rest))

@@ -6,7 +6,8 @@ use Rattle.iobufs_owner.proofs.owner.Machine.run_into.Goals as goal
 pub loop-step-preserved : goal.loop-step-preserved
 loop-step-preserved c = record {
   runs = rw c.push_reserved.ensures.items
-      (growing-step _ c.args.self.now c.args.steps.now c.loop-step.step-index c.loop-step.replies.items c.loop-step.self c.step.result c.step.new.self
+      (growing-step _ c.args.self.now c.args.steps.now c.loop-step.step-index c.loop-step.replies.items c.loop-step.self c.step.result
+      c.step.new.self
       c.loop-step-test.true c.loop-step.invariant.runs (record {
         moves = c.step.ensures.moves;
         room = c.step.ensures.room;

@@ -9,7 +9,8 @@ invariant_of-self c =
     let r : c.len-r.result ≡ length c.self.inside.records.items = omega (arith, c.len-r.ensures) in
     record {
       sound = rw (c.push_reserved-2.ensures.items, c.part.ensures, c.part-2.ensures, c.push_reserved.ensures.items, r)
-          (sound-split_described _ c.args.h c.args.word c.owned-block.result c.args.at c.args.x c.self.invariant.sound t c.requires.word o c.requires.within
+          (sound-split_described _ c.args.h c.args.word c.owned-block.result c.args.at c.args.x c.self.invariant.sound t c.requires.word o
+          c.requires.within
           (omega (arith, c.in_ok-room_for_handle.ensures.few, c.in_ok-room_for_record.ensures.few))
           (omega (arith, c.in_ok-room_for_handle.ensures.few, c.in_ok-room_for_record.ensures.few)));
       block_room = c.self.invariant.block_room;

@@ -18,4 +18,5 @@ refused_costs (Ok x) xs old new memory is = tt
 refused_costs (Err refusal) xs old new memory is = (memory, subst (MayFree xs old) (sym is) (MayFree-all xs old))
 
 pub returns-clause-err : goal.returns-clause-err
-returns-clause-err c = refused_costs c.strung.result c.args.sources.now c.args.slots.now c.take_row.new.slots c.strung.ensures.memory c.in_ok-row.ensures.freed
+returns-clause-err c = refused_costs c.strung.result c.args.sources.now c.args.slots.now c.take_row.new.slots c.strung.ensures.memory
+    c.in_ok-row.ensures.freed

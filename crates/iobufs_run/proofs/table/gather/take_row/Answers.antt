@@ -7,7 +7,8 @@ use Rattle.iobufs_run.proofs.table.gather.take_row.Goals as goal
 pub returns-in_err-part-clause-err : goal.returns-in_err-part-clause-err
 returns-in_err-part-clause-err c =
     let inv = c.loop-src.invariant in
-    let read = source_read is_part c.args.slots.now c.loop-src.slots c.args.sources.now c.loop-src.src-index c.index-slots-src.result refl c.requires.once
+    let read = source_read is_part c.args.slots.now c.loop-src.slots c.args.sources.now c.loop-src.src-index c.index-slots-src.result refl
+    c.requires.once
     c.requires.parts inv.freed c.loop-src-test.true in
     let not_part = c.in_err-part.ensures.err.1 in
     let part = ap is_part read.0 ∙ read.1 in

@@ -10,7 +10,8 @@ use Rattle.iobufs_run.proofs.table.gather.take_views.Goals as goal
 pub returns-in_err-piece-clause-err : goal.returns-in_err-piece-clause-err
 returns-in_err-piece-clause-err c =
     let inv = c.loop-src.invariant in
-    let read = source_read is_view c.args.slots.now c.loop-src.slots c.args.sources.now c.loop-src.src-index c.index-slots-src.result refl c.requires.once
+    let read = source_read is_view c.args.slots.now c.loop-src.slots c.args.sources.now c.loop-src.src-index c.index-slots-src.result refl
+    c.requires.once
     c.requires.views inv.freed c.loop-src-test.true in
     let not_view = c.in_err-piece.ensures.err.1 in
     let view = ap is_view read.0 ∙ read.1 in
