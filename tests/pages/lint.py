@@ -23,12 +23,12 @@ RULES = [
 ]
 # Words that a sentence may have, and words of README and of all pages, without what is generated.
 LONGEST, MOST = 40, {"README.md": 1100, "all": 15000}
+SCRIPTS = "bindings costs docs program quick refuse rust trusted try_mutants *.py pages/*.py ../bench/compare"
 # How many columns a line may have, and how many have more.
 LONG = {
     "crates/*/src/**/*.rt": (120, 37),
     "crates/*/[ps]*/**/*.antt": (140, 37),
-    **{f"tests/{name}": (120, 0) for name in "bindings costs docs program quick refuse rust trusted try_mutants".split()},
-    **dict.fromkeys(("tests/*.py", "tests/pages/*.py", "bench/compare"), (120, 0)),
+    **{f"tests/{name}": (120, 0) for name in SCRIPTS.split()},
 }
 USE = re.compile(r"\s*(?:pub |ghost |unfoldable )*use ")  # pub use Rattle.std.specs.Prelude.{List}
 PART = re.compile(r"\n(?=\s*[-*\d]|\s*\n|\||#)")  # Before an item, an empty line, a row or a heading: \n- One
