@@ -1,7 +1,8 @@
-"""What the scripts of this folder share: they count checks and false samples, compare what a program does, build the
-libraries that are loaded before one, and call the kit's compiler."""
+"""What the scripts of this folder share: they count checks and false samples, run commands and other scripts, read the
+stored sessions, build the libraries that are loaded before a program, and call the kit's compiler."""
+import argparse
 import os
-import select
+import re
 import shutil
 import subprocess
 from functools import cache
@@ -10,7 +11,14 @@ from pathlib import Path
 HERE = Path(__file__).resolve().parent
 TOP = HERE.parent
 CRATES = TOP / "crates"
-SECONDS = 120
+# Tools that may be missing: IOBUFS_WITHOUT="cargo valgrind".
+WITHOUT = os.environ.get("IOBUFS_WITHOUT", "").split()
+COUNTS = re.compile(r"(\d+) passed, (\d+) failed")  # The last line of a script: 12 passed, 0 failed
+
+
+def arguments(doc):
+    """A reader of a script's arguments, whose help is the script's docstring."""
+    return argparse.ArgumentParser(description=doc, formatter_class=argparse.RawDescriptionHelpFormatter)
 
 
 class Checks:
@@ -35,10 +43,45 @@ class Checks:
         found = [] if len(faults) == number else [f"{len(faults)} faults are found: {faults}"]
         self.say(f"{name} that is false", found)
 
+    def run(self, name, words, wanted=None, limit=1800, **how):
+        """Runs a command, which has to end with status 0 and, if this is given, to print just it. Returns what it
+        prints, or nothing if that was wrong."""
+        how |= {"capture_output": True, "text": True, "errors": "replace", "timeout": limit}
+        done = subprocess.run([str(it) for it in words], **how)
+        good = done.returncode == 0 and wanted in (None, done.stdout)
+        self.say(name, [] if good else [f"status {done.returncode}\n{done.stdout[-2000:]}{done.stderr[-2000:]}"])
+        return done.stdout if good else None
+
+    def has(self, name, is_there=None):
+        """Whether a tool is there, and isn't left out. One that is missing counts as failed, unless IOBUFS_WITHOUT
+        names it."""
+        is_there = shutil.which(name) is not None if is_there is None else is_there
+        if not is_there:
+            print(f"no {name}: what needs it is left out", flush=True)
+            if name not in WITHOUT:
+                self.say(f"{name} (IOBUFS_WITHOUT={name} leaves it out)", ["missing"])
+        return is_there and name not in WITHOUT
+
+    def add(self, name, words):
+        """Runs another script, adds the numbers of its last line, and counts the run as a check too."""
+        done = subprocess.run([str(it) for it in words], stdout=subprocess.PIPE, text=True)
+        print(done.stdout, end="", flush=True)
+        found = COUNTS.fullmatch((done.stdout.strip().splitlines() or [""])[-1])
+        passed, failed = map(int, found.groups()) if found else (0, 1)
+        self.passed, self.failed = self.passed + passed, self.failed + failed
+        self.say(name, [f"status {done.returncode}, {failed} failed"] * (done.returncode != 0 or failed > 0))
+
     def end(self):
-        """Prints how many passed and failed, and answers the status."""
+        """Prints how many passed and failed, and returns the status."""
         print(f"{self.passed} passed, {self.failed} failed")
         return self.failed > 0
+
+
+@cache
+def commit():
+    """The checksum of the commit, by which cases are drawn."""
+    words = ["git", "rev-parse", "HEAD"]
+    return subprocess.run(words, cwd=HERE, capture_output=True, text=True, check=True).stdout.strip()
 
 
 @cache
@@ -76,13 +119,22 @@ def rattle(action, crate, *more):
 
 
 def sessions_of(path):
-    """The sessions of a file, between blank lines: the lines of each, without comments."""
+    """The sessions of a file, between blank lines: each line with its reply, if it has one, without comments."""
     lines = "\n".join(it for it in path.read_text().splitlines() if not it.startswith("#"))
-    return [it.strip().splitlines() for it in lines.split("\n\n") if it.strip()]
+    blocks = (block.strip().splitlines() for block in lines.split("\n\n"))
+    return [[tuple(line.partition(" -> ")[::2]) for line in block] for block in blocks if block]
 
 
-def faults(got, wanted, names=("printed", "message", "status")):
-    return [f"{name} {str(a)[:80]}, not {str(b)[:80]}" for name, a, b in zip(names, got, wanted) if a != b]
+def stored_sessions():
+    """The stored sessions: the name, the half of the program, and each line with its reply."""
+    for path in sorted([*HERE.glob("rows/*"), *HERE.glob("sessions/*")]):
+        if path.name != "machines.owner":  # It has no replies: tests/refuse compares a run of it with another.
+            for number, lines in enumerate(sessions_of(path), 1):
+                yield f"{path.name}, session {number}", path.suffix[1:], lines
+
+
+def as_text(lines):
+    return "".join(f"{line}\n" for line in lines)
 
 
 def library(name, room):
@@ -90,14 +142,3 @@ def library(name, room):
     made = Path(room) / f"{name}.so"
     subprocess.run(["cc", "-O2", "-shared", "-fPIC", "-o", made, HERE / f"{name}.c"], check=True)
     return made
-
-
-def answer(stream, length):
-    """What a program writes until it has written so many bytes, or nothing comes for ten seconds."""
-    got = bytearray()
-    while len(got) < length and select.select([stream], [], [], 10)[0]:
-        piece = os.read(stream.fileno(), 1 << 16)
-        if not piece:
-            break
-        got += piece
-    return bytes(got)

@@ -5,7 +5,7 @@ from collections import Counter
 from functools import cache
 
 from common import kit
-from pages.tree import BLOCK, CRATES, ROOT, prose, sources
+from pages.tree import BLOCK, CRATES, ROOT, prose, sources, texts
 
 KIT_CRATES = ("alloc", "bytes", "clap", "core", "std", "std_alloc", "std_collections", "std_io", "thiserror")
 WORD = re.compile(r"[A-Za-z_][A-Za-z0-9_\-]*")  # A word of a source: IoBufs, split_to, must-fail
@@ -23,9 +23,9 @@ MADE = re.compile(r"(^|/)out(/|$)|\b[A-Z]{3,}\b|my_codec|^must-fail/$")
 def words():
     """Each word that a name may be made of."""
     found = set((ROOT / "tests/known_names").read_text().split())
-    for crate in [*CRATES.iterdir(), *(kit() / "rattle" / name for name in KIT_CRATES)]:
-        for file in sources(crate):
-            found.update(WORD.findall(file.read_text()))
+    of_kit = (file.read_text() for name in KIT_CRATES for file in sources(kit() / "rattle" / name))
+    for text in [*texts().values(), *of_kit]:
+        found.update(WORD.findall(text))
     others = [*(ROOT / "tests").rglob("*"), *(ROOT / "bindings").rglob("*"), *(ROOT / "bench").iterdir()]
     for file in [*others, *CRATES.glob("*/stdout"), ROOT / "crates.txt", ROOT / "HANDLES"]:
         is_ours = file.name == "docs" or "pages" in file.relative_to(ROOT).parts
@@ -104,8 +104,8 @@ DEFINED = re.compile(r"^(?:abbrev pub|unfoldable pub|pub record|pub data) ([^\s:
 def naming():
     """In how many files of the crates each word occurs, lines of comment aside."""
     found = Counter()
-    for file in (file for crate in CRATES.iterdir() for file in sources(crate)):
-        lines = (it for it in file.read_text().splitlines() if not it.lstrip().startswith(("--", "//")))
+    for text in texts().values():
+        lines = (it for it in text.splitlines() if not it.lstrip().startswith(("--", "//")))
         found.update(set(WORD.findall("\n".join(lines))))
     return found
 
@@ -121,19 +121,14 @@ def faults_of_head(text, files):
 
 
 def faults_of_heads():
-    for file in sorted(CRATES.glob("*/specs/**/*.antt")):
-        where = file.relative_to(ROOT)
-        yield from (f"{fault} at the head of {where}" for fault in faults_of_head(file.read_text(), naming()))
+    for path, text in texts().items():
+        if "/specs/" in path:
+            yield from (f"{fault} at the head of crates/{path}" for fault in faults_of_head(text, naming()))
 
 
 LEMMA = re.compile(r"^(?:pub )?([^\s:()]+) :")  # A lemma: pub rest_of_all : (b : Bytes) → ..
 # An import of lemmas: use Rattle.iobufs.proofs.Text.{rest_of_all, ends as ends_of}
 CITES = re.compile(r"\buse Rattle\.(\w+)\.proofs\.([\w.+\-]+)\.\{([^}]*)\}")
-
-
-def proof_sources():
-    files = (file for crate in sorted(CRATES.iterdir()) for file in sources(crate))
-    return {str(file.relative_to(CRATES)): file.read_text() for file in files}
 
 
 def cited(files):
@@ -226,10 +221,9 @@ def meanings():
     """Each definition of specs/ and each public type with the files that declare it. A type and the definition that is
     its value may share a name in a crate."""
     found = {}
-    for file in (file for crate in sorted(CRATES.iterdir()) for file in sources(crate)):
-        path = str(file.relative_to(CRATES))
-        form = PUBLIC if file.suffix == ".rt" else DECLARED if "/specs/" in path else None
-        for name in {"".join(it) for it in form.findall(file.read_text())} if form else ():
+    for path, text in texts().items():
+        form = PUBLIC if path.endswith(".rt") else DECLARED if "/specs/" in path else None
+        for name in {"".join(it) for it in form.findall(text)} if form else ():
             found.setdefault(name, []).append(path)
     return found
 

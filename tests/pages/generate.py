@@ -2,6 +2,7 @@
 import re
 from functools import cache
 
+import svg
 from pages.tree import CRATES, MARKED, ROOT, STOP, by_layer, declarations, direct, layer, purpose, uses
 from pages.trusted import contracts
 
@@ -26,52 +27,13 @@ API = {
     "Machine": "iobufs_owner/src/owner.rt iobufs_owner/src/owner/reserve.rt",
     "Table": "iobufs_run/src/table.rt",
 }
-# What a caller knows parts of a condition by, and each part as in the example after it.
-SHORT = [
-    (r"\1", r"IsTrue \((.*)\)$"),  # IsTrue (range_fits lo hi len)
-    ("remaining", r"length \((?:Self\.)?text self\.(?:old|now)\)"),  # length (text self.old)
-    ("len", r"length self\.(?:old|now)\.bytes|text_len self\.(?:old|now)"),  # text_len self.old
-    ("len", r"length \(parts_filled self\.old\)"),  # length (parts_filled self.old)
-    ("capacity", r"parts?_capacity self\.old"),  # part_capacity self.old
-    ("remaining_mut", r"(?:B\.)?room (?:self|buf)\.old"),  # B.room buf.old
-    ("encode_size", r"length \((?:Self\.)?written self\.now\)"),  # length (written self.now)
-    ("encode_inline_size", r"items_inline \(Self\.items self\.now\)"),  # items_inline (Self.items self.now)
-    ("src.remaining", r"length \(B\.text src\)"),  # length (B.text src)
-    (r"\1.len", r"length (\w+)\.(?:now|old)"),  # length dst.old
-    ("rest.is_empty", r"self\.old\.rest\.bytes ≡ \[\]"),  # self.old.rest.bytes ≡ []
-    ("fits(n)", r"n < prefix_limit self"),  # n < prefix_limit self
-    ("space", r"self\.old\.space"),  # self.old.space
-    ("no probe was counted before", r"E\.probed ends\.old ≡ 0"),  # E.probed ends.old ≡ 0
-    ("the iterator can go on", r"I\.can_next \w+"),  # I.can_next items
-    ("the iterator ends", r"IsFinite \(.*\)$"),  # IsFinite (I.remaining items)
-    (" == ", r" ≡ "),  # at ≡ 0
-    ("<=", r"≤"),  # n ≤ len
-]
-WORDED = {words for words, _ in SHORT if words.count(" ") > 1}
-# When a call cannot fail, and the condition of a clause that ends in `IsOk result`, as in the example after it.
-SURE = [
-    ("empty target", r"text_len self\.old ≡ 0|length self\.old\.bytes ≡ 0"),  # text_len self.old ≡ 0
-    ("nothing to do", r"(?:length .*|text_len .*|n|at|len|max|capacity|threads) ≡ 0"),  # n ≡ 0
-    ("nothing to do", r"range\.start ≡ range\.end|start_place lo .*|building_items self ≡ \[\]"),  # start_place lo ..
-    ("at the end", r"(?:at|n) ≡ (?:length self\.old\.bytes|text_len self\.old)"),  # at ≡ text_len self.old
-    ("at the first chunk's end", r"(?:at|len) ≡ length \(first_chunk .*"),  # at ≡ length (first_chunk chunks)
-    ("at the last chunk's start", r"\(front : .*"),  # (front : List (List ℕ)) (chunk : List ℕ) → ..
-    ("`len` or fewer bytes", r"text_len self\.old ≤ len .*"),  # text_len self.old ≤ len → ..
-    ("static", r"self(?:\.\w+)?\.mark ≡ static_mark"),  # self.old.mark ≡ static_mark
-    ("a `Bytes`", r"self(?:\.\w+)?\.mark ≡ bytes_mark"),  # self.mark ≡ bytes_mark
-    # at ≤ length (first_chunk chunks) → (taken_view self.old 0 at).mark ≡ static_mark
-    ("in a static first chunk", r"(?:at|len) ≤ length \(first_chunk .* static_mark"),
-    ("in one static chunk", r"\(taken_view self\.now [^→]*static_mark"),  # (taken_view self.now 0 n).mark ≡ static_mark
-    # n ≤ .. → (taken_view (marked self.old) 0 n).mark ≡ static_mark → T.is_free (taken_view (marked self.old) 0 n)
-    ("in one static chunk †", r"(?:n ≤ [^→]*→ )?\(taken_view .*static_mark.*T\.is_free.*|HasStaticView .*"),
-    # n ≡ length (first_chunk (Self.pieces self.old)) → T.is_free (taken_view (marked self.old) 0 n)
-    ("the whole first chunk †", r".*length \(first_chunk .*T\.is_free.*"),
-    ("freely taken †", r"is_free view(?:\.old)?"),  # is_free view
-    ("nothing pushed", r"items_pushed .* ≡ 0"),  # items_pushed (Self.items self.now) ≡ 0
-    ("no inline bytes", r"items_inline .* ≡ 0"),  # items_inline (building_items self) ≡ 0
-    ("single", r"length self ≡ 1|is_single self ≡ true"),  # is_single self ≡ true
-    ("the space is there", r"length self\.old\.state\.tables.*"),  # length self.old.state.tables.blocks + blocks ≤ ..
-]
+COLUMNS = re.compile(r" {2,}")  # Between two columns: len  text_len self\.old
+# The rows of conditions: what a caller knows a part of a condition by, and when a call cannot fail.
+SHORT, SURE = (
+    [COLUMNS.split(line) for line in block.splitlines() if not line.startswith("#")]
+    for block in (ROOT / "tests/pages/conditions").read_text().split("\n\n")[1:]
+)
+WORDED = {words for words, *_ in SHORT if words.count(" ") > 1}
 # A clause on what a call returns: ensures rest { n ≤ length self.old → IsOk result }
 ENSURES = re.compile(r"ensures (\w+) \{(.*?) \}(?=\s*(?:ensures|\{|;|$))", re.S)
 REQUIRES = re.compile(r"requires(?: \w+)? \{(.*?)\}\n", re.S)  # requires { at ≤ length self.old }
@@ -88,9 +50,14 @@ TYPE = re.compile(r"((?:^///[^\n]*\n)+)(?:^#\[[^\n]*\n)*^pub (?:struct|enum|trai
 
 def short(condition):
     """A condition in code font, or in words if a row of SHORT has it whole."""
-    for words, pattern in SHORT:
+    for words, pattern, _ in SHORT:
         condition = re.sub(pattern, words, condition)
     return condition if condition in WORDED else f"`{condition}`"
+
+
+def faults_of_conditions(rows):
+    """Rows of conditions whose example doesn't fit."""
+    return [f"`{example}` doesn't fit {pattern}" for _, pattern, example in rows if not re.search(pattern, example)]
 
 
 def sure(declared):
@@ -100,7 +67,7 @@ def sure(declared):
         body = " ".join(body.split())
         if body.endswith("IsOk result"):
             condition = body.removesuffix("IsOk result").rstrip().removesuffix("→").rstrip()
-            words = next((words for words, pattern in SURE if re.fullmatch(pattern, condition)), f"`{condition}`")
+            words = next((words for words, pattern, _ in SURE if re.fullmatch(pattern, condition)), f"`{condition}`")
             found.append(words if condition else "ever")
     return ", ".join(dict.fromkeys(found))
 
@@ -236,24 +203,20 @@ def places(step, high):
     return at, width, height
 
 
-def picture():
+def crates_picture():
     """The crates as boxes, each a line below its lowest user."""
     (at, width, height), wide, tall = places(170, 74), 150, 30
-    yield f'<svg xmlns="http://www.w3.org/2000/svg" viewBox="0 0 {width} {height}" width="{width}" height="{height}"'
-    yield ' font-family="sans-serif" font-size="12" text-anchor="middle">\n'
-    yield "<title>The crates: each uses those that its lines lead down to</title>\n"
-    yield f'<rect width="{width}" height="{height}" fill="#fff"/>\n'
+    out = [svg.element("title", "The crates: each uses those that its lines lead down to")]
     for (x, y), (u, v) in ((at[crate], at[dep]) for crate in shown() for dep in direct(crate)):
-        ends = f'x1="{x:.0f}" y1="{y + tall / 2:.0f}" x2="{u:.0f}" y2="{v - tall / 2:.0f}"'
-        yield f'<line {ends} stroke="#999"/>\n'
+        out.append(svg.element("line", x1=x, y1=y + tall / 2, x2=u, y2=v - tall / 2, stroke="#999"))
     for crate in shown():
         x, y = at[crate]
         is_program = (CRATES / crate / "src/main.rt").exists()
         fill = "#fbe3cf" if is_program else "#e3e8f8" if crate.endswith("_c") else "#dff0ec"
-        box = f'x="{x - wide / 2:.0f}" y="{y - tall / 2:.0f}" width="{wide}" height="{tall}"'
-        yield f'<rect {box} rx="5" fill="{fill}" stroke="#555"/>\n'
-        yield f'<text x="{x:.0f}" y="{y + 4:.0f}">{crate}</text>\n'
-    yield "</svg>\n"
+        box = {"x": x - wide / 2, "y": y - tall / 2, "width": wide, "height": tall}
+        out.append(svg.element("rect", **box, rx=5, fill=fill, stroke="#555"))
+        out.append(svg.text(crate, x=x, y=y + 4))
+    return svg.picture(width, height, out, font_size=12, text_anchor="middle")
 
 
 # ---- specifications and code

@@ -1,7 +1,7 @@
 """The rules of style that a script can see, each with its ceiling: hits in a thousand words of prose, or in all."""
 import re
 
-from pages.tree import CRATES, MARKED, PAGES, ROOT, prose, sources
+from pages.tree import MARKED, PAGES, ROOT, prose, texts
 
 
 def any_of(words):
@@ -23,12 +23,12 @@ RULES = [
 ]
 # Words that a sentence may have, and words of README and of all pages, without what is generated.
 LONGEST, MOST = 40, {"README.md": 1100, "all": 15000}
+SCRIPTS = "bindings costs docs program quick refuse rust trusted try_mutants *.py pages/*.py ../bench/compare"
 # How many columns a line may have, and how many have more.
 LONG = {
     "crates/*/src/**/*.rt": (120, 37),
     "crates/*/[ps]*/**/*.antt": (140, 37),
-    "tests/[bdpqt]*": (120, 4),
-    "tests/pages/*.py": (120, 0),
+    **{f"tests/{name}": (120, 0) for name in SCRIPTS.split()},
 }
 USE = re.compile(r"\s*(?:pub |ghost |unfoldable )*use ")  # pub use Rattle.std.specs.Prelude.{List}
 PART = re.compile(r"\n(?=\s*[-*\d]|\s*\n|\||#)")  # Before an item, an empty line, a row or a heading: \n- One
@@ -81,9 +81,8 @@ def faults_of_width():
 
 def faults_of_comments():
     """Comments that begin with a word that refers to the one before, and words of place in them all."""
-    texts = {file: file.read_text() for crate in sorted(CRATES.iterdir()) for file in sources(crate)}
-    first = [f"{file.relative_to(CRATES)}: {m[1]}" for file, text in texts.items() for m in FIRST.finditer(text)]
-    said = "\n".join(line for text in texts.values() for line in COMMENT.findall(text))
+    first = [f"{path}: {m[1]}" for path, text in texts().items() for m in FIRST.finditer(text)]
+    said = "\n".join(line for text in texts().values() for line in COMMENT.findall(text))
     hits = len(PLACE.findall(said))
     if len(first) > FIRST_MOST:
         yield f"{len(first)} comments begin so, as {first[0]}"

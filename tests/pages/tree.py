@@ -33,6 +33,13 @@ def sources(folder):
 
 
 @cache
+def texts():
+    """The sources, specs and proofs of all crates, by their paths below crates/."""
+    files = (file for crate in sorted(CRATES.iterdir()) for file in sources(crate))
+    return {str(file.relative_to(CRATES)): file.read_text() for file in files}
+
+
+@cache
 def uses():
     """Each crate with the crates of this repository that it uses."""
     used = common.uses()

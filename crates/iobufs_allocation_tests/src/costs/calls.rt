@@ -145,8 +145,7 @@ impl Costed {
 }
 
 // The arguments of a call: a range from the start, zeros, its bytes, how they are cut, and they as writable buffers, or
-// as
-// two halves of a block.
+// as two halves of a block.
 #[derive(Drop)]
 pub struct Args {
     lo: usize,

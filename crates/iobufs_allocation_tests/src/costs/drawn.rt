@@ -65,9 +65,8 @@ impl Draw {
         })
     }
 
-    // Two buffers of one number of chunks, with the same offsets in 64ths. A chunk has at least 64 bytes, so that an
-    // offset
-    // within one is within one of the other too.
+    // Two buffers of one number of chunks, with equal offsets in 64ths. A chunk has at least 64 bytes, so that an
+    // offset within one is within one of the other too.
     fn pair(&mut self, alloc: Global) -> Result<(Shape, Shape), BufError> {
         let count = self.size(65536);
         let most = MOST.checked_div(count).unwrap_or(0);

@@ -1,6 +1,5 @@
 // How much memory is held for bytes that are received, and for buffers that are coalesced. A test prints the most bytes
-// that it held since it last did;
-// `tests/costs` compares the memory that was allocated and not freed meanwhile.
+// that it held since its last line. `tests/costs` compares the memory that was allocated and not freed meanwhile.
 use crate::costs::calls::ANY;
 use crate::word::mark;
 use iobufs_core::buf::IoBuf;
@@ -13,8 +12,7 @@ use std::process::Abort;
 use std::test::Fail;
 
 // A name, how many frames there are, how many bytes a body has, how many bytes come at a time at most, and whether
-// bodies
-// are kept.
+// bodies are kept.
 type Case = (&'static str, usize, usize, usize, bool);
 
 const CASES: [Case; 7] = rows! {
