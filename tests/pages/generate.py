@@ -1,6 +1,7 @@
 """The generated parts of the pages: `PARTS[NAME]` makes what is between `<!-- generated: NAME -->` and its end."""
 import re
 from functools import cache
+from statistics import mean
 
 import svg
 from pages.tree import CRATES, MARKED, ROOT, STOP, by_layer, declarations, direct, layer, purpose, uses
@@ -183,23 +184,35 @@ def crates():
 
 @cache
 def shown():
-    """The crates of the picture: tests and workloads are left out."""
-    return [crate for crate in by_layer() if not crate.endswith(("_tests", "_bench"))]
+    """The crates of the picture: what serves the tests and workloads alone is left out."""
+    return [crate for crate in by_layer() if not crate.endswith(("_tests", "_made", "_bench"))]
 
 
+@cache
 def line(crate):
     """The line of a crate's box, counted from the lowest: the one below its lowest user."""
     return min((line(user) for user in shown() if crate in direct(user)), default=layer(crate) + 1) - 1
 
 
+def corners(crate, dep):
+    """Where the line from a crate to one that it uses turns: between the boxes of each line on its way."""
+    return [crate, *((crate, dep, n) for n in range(line(crate) - 1, line(dep), -1)), dep]
+
+
 def places(step, high):
-    """The centre of each crate's box, and the width and the height of the picture."""
-    lines = [[crate for crate in shown() if line(crate) == n] for n in range(layer(shown()[-1]) + 1)]
+    """The place of each box and corner, each near those that it leads to, and the size of the picture."""
+    lines = [[crate for crate in shown() if line(crate) == n] for n in range(1 + max(map(line, shown())))]
+    leads = {}
+    for ways in (corners(crate, dep) for crate in shown() for dep in direct(crate)):
+        for corner, below in zip(ways, ways[1:]):
+            leads.setdefault(corner, []).append(below)
+        for corner in ways[1:-1]:
+            lines[corner[2]].append(corner)
     width, height, at = step * max(map(len, lines)) + 20, high * len(lines) + 20, {}
-    near = lambda crate: sum(at[dep][0] for dep in direct(crate)) / max(1, len(direct(crate))) or width
-    for n, crates_of_line in enumerate(lines):
-        for i, crate in enumerate(sorted(crates_of_line, key=near) if n else crates_of_line):
-            at[crate] = (width / 2 + step * (i - (len(crates_of_line) - 1) / 2), height - 40 - high * n)
+    for n, row in enumerate(lines):
+        row.sort(key=lambda it: (mean(at[below][0] for below in leads[it]) if n else 0, str(it)))
+        for i, it in enumerate(row):
+            at[it] = (width / 2 + step * (i - (len(row) - 1) / 2), height - 40 - high * n)
     return at, width, height
 
 
@@ -207,8 +220,9 @@ def crates_picture():
     """The crates as boxes, each a line below its lowest user."""
     (at, width, height), wide, tall = places(170, 74), 150, 30
     out = [svg.element("title", "The crates: each uses those that its lines lead down to")]
-    for (x, y), (u, v) in ((at[crate], at[dep]) for crate in shown() for dep in direct(crate)):
-        out.append(svg.element("line", x1=x, y1=y + tall / 2, x2=u, y2=v - tall / 2, stroke="#999"))
+    for ways in (corners(crate, dep) for crate in shown() for dep in direct(crate)):
+        ends = [f"{at[it][0]:.0f},{at[it][1] + side * tall / 2:.0f}" for it in ways for side in (-1, 1)][1:-1]
+        out.append(svg.element("polyline", points=" ".join(ends), fill="none", stroke="#999"))
     for crate in shown():
         x, y = at[crate]
         is_program = (CRATES / crate / "src/main.rt").exists()
