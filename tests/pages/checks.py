@@ -190,6 +190,7 @@ def imports(folder):
             passed_on["::".join([*filter(None, [name]), path.split("::")[-1]])] = path
 
     def module_of(path):
+        """The module in which an item is, also by way of those that pass it on."""
         seen = set()
         while path in passed_on and path not in seen:
             seen.add(path)

@@ -125,6 +125,7 @@ def calls(files):
 
 
 def api():
+    """The tables of the public calls, by subject."""
     for title, files in API.items():
         rows, plain = calls(files)
         links = ", ".join(f"[{it.rsplit('/', 1)[1]}](../crates/{it})" for it in files.split())
@@ -159,6 +160,7 @@ FUNCTION = re.compile(r"\bfn \w+")  # fn len
 
 
 def matrix():
+    """A row for each crate: its size, its clauses, its mutants and its tests."""
     yield "|crate|layer|code lines|functions|`requires`|`ensures`|mutants|tests|\n|---|--:|--:|--:|--:|--:|--:|--:|"
     totals = [0] * 6
     for crate in by_layer():
