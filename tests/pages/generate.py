@@ -80,10 +80,12 @@ def errors(declared, comment):
         return "`None`"
     if "Result<" not in result:
         return ""
-    kinds = KIND.findall(comment + TOLD.sub("", declared))
     kind = ERROR.search(result)
-    said = ", ".join(dict.fromkeys(kinds)) if not kind or kind[1] == "Error" else f"`{kind[1]}`"
-    said = said or (f"`{kind[1]}`" if kind else "`io::Error`" if "io::Result" in result else "the buffer")
+    said = ", ".join(dict.fromkeys(KIND.findall(comment + TOLD.sub("", declared))))
+    if kind and (kind[1] != "Error" or not said):
+        said = f"`{kind[1]}`"
+    elif not said:
+        said = "`io::Error`" if "io::Result" in result else "the buffer"
     return said + (", handed back" if "Refused<" in result else "")
 
 
