@@ -116,14 +116,14 @@ def row(comment, name, declared):
 
 def calls(files):
     """The rows of these files, and the calls that have nothing to say in them."""
-    rows, plain = {}, []
+    rows, plain = [], []
     for comment, name, declared in (it for file in files.split() for it in declarations((CRATES / file).read_text())):
         made = row(comment, name, declared)
         if any(made[2:5]) or "alloc" in arguments(declared):
-            rows.setdefault(name if rows.get(name, made) == made else f"{name}{len(rows)}", made)
+            rows.append(made)
         else:
             plain.append(name)
-    return rows.values(), list(dict.fromkeys(plain))
+    return dict.fromkeys(rows), dict.fromkeys(plain)
 
 
 def api():
