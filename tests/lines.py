@@ -62,15 +62,16 @@ class Buffers(Session):
         super().__init__(program, "buf", seed)
         self.held = {}
 
-    def of(self, kinds):
+    def names_of(self, kinds):
         return [name for name, (kind, *_) in self.held.items() if kind in kinds.split()]
 
     def step(self):
+        """Asks a random command, and what the names in it hold then."""
         kinds, command = self.random.choice(CHOICES)
-        fits = self.of(kinds) if kinds and self.random.random() < 0.98 else [self.random.randrange(17)]
+        fits = self.names_of(kinds) if kinds and self.random.random() < 0.98 else [self.random.randrange(17)]
         if len(self.held) > 12:
             fits, command = list(self.held), "drop {name}"
-        if not fits or "{view}" in command and not self.of("view"):
+        if not fits or "{view}" in command and not self.names_of("view"):
             return
         line = command.format(**self.words(self.random.choice(fits)))
         if self.ask(line).startswith(("ok", "bytes", "refused N9")):
@@ -87,34 +88,38 @@ class Buffers(Session):
             self.held[name] = kind, sum(len(it[0]) for it in sizes) // 2, sum(int(it[2] or 0) for it in sizes)
 
     def words(self, name):
-        """What can stand in a command on this name."""
-        pick, (_, size, space) = self.random, self.held.get(name, ("", 0, 0))
-        free = pick.choice([it for it in range(16) if it not in self.held] if pick.random() < 0.98 else range(17))
-        views = self.some("view")
-        twice = views + views[:1] * (pick.random() < 0.03)
-        lo, hi = sorted((pick.randint(0, 26), pick.randint(0, 26)))
-        lower, upper = self.range(size)
-        numbers = {"lo": lo, "hi": hi, "lower": lower, "upper": upper, "byte": pick.randrange(256)}
-        numbers |= {"at": self.number(size), "space": self.number(space), "capacity": self.number(size + space)}
-        numbers |= {"size": pick.choice([0, 1, 7, 24, 24, 100, 5000]), "align": pick.choice([1, 1, 1, 2, 8, 64, 3, 0])}
-        names = {"name": name, "free": free, "onto": pick.choice([name, free]), "view": pick.choice(views or [0])}
-        names |= {"views": self.joined(" {}", twice), "buffers": self.joined(" {}", self.some("part"))}
-        sizes = {"fitting": self.number(min(space, 300)), "all": size + (pick.random() < 0.1)}
-        sizes |= {"bytes": pick.choice([0, 1, 20, 20, 300])}
-        items = self.joined(f" i{self.digits(pick.randint(1, 20))} p{{}}", views)
-        return {**numbers, **names, **{it: self.digits(n) for it, n in sizes.items()}, "items": items}
+        """What stands for each word in braces in a command on this name; most of it can be carried out."""
+        draw, (_, size, space) = self.random, self.held.get(name, ("", 0, 0))
+        is_rare = draw.random() < 0.03
+        free = draw.choice([it for it in range(17) if is_rare or it < 16 and it not in self.held])
+        views, (lower, upper), (lo, hi) = self.some("view"), self.range(size), sorted(draw.choices(range(27), k=2))
+        return {
+            "name": name,
+            "free": free,
+            "onto": draw.choice([name, free]),
+            "view": draw.choice(views or [0]),
+            "views": "".join(f" {it}" for it in views + views[:1] * is_rare),
+            "buffers": "".join(f" {it}" for it in self.some("part")),
+            "items": "".join(f" i{self.digits(draw.randint(1, 20))} p{it}" for it in views),
+            "size": draw.choice([0, 1, 7, 24, 24, 100, 5000]),
+            "align": draw.choice([1, 1, 1, 2, 8, 64, 3, 0]),
+            "at": self.number(size),
+            "space": self.number(space),
+            "capacity": self.number(size + space),
+            **{"lo": lo, "hi": hi, "lower": lower, "upper": upper},
+            "byte": draw.randrange(256),
+            "bytes": self.digits(draw.choice([0, 1, 20, 20, 300])),
+            "fitting": self.digits(self.number(min(space, 300))),
+            "all": self.digits(size + (draw.random() < 0.1)),
+        }
 
     def digits(self, n):
         return self.random.randbytes(n).hex() or "-"
 
     def some(self, kind):
         """Some names of a kind, in any order."""
-        names = self.of(kind)
+        names = self.names_of(kind)
         return self.random.sample(names, min(len(names), self.random.randint(0, 8)))
-
-    @staticmethod
-    def joined(form, names):
-        return "".join(form.format(name) for name in names)
 
 
 class Machine(Session):
@@ -126,6 +131,7 @@ class Machine(Session):
         self.ask(f"machine 3 {self.random.choice([3, 9, 1000])} {self.random.choice([32, 64])}")
 
     def step(self):
+        """Asks a random step of a thread, and what a handle or a record is then."""
         thread, (lo, hi) = self.random.randrange(3), self.range(16)
         words = self.random.choice(CALLS).format(n=hi, lo=lo, hi=hi).split()
         line = " ".join([words[0], str(self.random.choice(self.made[-12:] or [0])), *words[1:]])

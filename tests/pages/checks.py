@@ -168,15 +168,14 @@ def unfolded(tree):
 
 def paths_used(file, name, modules, passed_on=False):
     """The paths of a module's imports, from the crate's root on: of those that it passes on, or of the others."""
+    own = name.split("::") if name else []
+    begins = {"crate": [], "super": own[:-1], "self": own}
     trees = (tree for public, tree in USE.findall(file.read_text()) if bool(public) == passed_on)
-    for path in (path for tree in trees for path in unfolded(tree)):
-        first, *rest = path.split("::")
-        own = name.split("::") if name else []
-        above = {"crate": [], "super": own[:-1], "self": own}.get(first)
-        if above is None and "::".join([*own, first]) in modules:
-            above, rest = own, [first, *rest]
-        if above is not None:
-            yield "::".join([*above, *rest])
+    for first, *rest in (path.split("::") for tree in trees for path in unfolded(tree)):
+        if first in begins:
+            yield "::".join([*begins[first], *rest])
+        elif "::".join([*own, first]) in modules:
+            yield "::".join([*own, first, *rest])
 
 
 def imports(folder):
@@ -190,6 +189,7 @@ def imports(folder):
             passed_on["::".join([*filter(None, [name]), path.split("::")[-1]])] = path
 
     def module_of(path):
+        """The module in which an item is, also by way of those that pass it on."""
         seen = set()
         while path in passed_on and path not in seen:
             seen.add(path)

@@ -81,10 +81,12 @@ def errors(declared, comment):
         return "`None`"
     if "Result<" not in result:
         return ""
-    kinds = KIND.findall(comment + TOLD.sub("", declared))
     kind = ERROR.search(result)
-    said = ", ".join(dict.fromkeys(kinds)) if not kind or kind[1] == "Error" else f"`{kind[1]}`"
-    said = said or (f"`{kind[1]}`" if kind else "`io::Error`" if "io::Result" in result else "the buffer")
+    said = ", ".join(dict.fromkeys(KIND.findall(comment + TOLD.sub("", declared))))
+    if kind and (kind[1] != "Error" or not said):
+        said = f"`{kind[1]}`"
+    elif not said:
+        said = "`io::Error`" if "io::Result" in result else "the buffer"
     return said + (", handed back" if "Refused<" in result else "")
 
 
@@ -115,17 +117,18 @@ def row(comment, name, declared):
 
 def calls(files):
     """The rows of these files, and the calls that have nothing to say in them."""
-    rows, plain = {}, []
+    rows, plain = [], []
     for comment, name, declared in (it for file in files.split() for it in declarations((CRATES / file).read_text())):
         made = row(comment, name, declared)
         if any(made[2:5]) or "alloc" in arguments(declared):
-            rows.setdefault(name if rows.get(name, made) == made else f"{name}{len(rows)}", made)
+            rows.append(made)
         else:
             plain.append(name)
-    return rows.values(), list(dict.fromkeys(plain))
+    return dict.fromkeys(rows), dict.fromkeys(plain)
 
 
 def api():
+    """The tables of the public calls, by subject."""
     for title, files in API.items():
         rows, plain = calls(files)
         links = ", ".join(f"[{it.rsplit('/', 1)[1]}](../crates/{it})" for it in files.split())
@@ -160,6 +163,7 @@ FUNCTION = re.compile(r"\bfn \w+")  # fn len
 
 
 def matrix():
+    """A row for each crate: its size, its clauses, its mutants and its tests."""
     yield "|crate|layer|code lines|functions|`requires`|`ensures`|mutants|tests|\n|---|--:|--:|--:|--:|--:|--:|--:|"
     totals = [0] * 6
     for crate in by_layer():

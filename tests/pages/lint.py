@@ -60,6 +60,7 @@ def faults_of_style(text):
 
 
 def faults_of_length():
+    """Pages with more words than they may have. One that is near its limit is told."""
     pages = [page for page in PAGES if page.name != "RESULTS.md"]
     words = {str(page.relative_to(ROOT)): len(MARKED.sub("", page.read_text()).split()) for page in pages}
     words["all"] = sum(words.values())

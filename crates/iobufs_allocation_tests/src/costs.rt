@@ -1,7 +1,7 @@
 // Each call on each kind of storage, at each size. A test prints what the call was made on, and whether its value and
 // what it leaves are those of the model: a list of bytes, cut at multiples of a length.
 use crate::costs::calls::{Args, Costed, Counted, Given};
-use crate::costs::shape::{Place, Shape};
+use crate::costs::shape::{Place, Shape, Span};
 use crate::word::{Ended, mark};
 use iobufs::bufs::IoBufs;
 use iobufs::bufs_mut::IoBufsMut;
@@ -48,163 +48,186 @@ const CHUNKS: [(usize, usize); 22] = [
     (65537, 128),
 ];
 
-// Where a range begins and ends.
-type Span = (Place, Place);
+const ALL: Span = (Place::Start, Place::End);
 
-const ALL: Span = (0, 64);
+const NONE: Span = (Place::End, Place::End);
 
-const NONE: Span = (64, 64);
+const FRONT: Span = (Place::Start, Place::Lower);
 
-const FRONT: Span = (0, Shape::LOWER);
+const MIDDLE: Span = (Place::Lower, Place::Upper);
 
-const BACK: Span = (Shape::LOWER, 64);
+const BACK: Span = (Place::Lower, Place::End);
 
-const MIDDLE: Span = (Shape::LOWER, Shape::UPPER);
+const MOST: Span = (Place::Start, Place::Upper);
 
-const MOST: Span = (0, Shape::UPPER);
+const REST: Span = (Place::Upper, Place::End);
 
-const REST: Span = (Shape::UPPER, 64);
+const FIRST_HALF: Span = (Place::Start, Place::Part(32));
+
+const SECOND_HALF: Span = (Place::Part(32), Place::End);
+
+const FEW: Span = (Place::Start, Place::Part(10));
+
+const AFTER_FEW: Span = (Place::Part(10), Place::End);
+
+const FIRST: Span = (Place::Start, Place::FirstEnd);
+
+const AFTER_FIRST: Span = (Place::FirstEnd, Place::End);
+
+const AFTER: Span = (Place::End, Place::After);
+
+const ALL_AND_AFTER: Span = (Place::Start, Place::After);
+
+const BEFORE: Span = (Place::Before, Place::Start);
+
+const BEFORE_AND_ALL: Span = (Place::Before, Place::End);
 
 // A call, the bytes that it is given or gives, and those that it leaves.
-type Row = (Costed, Span, Span);
+#[derive(Clone, Copy)]
+struct Case {
+    call: Costed,
+    gives: Span,
+    leaves: Span,
+}
 
-const OF_VIEWS: [Row; 32] = [
-    (Costed::Clone, ALL, ALL),
-    (Costed::Slice, MIDDLE, ALL),
-    (Costed::Slice, REST, ALL),
-    (Costed::SplitTo, FRONT, BACK),
-    (Costed::SplitTo, MOST, REST),
-    (Costed::Advance, FRONT, BACK),
-    (Costed::CopyToSlice, FRONT, BACK),
-    (Costed::TryCopy, FRONT, BACK),
-    (Costed::CopyToBytes, FRONT, BACK),
-    (Costed::Chunks, ALL, ALL),
-    (Costed::TwoChunks, ALL, ALL),
-    (Costed::ManyChunks, ALL, ALL),
-    (Costed::TakeView, MIDDLE, REST),
-    (Costed::TakeBytes, MIDDLE, REST),
-    (Costed::TryTake, FRONT, BACK),
-    (Costed::TryTakeBytes, FRONT, BACK),
-    (Costed::PeekView, MIDDLE, ALL),
-    (Costed::PeekView, REST, ALL),
-    (Costed::PeekBytes, MIDDLE, ALL),
-    (Costed::PeekSlice, MIDDLE, ALL),
-    (Costed::TakeAllView, ALL, NONE),
-    (Costed::TakeAllBytes, ALL, NONE),
-    (Costed::ToVec, ALL, ALL),
-    (Costed::IntoBytes, ALL, NONE),
-    (Costed::IntoPart, ALL, NONE),
-    (Costed::Recover, ALL, NONE),
-    (Costed::FromView, ALL, NONE),
-    (Costed::ViewFromView, ALL, NONE),
-    (Costed::Encode, ALL, ALL),
-    (Costed::EncodeChunks, ALL, ALL),
-    (Costed::Read, ALL, ALL),
-    (Costed::CopyToBytes, ALL, NONE),
-];
+// The cases of a table, one a line.
+macro_rules! cases {
+    ($($call:ident: $gives:ident, leaves $leaves:ident;)+) => {
+        [$(Case { call: Costed::$call, gives: $gives, leaves: $leaves }),+]
+    };
+}
+
+const OF_VIEWS: [Case; 32] = cases! {
+    Clone: ALL, leaves ALL;
+    Slice: MIDDLE, leaves ALL;
+    Slice: REST, leaves ALL;
+    SplitTo: FRONT, leaves BACK;
+    SplitTo: MOST, leaves REST;
+    Advance: FRONT, leaves BACK;
+    CopyToSlice: FRONT, leaves BACK;
+    TryCopy: FRONT, leaves BACK;
+    CopyToBytes: FRONT, leaves BACK;
+    Chunks: ALL, leaves ALL;
+    TwoChunks: ALL, leaves ALL;
+    ManyChunks: ALL, leaves ALL;
+    TakeView: MIDDLE, leaves REST;
+    TakeBytes: MIDDLE, leaves REST;
+    TryTake: FRONT, leaves BACK;
+    TryTakeBytes: FRONT, leaves BACK;
+    PeekView: MIDDLE, leaves ALL;
+    PeekView: REST, leaves ALL;
+    PeekBytes: MIDDLE, leaves ALL;
+    PeekSlice: MIDDLE, leaves ALL;
+    TakeAllView: ALL, leaves NONE;
+    TakeAllBytes: ALL, leaves NONE;
+    ToVec: ALL, leaves ALL;
+    IntoBytes: ALL, leaves NONE;
+    IntoPart: ALL, leaves NONE;
+    Recover: ALL, leaves NONE;
+    FromView: ALL, leaves NONE;
+    ViewFromView: ALL, leaves NONE;
+    Encode: ALL, leaves ALL;
+    EncodeChunks: ALL, leaves ALL;
+    Read: ALL, leaves ALL;
+    CopyToBytes: ALL, leaves NONE;
+};
 
 // Calls that make a buffer of bytes that are given to them.
-const MAKERS: [Row; 18] = [
-    (Costed::Copy, ALL, ALL),
-    (Costed::CopyPart, ALL, ALL),
-    (Costed::OfList, ALL, ALL),
-    (Costed::PartOfList, ALL, ALL),
-    (Costed::TextOfList, ALL, ALL),
-    (Costed::OfBytes, ALL, ALL),
-    (Costed::BytesOfBytes, ALL, ALL),
-    (Costed::OfBytesMut, ALL, ALL),
-    (Costed::PartOfBytes, ALL, ALL),
-    (Costed::PartOfSharedBytes, ALL, ALL),
-    (Costed::PartOfBytesMut, ALL, ALL),
-    (Costed::OfSharedBytesMut, ALL, ALL),
-    (Costed::PartOfSharedBytesMut, ALL, ALL),
-    (Costed::Capacity, ALL, ALL),
-    (Costed::Aligned, ALL, ALL),
-    (Costed::Zeroed, ALL, ALL),
-    (Costed::ZeroedAligned, ALL, ALL),
-    (Costed::EncodeBytes, ALL, ALL),
-];
+const MAKERS: [Case; 18] = cases! {
+    Copy: ALL, leaves ALL;
+    CopyPart: ALL, leaves ALL;
+    OfList: ALL, leaves ALL;
+    PartOfList: ALL, leaves ALL;
+    TextOfList: ALL, leaves ALL;
+    OfBytes: ALL, leaves ALL;
+    BytesOfBytes: ALL, leaves ALL;
+    OfBytesMut: ALL, leaves ALL;
+    PartOfBytes: ALL, leaves ALL;
+    PartOfSharedBytes: ALL, leaves ALL;
+    PartOfBytesMut: ALL, leaves ALL;
+    OfSharedBytesMut: ALL, leaves ALL;
+    PartOfSharedBytesMut: ALL, leaves ALL;
+    Capacity: ALL, leaves ALL;
+    Aligned: ALL, leaves ALL;
+    Zeroed: ALL, leaves ALL;
+    ZeroedAligned: ALL, leaves ALL;
+    EncodeBytes: ALL, leaves ALL;
+};
 
-const OF_PARTS: [Row; 13] = [
-    (Costed::Advance, FRONT, BACK),
-    (Costed::CopyToSlice, FRONT, BACK),
-    (Costed::TryCopy, FRONT, BACK),
-    (Costed::CopyToBytes, FRONT, BACK),
-    (Costed::Chunks, ALL, ALL),
-    (Costed::TwoChunks, ALL, ALL),
-    (Costed::ManyChunks, ALL, ALL),
-    (Costed::Truncate, FRONT, FRONT),
-    (Costed::SetLen, FRONT, FRONT),
-    (Costed::Put, ALL, ALL),
-    (Costed::Freeze, ALL, NONE),
-    (Costed::IntoText, ALL, NONE),
-    (Costed::CopyToBytes, ALL, NONE),
-];
+const OF_PARTS: [Case; 13] = cases! {
+    Advance: FRONT, leaves BACK;
+    CopyToSlice: FRONT, leaves BACK;
+    TryCopy: FRONT, leaves BACK;
+    CopyToBytes: FRONT, leaves BACK;
+    Chunks: ALL, leaves ALL;
+    TwoChunks: ALL, leaves ALL;
+    ManyChunks: ALL, leaves ALL;
+    Truncate: FRONT, leaves FRONT;
+    SetLen: FRONT, leaves FRONT;
+    Put: ALL, leaves ALL;
+    Freeze: ALL, leaves NONE;
+    IntoText: ALL, leaves NONE;
+    CopyToBytes: ALL, leaves NONE;
+};
 
-const OF_TEXTS: [Row; 38] = [
-    (Costed::Clone, ALL, ALL),
-    (Costed::Slice, MIDDLE, ALL),
-    (Costed::Slice, ALL, ALL),
-    (Costed::Slice, REST, ALL),
-    (Costed::SplitTo, FRONT, BACK),
-    (Costed::SplitTo, (0, 32), (32, 64)),
-    (Costed::Truncate, FRONT, FRONT),
-    (Costed::Advance, FRONT, BACK),
-    (Costed::CopyToSlice, FRONT, BACK),
-    (Costed::TryCopy, FRONT, BACK),
-    (Costed::CopyToBytes, FRONT, BACK),
-    (Costed::Chunks, ALL, ALL),
-    (Costed::TwoChunks, ALL, ALL),
-    (Costed::ManyChunks, ALL, ALL),
-    (Costed::TakeView, MIDDLE, REST),
-    (Costed::TakeBytes, MIDDLE, REST),
-    (Costed::TryTake, FRONT, BACK),
-    (Costed::TryTakeBytes, FRONT, BACK),
-    (Costed::PeekView, MIDDLE, ALL),
-    (Costed::PeekView, REST, ALL),
-    (Costed::PeekBytes, MIDDLE, ALL),
-    (Costed::PeekSlice, MIDDLE, ALL),
-    (Costed::ToVec, ALL, ALL),
-    (Costed::Coalesce, ALL, NONE),
-    (Costed::Single, ALL, NONE),
-    (Costed::Join, ALL, ALL),
-    (Costed::Build, ALL, ALL),
-    (Costed::Framed, ALL, ALL),
-    (Costed::Fed, ALL, ALL),
-    (Costed::Received, ALL, ALL),
-    (Costed::Append, AFTER, (0, Shape::AFTER)),
-    (Costed::Prepend, BEFORE, (Shape::BEFORE, 64)),
-    (Costed::SplitTo, MOST, REST),
-    (Costed::SplitTo, FIRST, (Shape::FIRST, 64)),
-    (Costed::TakeView, FIRST, (Shape::FIRST, 64)),
-    (Costed::TakeView, (0, 10), (10, 64)),
-    (Costed::Slice, (0, 10), ALL),
-    (Costed::CopyToBytes, ALL, NONE),
-];
+const OF_TEXTS: [Case; 38] = cases! {
+    Clone: ALL, leaves ALL;
+    Slice: MIDDLE, leaves ALL;
+    Slice: ALL, leaves ALL;
+    Slice: REST, leaves ALL;
+    SplitTo: FRONT, leaves BACK;
+    SplitTo: FIRST_HALF, leaves SECOND_HALF;
+    Truncate: FRONT, leaves FRONT;
+    Advance: FRONT, leaves BACK;
+    CopyToSlice: FRONT, leaves BACK;
+    TryCopy: FRONT, leaves BACK;
+    CopyToBytes: FRONT, leaves BACK;
+    Chunks: ALL, leaves ALL;
+    TwoChunks: ALL, leaves ALL;
+    ManyChunks: ALL, leaves ALL;
+    TakeView: MIDDLE, leaves REST;
+    TakeBytes: MIDDLE, leaves REST;
+    TryTake: FRONT, leaves BACK;
+    TryTakeBytes: FRONT, leaves BACK;
+    PeekView: MIDDLE, leaves ALL;
+    PeekView: REST, leaves ALL;
+    PeekBytes: MIDDLE, leaves ALL;
+    PeekSlice: MIDDLE, leaves ALL;
+    ToVec: ALL, leaves ALL;
+    Coalesce: ALL, leaves NONE;
+    Single: ALL, leaves NONE;
+    Join: ALL, leaves ALL;
+    Build: ALL, leaves ALL;
+    Framed: ALL, leaves ALL;
+    Fed: ALL, leaves ALL;
+    Received: ALL, leaves ALL;
+    Append: AFTER, leaves ALL_AND_AFTER;
+    Prepend: BEFORE, leaves BEFORE_AND_ALL;
+    SplitTo: MOST, leaves REST;
+    SplitTo: FIRST, leaves AFTER_FIRST;
+    TakeView: FIRST, leaves AFTER_FIRST;
+    TakeView: FEW, leaves AFTER_FEW;
+    Slice: FEW, leaves ALL;
+    CopyToBytes: ALL, leaves NONE;
+};
 
-const AFTER: Span = (64, Shape::AFTER);
-
-const BEFORE: Span = (Shape::BEFORE, 0);
-
-const FIRST: Span = (0, Shape::FIRST);
-
-const OF_ROWS: [Row; 15] = [
-    (Costed::Advance, FRONT, BACK),
-    (Costed::CopyToSlice, FRONT, BACK),
-    (Costed::TryCopy, FRONT, BACK),
-    (Costed::CopyToBytes, FRONT, BACK),
-    (Costed::Chunks, ALL, ALL),
-    (Costed::TwoChunks, ALL, ALL),
-    (Costed::ManyChunks, ALL, ALL),
-    (Costed::SetLen, FRONT, FRONT),
-    (Costed::Put, ALL, ALL),
-    (Costed::Overwrite, ALL, ALL),
-    (Costed::Freeze, ALL, NONE),
-    (Costed::Coalesce, ALL, NONE),
-    (Costed::Single, ALL, NONE),
-    (Costed::FromParts, ALL, ALL),
-    (Costed::CopyToBytes, ALL, NONE),
-];
+const OF_ROWS: [Case; 15] = cases! {
+    Advance: FRONT, leaves BACK;
+    CopyToSlice: FRONT, leaves BACK;
+    TryCopy: FRONT, leaves BACK;
+    CopyToBytes: FRONT, leaves BACK;
+    Chunks: ALL, leaves ALL;
+    TwoChunks: ALL, leaves ALL;
+    ManyChunks: ALL, leaves ALL;
+    SetLen: FRONT, leaves FRONT;
+    Put: ALL, leaves ALL;
+    Overwrite: ALL, leaves ALL;
+    Freeze: ALL, leaves NONE;
+    Coalesce: ALL, leaves NONE;
+    Single: ALL, leaves NONE;
+    FromParts: ALL, leaves ALL;
+    CopyToBytes: ALL, leaves NONE;
+};
 
 // Whether what a call gives has the bytes of a range, cut as they are.
 fn is_cut(alloc: Global, given: &Given, shape: &Shape, span: Span) -> Result<bool, BufError> {
@@ -226,9 +249,9 @@ fn compared<B: Counted>(
     given: &Given,
     shape: &Shape,
     buf: &B,
-    row: &Row,
+    case: &Case,
 ) -> Result<Ended, BufError> {
-    if !is_cut(alloc, given, shape, row.1)? || !shape.holds(alloc, buf, row.2)? {
+    if !is_cut(alloc, given, shape, case.gives)? || !shape.holds(alloc, buf, case.leaves)? {
         return Ok(Ended::Wrong);
     }
     match given {
@@ -243,10 +266,10 @@ fn again<B: Counted>(
     alloc: Global,
     shape: &Shape,
     buf: &mut B,
-    row: &Row,
+    case: &Case,
 ) -> Result<Given, BufError> {
-    let mut args = Args::new(alloc, shape, row.0, row.1)?;
-    buf.make(alloc, row.0, &mut args)
+    let mut args = Args::new(alloc, shape, case.call, case.gives)?;
+    buf.make(alloc, case.call, &mut args)
 }
 
 // How a call ended whose allocation failed: what it left, and what it gives the second time.
@@ -254,19 +277,19 @@ fn repeated<B: Counted>(
     alloc: Global,
     shape: &Shape,
     buf: &mut B,
-    row: &Row,
+    case: &Case,
 ) -> Result<Ended, BufError> {
-    let is_gone = row.0.is_consuming();
+    let is_gone = case.call.is_consuming();
     if !shape.holds(alloc, buf, if is_gone { NONE } else { ALL })? {
         return Ok(Ended::Changed);
     }
     if is_gone {
         return Ok(Ended::Refused);
     }
-    let Ok(given) = again(alloc, shape, buf, row) else {
+    let Ok(given) = again(alloc, shape, buf, case) else {
         return Ok(Ended::Failed);
     };
-    match compared(alloc, &given, shape, buf, row)? {
+    match compared(alloc, &given, shape, buf, case)? {
         Ended::Wrong => Ok(Ended::Wrong),
         _ => Ok(Ended::Refused),
     }
@@ -278,16 +301,16 @@ fn count<B: Counted>(
     what: &impl Debug,
     shape: &Shape,
     mut buf: B,
-    row: &Row,
+    case: &Case,
 ) -> Result<(), BufError> {
-    let (call, alloc) = (row.0, rt.alloc());
-    let mut args = Args::new(alloc, shape, call, row.1)?;
+    let (call, alloc) = (case.call, rt.alloc());
+    let mut args = Args::new(alloc, shape, call, case.gives)?;
     mark(rt, "call");
     let answer = buf.make(alloc, call, &mut args);
     mark(rt, "done");
     let ended = match answer {
-        Ok(given) => compared(alloc, &given, shape, &buf, row)?,
-        Err(BufError::Memory) => repeated(alloc, shape, &mut buf, row)?,
+        Ok(given) => compared(alloc, &given, shape, &buf, case)?,
+        Err(BufError::Memory) => repeated(alloc, shape, &mut buf, case)?,
         Err(_) => Ended::Failed,
     };
     println!(rt; "{call:?} {what:?} {} {} {ended:?}", shape.count, shape.len).expect(rt, "printed");
@@ -307,9 +330,9 @@ fn count_views(
         count: count_left,
         ..*shape
     };
-    for row in &OF_VIEWS {
+    for case in &OF_VIEWS {
         let (view, other) = stored(rt.alloc(), kind, shape.bytes(ALL))?;
-        count(rt, &kind, &left, view, row)?;
+        count(rt, &kind, &left, view, case)?;
         let is_same = other.is_empty() || other.as_ref() == shape.bytes(ALL);
         assert!(rt; is_same, "another handle of {kind:?}");
     }
@@ -322,9 +345,9 @@ fn count_parts(
     shape: &Shape,
     origin: Origin,
 ) -> Result<(), BufError> {
-    for row in &OF_PARTS {
+    for case in &OF_PARTS {
         let part = stored_part(rt.alloc(), origin, shape.bytes(ALL))?;
-        count(rt, &origin, shape, part, row)?;
+        count(rt, &origin, shape, part, case)?;
     }
     Ok(())
 }
@@ -334,18 +357,18 @@ fn count_texts(
     shape: &Shape,
     kind: Store,
 ) -> Result<(), BufError> {
-    for row in &OF_TEXTS {
+    for case in &OF_TEXTS {
         let text = text(rt.alloc(), kind, shape.bytes(ALL), shape.len)?;
-        count(rt, &kind, shape, text, row)?;
+        count(rt, &kind, shape, text, case)?;
     }
     Ok(())
 }
 
 fn count_rows(rt: &(impl Print + Abort + AllocGlobal), shape: &Shape) -> Result<(), BufError> {
-    for row in &OF_ROWS {
+    for case in &OF_ROWS {
         let parts = parts_of(rt.alloc(), shape.bytes(ALL), shape.len)?;
         let parts = IoBufsMut::from_parts(rt.alloc(), parts.into_iter())?;
-        count(rt, &Origin::Full, shape, parts, row)?;
+        count(rt, &Origin::Full, shape, parts, case)?;
     }
     Ok(())
 }
@@ -365,9 +388,9 @@ fn views(rt: HostRuntime) -> Result<(), Fail> {
 fn makers(rt: HostRuntime) -> Result<(), Fail> {
     for len in LENGTHS {
         let shape = Shape::new(rt.alloc(), 1, len)?;
-        for row in &MAKERS {
+        for case in &MAKERS {
             let view = IoBuf::from(shape.bytes(ALL));
-            count(&rt, &Store::Static, &shape, view, row)?;
+            count(&rt, &Store::Static, &shape, view, case)?;
         }
     }
     Ok(())

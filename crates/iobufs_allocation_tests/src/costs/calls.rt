@@ -1,5 +1,5 @@
 // The calls.
-use crate::costs::shape::{Place, Shape};
+use crate::costs::shape::{Place, Shape, Span};
 use bytes::{Bytes, BytesMut};
 use iobufs::bufs::IoBufs;
 use iobufs::bufs_mut::IoBufsMut;
@@ -114,27 +114,6 @@ pub enum Costed {
 }
 
 impl Costed {
-    // Whether it is given as many zeros as it has bytes, to fill or to compare with.
-    fn is_filling(self) -> bool {
-        matches!(
-            self,
-            Costed::CopyToSlice
-                | Costed::TryCopy
-                | Costed::PeekSlice
-                | Costed::OfList
-                | Costed::PartOfList
-                | Costed::TextOfList
-                | Costed::OfBytes
-                | Costed::BytesOfBytes
-                | Costed::OfBytesMut
-                | Costed::PartOfBytes
-                | Costed::PartOfSharedBytes
-                | Costed::PartOfBytesMut
-                | Costed::Zeroed
-                | Costed::ZeroedAligned
-        )
-    }
-
     // Whether a buffer is gone if an allocation fails.
     pub fn is_consuming(self) -> bool {
         matches!(
@@ -158,14 +137,8 @@ pub struct Args {
 }
 
 impl Args {
-    pub fn new(
-        alloc: Global,
-        shape: &Shape,
-        call: Costed,
-        span: (Place, Place),
-    ) -> Result<Args, BufError> {
+    pub fn new(alloc: Global, shape: &Shape, call: Costed, span: Span) -> Result<Args, BufError> {
         let bytes = shape.bytes(span);
-        let room = if call.is_filling() { bytes.len() } else { 0 };
         let parts = match call {
             Costed::FromParts => parts_of(alloc, bytes, shape.len)?,
             _ => Vec::new(alloc),
@@ -175,9 +148,9 @@ impl Args {
             _ => None,
         };
         Ok(Args {
-            lo: shape.bytes((0, span.0)).len(),
-            hi: shape.bytes((0, span.1)).len(),
-            room: vec![in alloc; 0u8; room]?,
+            lo: shape.bytes((Place::Start, span.0)).len(),
+            hi: shape.bytes((Place::Start, span.1)).len(),
+            room: vec![in alloc; 0u8; bytes.len()]?,
             bytes,
             len: shape.len,
             parts,

@@ -2,8 +2,26 @@
 use iobufs_core::codec::{Buf, BufError};
 use std::alloc::Global;
 
-// An offset in 64ths of the number of bytes, or one that `Shape` names.
-pub type Place = usize;
+// A place in the bytes of a buffer.
+#[derive(Clone, Copy)]
+pub enum Place {
+    // One chunk before the first byte.
+    Before,
+    Start,
+    // So many 64ths of the bytes.
+    Part(usize),
+    // Two that the shape has.
+    Lower,
+    Upper,
+    // The end of the first chunk.
+    FirstEnd,
+    End,
+    // One chunk after the last byte.
+    After,
+}
+
+// From a place to another.
+pub type Span = (Place, Place);
 
 // A buffer of `count` chunks of `len` bytes each. It holds what follows the first `len` bytes of `all`, which has `len`
 // bytes more after it.
@@ -36,18 +54,6 @@ pub fn pattern(alloc: Global, len: usize) -> Result<&'static [u8], BufError> {
 }
 
 impl Shape {
-    pub const LOWER: Place = 21;
-
-    pub const UPPER: Place = 43;
-
-    // One chunk after, and one before.
-    pub const AFTER: Place = 65;
-
-    pub const BEFORE: Place = 66;
-
-    // Where the first chunk ends.
-    pub const FIRST: Place = 67;
-
     pub fn new(alloc: Global, count: usize, len: usize) -> Result<Shape, BufError> {
         let all = pattern(alloc, count.saturating_add(2).saturating_mul(len))?;
         Ok(Shape {
@@ -64,36 +70,31 @@ impl Shape {
         self.count.saturating_mul(self.len)
     }
 
-    // An offset into all bytes.
+    // An offset into `all`.
     fn offset(&self, place: Place) -> usize {
-        let part = |n: usize| (self.size().saturating_mul(n) >> 16).saturating_add(self.len);
+        let (size, len) = (self.size(), self.len);
+        let part = |n: usize| (size.saturating_mul(n) >> 16).saturating_add(len);
         match place {
-            Shape::BEFORE => 0,
-            Shape::FIRST => self.len.saturating_add(self.len),
-            Shape::AFTER => self
-                .size()
-                .saturating_add(self.len)
-                .saturating_add(self.len),
-            Shape::LOWER => part(self.lower),
-            Shape::UPPER => part(self.upper),
-            _ => part(place.saturating_mul(1024)),
+            Place::Before => 0,
+            Place::Start => len,
+            Place::Part(n) => part(n.saturating_mul(1024)),
+            Place::Lower => part(self.lower),
+            Place::Upper => part(self.upper),
+            Place::FirstEnd => len.saturating_add(len),
+            Place::End => size.saturating_add(len),
+            Place::After => size.saturating_add(len).saturating_add(len),
         }
     }
 
     // The bytes of a range.
-    pub fn bytes(&self, span: (Place, Place)) -> &'static [u8] {
+    pub fn bytes(&self, span: Span) -> &'static [u8] {
         self.all
             .get(self.offset(span.0)..self.offset(span.1))
             .unwrap_or_default()
     }
 
     // Whether a reader holds the bytes of a range, in chunks that end at multiples of the length.
-    pub fn holds<B: Buf>(
-        &self,
-        alloc: Global,
-        buf: &B,
-        span: (Place, Place),
-    ) -> Result<bool, BufError> {
+    pub fn holds<B: Buf>(&self, alloc: Global, buf: &B, span: Span) -> Result<bool, BufError> {
         let (mut at, end) = (self.offset(span.0), self.offset(span.1));
         for chunk in buf.chunks_vectored(alloc, usize::MAX)? {
             let past = at.saturating_add(self.len);
