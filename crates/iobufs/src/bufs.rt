@@ -380,8 +380,7 @@ impl IoBufs {
     }
 
     // Adds any buffer at the start of any `IoBufs`. In one function with `prepend`, `text64_prepend` takes 1.6 times
-    // the
-    // instructions.
+    // the instructions.
     #[inline(never)]
     fn prepend_any(&mut self, alloc: Global, piece: IoBuf) -> Result<(), Refused<IoBuf>>
         ensures done { OnOk result (self.new ≡ text_prepend self.old piece) }

@@ -330,8 +330,7 @@ impl IoBufsMut {
 
     /// Returns one buffer; several are copied, without spare capacity (`IoBufsMut::coalesce`): into the first of two or
     /// three, if all bytes fit it, and are half of it or it has at most 4 KiB. Fails with `BufError::BadLayout` exactly
-    /// if
-    /// two or more hold more than `isize::MAX` bytes.
+    /// if two or more hold more than `isize::MAX` bytes.
     #[tactic(auto, using(crate::proofs::Parts::Coalesced::coalescing, crate::proofs::Parts::FewLaws::freezing_few))]
     pub fn coalesce(mut self, alloc: Global) -> Result<IoBufMut, BufError>
         ensures ok { IfOk result (λ part. part ≡ parts_coalesced self) }

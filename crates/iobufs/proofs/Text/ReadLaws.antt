@@ -234,7 +234,7 @@ AreViews-advanced n (v ∷ w ∷ vs) f = AreViews-rest n (v ∷ w ∷ vs) f
 pub coalesced-one : (v : View) (t : MarkedText) → of_pieces (v ∷ []) ≡ t → of_view v ≡ text_coalesced t
 coalesced-one v t e = rw (sym (ap is_single e) ∙ is_single-of_pieces v []) (sym (of_pieces-one v) ∙ e)
 
--- where chunks are one, that is the first, and nothing is behind it
+-- where chunks are one, that is the first, and nothing is after it
 pub one-popped : (vs ws : List View) (v : View) → vs ≡ v ∷ ws → length vs ≡ 1 → vs ≡ v ∷ []
 one-popped vs [] v is l = is
 one-popped vs (w ∷ ws) v is l = absurd (omega (arith, l, ap (λ (xs : List View). length xs) is))

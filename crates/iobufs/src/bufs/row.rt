@@ -10,11 +10,13 @@ ghost use Rattle.iobufs.specs.Inside.Ends.{cut_piece, shortened, views_in};
 ghost use Rattle.iobufs.specs.Inside.Pieces.{AreFull, IsChunkPlace, left_pieces, piece_at, piece_start, pieces_bytes, right_pieces, view_len};
 
 mod gaps;
+mod sought;
 
 use super::search::{Ends, Located, find_end};
 pub(crate) use gaps::Gapped;
 use iobufs_core::buf::{IoBuf, IoBufMut};
 use iobufs_core::codec::{Buf, BufError, BufMut, OwnedBytes};
+use sought::Looking;
 use std::alloc::{AllocError, AllocFailed, Global};
 use std::collections::VecDeque;
 use std::marker::Model;
@@ -765,48 +767,5 @@ impl Clone for Row {
             base: self.base,
             entries: self.entries.clone()?,
         })
-    }
-}
-
-// A place sought among the ends of a row.
-#[derive(Drop)]
-struct Looking<'a> {
-    entries: &'a VecDeque<Entry>,
-    base: u64,
-    place: u64,
-    probes: u32,
-}
-
-impl<'a> Model for Looking<'a> {
-    ghost use Rattle.iobufs.specs.Inside.RowValues.{Sought};
-
-    ghost Value = { Sought };
-
-    ghost use Rattle.iobufs.specs.Inside.Ends.{IsSearch, ends_from};
-
-    ghost view = { λ s. record { ends = ends_from s.base s.entries.now.items; place = s.place; probed = s.probes } };
-
-    ghost invariant = { λ s. IsSearch (ends_from s.base s.entries.now.items) s.place };
-}
-
-impl<'a> Ends for Looking<'a> {
-    ghost ends = { λ s. s.ends };
-
-    ghost place = { λ s. s.place };
-
-    ghost probed = { λ s. s.probed };
-
-    fn count(&self) -> usize {
-        self.entries.len()
-    }
-
-    fn past(&mut self, i: usize) -> bool {
-        self.probes += 1;
-        let piece = self.entries.get(i).unwrap();
-        self.place < piece.end.wrapping_sub(self.base)
-    }
-
-    fn probes(&self) -> u32 {
-        self.probes
     }
 }

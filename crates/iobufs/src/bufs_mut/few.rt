@@ -150,7 +150,8 @@ fn push_chunk<'a>(
     requires { length chunks.items ≤ max }
     ensures few { IfOk result (λ more. length more.items ≤ max) }
     ensures pushed { IfOk result (λ more.
-        map (λ chunk. chunk.now) more.items ≡ take max (map (λ chunk. chunk.now) chunks.entry.items ++ parts_chunks (part.now ∷ []))) }
+        map (λ chunk. chunk.now) more.items
+        ≡ take max (map (λ chunk. chunk.now) chunks.entry.items ++ parts_chunks (part.now ∷ []))) }
 {
     if chunks.len() < max && !part.is_empty() {
         chunks.push(part.as_ref())?;
@@ -175,7 +176,8 @@ fn add_frozen(alloc: Global, row: &mut NewRow, part: &mut IoBufMut) -> Result<()
     requires fits { length (pieces_bytes row.old.views) + length part.old.filled < 2 ^ 64 }
     requires room { length row.old.views < row.old.room }
     ensures added { OnOk result (row.new.views
-        ≡ (if length (part_frozen part.old).bytes == 0 then row.old.views else row.old.views ++ part_frozen part.old ∷ [])) }
+        ≡ (if length (part_frozen part.old).bytes == 0 then row.old.views
+        else row.old.views ++ part_frozen part.old ∷ [])) }
     ensures same_room { OnOk result (row.new.room ≡ row.old.room) }
     ensures capacity { part_capacity part.new ≤ part_capacity part.old }
     ensures memory { IsOkUnless result BufError.Memory }
@@ -192,7 +194,8 @@ fn add_some(alloc: Global, row: &mut NewRow, part: &mut IoBufMut) -> Result<(), 
     requires fits { length (pieces_bytes row.old.views) + length part.old.filled < 2 ^ 64 }
     requires room { length row.old.views < row.old.room }
     ensures added { OnOk result (row.new.views
-        ≡ (if length (part_frozen part.old).bytes == 0 then row.old.views else row.old.views ++ part_frozen part.old ∷ [])) }
+        ≡ (if length (part_frozen part.old).bytes == 0 then row.old.views
+        else row.old.views ++ part_frozen part.old ∷ [])) }
     ensures same_room { OnOk result (row.new.room ≡ row.old.room) }
     ensures capacity { part_capacity part.new ≤ part_capacity part.old }
     ensures memory { IsOkUnless result BufError.Memory }

@@ -29,8 +29,7 @@ pub(super) struct Several {
     row: VecDeque<IoBufMut>,
     used: usize,
     // The first `full` buffers in order are known to have no spare capacity. A put begins after them, so many small
-    // puts
-    // walk over the buffers once.
+    // puts walk over the buffers once.
     full: usize,
     len: usize,
     capacity: usize,
