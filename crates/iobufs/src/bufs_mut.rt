@@ -8,6 +8,8 @@ ghost use Rattle.std.specs.Borrow.{LendsIf, sem};
 ghost use Rattle.iobufs_core.specs.Part.{Part, empty_part, part_capacity};
 ghost use Rattle.iobufs_core.specs.contracts.buf.part.IoBufMut.{the_row as part_row};
 ghost use Rattle.iobufs.specs.Parts.{IsParts, kept_parts, parts_capacity, parts_coalesced, parts_filled, parts_frozen, parts_overwritten, parts_with_len, single_part, parts_chunks, parts_drained, parts_spare};
+ghost use Rattle.iobufs.specs.Visiting.{IsVisited};
+ghost use Rattle.std.specs.Fn.{CalledAtMut};
 ghost use Rattle.iobufs.specs.PartLimits.{IsRowRefusedAt};
 ghost use Rattle.iobufs_core.specs.declared.codec.base.BufError.{BufError};
 
@@ -16,7 +18,7 @@ mod several;
 
 use crate::bufs::IoBufs;
 use bytes::Bytes;
-use few::Few;
+use few::{Few, visit_part};
 use iobufs_core::buf::IoBufMut;
 use iobufs_core::codec::{Buf, BufError, BufMut};
 use several::Several;
@@ -257,6 +259,20 @@ impl IoBufsMut {
             Shape::One(part) => part.as_mut().copy_from_slice(src),
             Shape::Few(parts) => parts.copy_from_slice(src),
             Shape::Many(parts) => parts.copy_from_slice(src),
+        }
+    }
+
+    /// Calls `visit` on each chunk that holds bytes, in order, to change them in place (own).
+    pub fn for_each_chunk_mut<F: FnMut(&mut [u8])>(&mut self, visit: F)
+        requires { F.IsAlwaysCallable visit }
+        ensures { (last : F) × IsVisited (λ f x g y. CalledAtMut F.FnMut f x tt g y) visit self.old last self.new }
+    {
+        match &mut self.shape {
+            Shape::One(part) => {
+                visit_part(part, visit);
+            }
+            Shape::Few(parts) => parts.for_each_chunk_mut(visit),
+            Shape::Many(parts) => parts.for_each_chunk_mut(visit),
         }
     }
 

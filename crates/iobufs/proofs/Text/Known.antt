@@ -5,7 +5,7 @@ pub use Rattle.std.proofs.Common.{filter, fold, get_or, if◌then◌else◌, inl
 pub use Rattle.std.proofs.Common.{length-take-le, map, min, nat_eq, nat_le, nat_lt, not, of_calls, refl, replicate, rules, set, slice_set}
 pub use Rattle.std.proofs.Common.{subst, suc, sym, take, take-append-drop, take_all, tests, true, vec_len, zero, zero-add, ℕ, ⊎_elim, ◌%◌}
 pub use Rattle.std.proofs.Common.{◌&&◌, ◌*◌, ◌++◌, ◌+◌, ◌-◌, ◌/◌, ◌<◌, ◌==◌, ◌^◌, ◌∙◌, ◌∷◌, ◌≡◌, ◌≢◌, ◌≤◌}
-pub use Rattle.std.proofs.KnownBytes.{Appends-trans, Consumes-trans, Keeps-refl}
+pub use Rattle.std.proofs.KnownBytes.{Appends-trans, Consumes-trans, Keeps-refl, Keeps-trans}
 pub use Rattle.std.proofs.Math.Bool.{and-false}
 pub use Rattle.std.proofs.Math.Nat.{pos_of_ne-zero}
 pub use Rattle.std.proofs.Math.Seq.{drop-nil, take-add, take-append_seam, take-nil}
@@ -81,7 +81,7 @@ pub use Rattle.iobufs.specs.Parts.{parts_fill, parts_filled, parts_frozen, parts
 pub use Rattle.iobufs.specs.Parts.{parts_spare, parts_with_len, single_part, with_capacity}
 pub use Rattle.iobufs.specs.Refusals.{IsRefusedAt}
 pub use Rattle.iobufs.specs.Search.{IsFirstPast, IsRising}
-pub use Rattle.iobufs.specs.Sending.{IsSent, IsStored}
+pub use Rattle.iobufs.specs.Sending.{IsRestOf, IsSent, IsStored}
 pub use Rattle.iobufs.specs.contracts.bufs_mut.IoBufsMut.{the_view}
 pub use Rattle.iobufs.specs.declared.bufs.IoBufs.TheInside.{Inside}
 pub use Rattle.iobufs.specs.declared.bufs.pieces.Form.{Form}

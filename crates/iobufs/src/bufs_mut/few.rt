@@ -5,6 +5,8 @@ ghost use Rattle.iobufs_core.specs.Chunks.{first_chunk};
 ghost use Rattle.iobufs_core.specs.MarkedText.{of_view};
 ghost use Rattle.iobufs_core.specs.Part.{empty_part, part_capacity, part_drained, part_frozen, part_overwritten, part_put, part_with_len};
 ghost use Rattle.iobufs.specs.Inside.Pieces.{pieces_bytes};
+ghost use Rattle.iobufs.specs.Visiting.{IsVisited};
+ghost use Rattle.std.specs.Fn.{CalledAtMut};
 ghost use Rattle.iobufs.specs.Parts.{HaveCapacity, IsParts, kept_parts, parts_capacity, parts_chunks, parts_fill, parts_filled, parts_frozen, parts_overwritten, parts_shared_out, parts_spare, parts_with_len, single_part, with_capacity};
 
 use super::several::Several;
@@ -126,6 +128,19 @@ fn read_share(part: &IoBufMut, dst: &mut [u8], at: usize) -> usize
     let n = part.len().min(dst.len() - at);
     dst[at..at + n].copy_from_slice(&part.as_ref()[..n]);
     at + n
+}
+
+// Calls `visit` on the bytes of a part, if it holds some, and returns it.
+pub(super) fn visit_part<F: FnMut(&mut [u8])>(part: &mut IoBufMut, mut visit: F) -> F
+    requires { F.IsAlwaysCallable visit }
+    ensures callable { F.IsAlwaysCallable result }
+    ensures visited { IsVisited (λ f x g y. CalledAtMut F.FnMut f x tt g y) visit
+        (part.old ∷ []) result (part.new ∷ []) }
+{
+    if !part.is_empty() {
+        visit(part.as_mut());
+    }
+    visit
 }
 
 // Puts the first `n` bytes of a part after others that have space for them, and returns how many are left.
@@ -372,6 +387,16 @@ impl Few {
         let rest = copy_share(&mut self.first, src);
         let rest = copy_share(&mut self.second, rest);
         copy_share(&mut self.third, rest);
+    }
+
+    /// Calls `visit` on the bytes of each part that holds some, in order.
+    pub(super) fn for_each_chunk_mut<F: FnMut(&mut [u8])>(&mut self, visit: F)
+        requires { F.IsAlwaysCallable visit }
+        ensures { (last : F) × IsVisited (λ f x g y. CalledAtMut F.FnMut f x tt g y) visit self.old last self.new }
+    {
+        let visit = visit_part(&mut self.first, visit);
+        let visit = visit_part(&mut self.second, visit);
+        visit_part(&mut self.third, visit);
     }
 
     /// Drops the first `n` bytes. The storage of a drained buffer without capacity is freed once another can hold a
