@@ -288,9 +288,9 @@ pub visited-bytes : {F : Type 0} (call : F → List ℕ → F → List ℕ → T
     → ((g k : F) (x y : List ℕ) → P g → call g x k y → P k × (y ≡ map h x)) → P f → IsVisited call f old last new
     → new ≡ parts_overwritten old (map h (parts_filled old))
 visited-bytes call P h f last old new each p v =
-    let joined = ap (λ (chunks : List (List ℕ)). flat_map (λ (chunk : List ℕ). chunk) chunks) in
-    let before = sym (joined-part_chunks old) ∙ joined v.before ∙ flat_map-map (λ (chunk : List ℕ). chunk) (λ (t : List ℕ × List ℕ). t.0) v.turns in
-    let after = sym (joined-part_chunks new) ∙ joined v.after ∙ flat_map-map (λ (chunk : List ℕ). chunk) (λ (t : List ℕ × List ℕ). t.1) v.turns in
+    let join : List (List ℕ) → List ℕ = λ chunks. flat_map (λ (chunk : List ℕ). chunk) chunks in
+    let before = sym (joined-part_chunks old) ∙ ap join v.before ∙ flat_map-map (λ (chunk : List ℕ). chunk) (λ (t : List ℕ × List ℕ). t.0) v.turns in
+    let after = sym (joined-part_chunks new) ∙ ap join v.after ∙ flat_map-map (λ (chunk : List ℕ). chunk) (λ (t : List ℕ × List ℕ). t.1) v.turns in
     v.kept ∙ ap (parts_overwritten old) (after ∙ visited-each call P h f last v.turns each p v.calls ∙ ap (map h) (sym before))
 
 pub ruleset sending = (sent_kept, sent_nothing, sent_on, sent_front, sent_all, sent_none, bytes-advanced)

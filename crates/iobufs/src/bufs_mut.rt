@@ -18,10 +18,10 @@ mod several;
 
 use crate::bufs::IoBufs;
 use bytes::Bytes;
-use few::{Few, visit_part};
+use few::Few;
 use iobufs_core::buf::IoBufMut;
 use iobufs_core::codec::{Buf, BufError, BufMut};
-use several::Several;
+use several::{Several, visit_part};
 use std::alloc::{AllocError, Global};
 use std::fmt;
 use std::marker::Model;

@@ -10,13 +10,11 @@ ghost use Rattle.iobufs.specs.Inside.Ends.{cut_piece, shortened, views_in};
 ghost use Rattle.iobufs.specs.Inside.Pieces.{AreFull, IsChunkPlace, left_pieces, piece_at, piece_start, pieces_bytes, right_pieces, view_len};
 
 mod gaps;
-mod sought;
 
 use super::search::{Ends, Located, find_end};
 pub(crate) use gaps::Gapped;
 use iobufs_core::buf::{IoBuf, IoBufMut};
 use iobufs_core::codec::{Buf, BufError, BufMut, OwnedBytes};
-use sought::Looking;
 use std::alloc::{AllocError, AllocFailed, Global};
 use std::collections::VecDeque;
 use std::marker::Model;
@@ -616,19 +614,6 @@ fn show<F: FnMut(&[u8])>(entries: &[Entry], mut visit: F) -> F
     visit
 }
 
-/// Puts bytes after others that have space for them. The test always holds, as that of `IoBufMut::put_slice`.
-#[inline(always)]
-pub(crate) fn put_reserved(copy: &mut Vec<u8>, bytes: &[u8])
-    requires { vec_len copy.old + length bytes.now ≤ vec_capacity copy.old }
-    ensures items { copy.new.items ≡ copy.old.items ++ bytes.now }
-    ensures len { vec_len copy.new ≡ vec_len copy.old + length bytes.now }
-    ensures capacity { vec_capacity copy.old ≤ vec_capacity copy.new }
-{
-    if bytes.len() <= copy.capacity() - copy.len() {
-        copy.extend_from_slice(bytes).unwrap();
-    }
-}
-
 // Puts the bytes of each chunk after those of a buffer that has space for them.
 fn put_all(entries: &[Entry], copy: &mut IoBufMut)
     requires { length (pieces_bytes (views_in entries.now)) ≤ copy.old.spare }
@@ -767,5 +752,48 @@ impl Clone for Row {
             base: self.base,
             entries: self.entries.clone()?,
         })
+    }
+}
+
+// An offset that is sought among the ends of a row.
+#[derive(Drop)]
+struct Looking<'a> {
+    entries: &'a VecDeque<Entry>,
+    base: u64,
+    place: u64,
+    probes: u32,
+}
+
+impl<'a> Model for Looking<'a> {
+    ghost use Rattle.iobufs.specs.Inside.RowValues.{Sought};
+
+    ghost Value = { Sought };
+
+    ghost use Rattle.iobufs.specs.Inside.Ends.{IsSearch, ends_from};
+
+    ghost view = { λ s. record { ends = ends_from s.base s.entries.now.items; place = s.place; probed = s.probes } };
+
+    ghost invariant = { λ s. IsSearch (ends_from s.base s.entries.now.items) s.place };
+}
+
+impl<'a> Ends for Looking<'a> {
+    ghost ends = { λ s. s.ends };
+
+    ghost place = { λ s. s.place };
+
+    ghost probed = { λ s. s.probed };
+
+    fn count(&self) -> usize {
+        self.entries.len()
+    }
+
+    fn past(&mut self, i: usize) -> bool {
+        self.probes += 1;
+        let piece = self.entries.get(i).unwrap();
+        self.place < piece.end.wrapping_sub(self.base)
+    }
+
+    fn probes(&self) -> u32 {
+        self.probes
     }
 }

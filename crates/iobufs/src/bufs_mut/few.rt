@@ -9,9 +9,10 @@ ghost use Rattle.iobufs.specs.Visiting.{IsVisited};
 ghost use Rattle.std.specs.Fn.{CalledAtMut};
 ghost use Rattle.iobufs.specs.Parts.{HaveCapacity, IsParts, kept_parts, parts_capacity, parts_chunks, parts_fill, parts_filled, parts_frozen, parts_overwritten, parts_shared_out, parts_spare, parts_with_len, single_part, with_capacity};
 
-use super::several::Several;
+use super::several::{Several, visit_part};
 use crate::bufs::IoBufs;
-use crate::bufs::row::{NewRow, put_reserved};
+use crate::bufs::reserved::put_reserved;
+use crate::bufs::row::NewRow;
 use iobufs_core::buf::IoBufMut;
 use iobufs_core::codec::{Buf, BufError, BufMut};
 use std::alloc::{AllocError, Global};
@@ -128,19 +129,6 @@ fn read_share(part: &IoBufMut, dst: &mut [u8], at: usize) -> usize
     let n = part.len().min(dst.len() - at);
     dst[at..at + n].copy_from_slice(&part.as_ref()[..n]);
     at + n
-}
-
-// Calls `visit` on the bytes of a part, if it holds some, and returns it.
-pub(super) fn visit_part<F: FnMut(&mut [u8])>(part: &mut IoBufMut, mut visit: F) -> F
-    requires { F.IsAlwaysCallable visit }
-    ensures callable { F.IsAlwaysCallable result }
-    ensures visited { IsVisited (λ f x g y. CalledAtMut F.FnMut f x tt g y) visit
-        (part.old ∷ []) result (part.new ∷ []) }
-{
-    if !part.is_empty() {
-        visit(part.as_mut());
-    }
-    visit
 }
 
 // Puts the first `n` bytes of a part after others that have space for them, and returns how many are left.

@@ -9,9 +9,9 @@ ghost use Rattle.iobufs.specs.Visiting.{IsVisited};
 ghost use Rattle.std.specs.Fn.{CalledAtMut};
 ghost use Rattle.iobufs.specs.Parts.{HaveCapacity, IsParts, kept_parts, parts_capacity, parts_chunks, parts_drained, parts_fill, parts_filled, parts_frozen, parts_overwritten, parts_spare, parts_with_len, single_part};
 
-use super::few::visit_part;
 use crate::bufs::IoBufs;
-use crate::bufs::row::{NewRow, put_reserved};
+use crate::bufs::reserved::put_reserved;
+use crate::bufs::row::NewRow;
 use iobufs_core::buf::{IoBuf, IoBufMut};
 use iobufs_core::codec::{Buf, BufError, BufMut};
 use std::alloc::{AllocError, Global};
@@ -435,6 +435,19 @@ fn copy_from_slice(parts: &mut VecDeque<IoBufMut>, src: &[u8])
         part.as_mut().copy_from_slice(share);
         rest = behind;
     }
+}
+
+// Calls `visit` on the bytes of a part, if it holds some, and returns it.
+pub(super) fn visit_part<F: FnMut(&mut [u8])>(part: &mut IoBufMut, mut visit: F) -> F
+    requires { F.IsAlwaysCallable visit }
+    ensures callable { F.IsAlwaysCallable result }
+    ensures visited { IsVisited (λ f x g y. CalledAtMut F.FnMut f x tt g y) visit
+        (part.old ∷ []) result (part.new ∷ []) }
+{
+    if !part.is_empty() {
+        visit(part.as_mut());
+    }
+    visit
 }
 
 // Calls `visit` on the bytes of each part that holds some, in the order of the deque.

@@ -2,7 +2,7 @@ use Rattle.std.proofs.Common.{ap, arith, length, List, refl, subst, ℕ}
 use Rattle.std.specs.Fn.{CalledAtMut}
 use Rattle.iobufs.proofs.Text.{nat_tests}
 use Rattle.iobufs.proofs.Parts.{called-mut, visited-one}
-use Rattle.iobufs.proofs.bufs_mut.few.visit_part.Goals as goal
+use Rattle.iobufs.proofs.bufs_mut.several.visit_part.Goals as goal
 
 pub returns-then-not-is_empty-clause-visited : goal.returns-then-not-is_empty-clause-visited
 returns-then-not-is_empty-clause-visited g c =
