@@ -2,6 +2,8 @@
 --     joining                   the bytes after a buffer or an `IoBufs` was added
 --     sending                   a batch of chunks is a prefix of the bytes, and several writes took what each took,
 --                               in order
+--     resting                   what some advances left
+--     again                     a write that is tried again after one that took nothing
 --     storing                   the bytes that fill empty buffers are theirs, and those of the `IoBufs` that they
 --                               freeze to
 --     length-advanced,          an advance by n drops n bytes; a batch of chunks is a prefix of the bytes
@@ -11,9 +13,13 @@
 --     written_within
 --     stored_done,              emptied buffers are full again or their reader is at its end; they hold nothing if
 --     stored_none, room_less    they can't; n bytes take n of the spare capacity
+--     visited-bytes             a function that changes each byte of a chunk, changes all bytes
 --     the rest                  what the rulesets cite
-use Rattle.iobufs.proofs.Text.{Appends, Appends-trans, AreFilled, Consumes, Consumes-trans, Err, IsSent, IsStored, Keeps, Keeps-refl, List, MarkedText, None, Ok, Option, Part, Result, Some, View, WriteAppends, WritesAtMost, [], ap, append-nil, append_assoc, arith, bytes-advanced, bytes-part_frozen, bytes-rest, common_steps, drop, filled_composes, filled_lessens, filled_nothing, flat_map, flat_map-append, flat_map-map, inl, inr, joined-chunks, length, length-append, length-drop, length-take, map, min, nat_tests, nil_from_length, part_capacity, part_frozen, part_with_len, parts_capacity, parts_fill, parts_filled, parts_frozen, parts_spare, parts_with_len, refl, subst, sum_by-cons, sym, take, take-append-drop, take-append-le, text_advanced, text_chunks, ℕ, ◌++◌, ◌+◌, ◌-◌, ◌∙◌, ◌∷◌, ◌≡◌, ◌≤◌, ◌⊎◌}
+use Rattle.iobufs.proofs.Text.{Appends, Appends-trans, AreFilled, Consumes, Consumes-trans, Err, FoldsTo, IsChunkOf, IsRestOf, IsSent, IsStored, Keeps, Keeps-refl, Keeps-trans, List, MarkedText, None, Ok, Option, Part, Result, Some, View, WriteAppends, WritesAtMost, [], ap, append-nil, append_assoc, arith, bytes-advanced, bytes-part_frozen, bytes-rest, common_steps, drop, filled_composes, filled_lessens, filled_nothing, flat_map, flat_map-append, flat_map-map, inl, inr, joined-chunks, length, length-append, length-drop, length-take, map, map-append, min, nat_tests, nil_from_length, part_capacity, part_frozen, part_with_len, parts_capacity, parts_fill, parts_filled, parts_frozen, parts_overwritten, parts_spare, parts_with_len, refl, subst, sum_by-cons, sym, take, take-append-drop, take-append-le, text_advanced, text_chunks, ℕ, ◌++◌, ◌+◌, ◌-◌, ◌∙◌, ◌∷◌, ◌≡◌, ◌≤◌, ◌⊎◌}
+use Rattle.std.proofs.lemmas.List.{take-take}
 use Rattle.iobufs.proofs.Joined.{bytes-append, bytes-joined}
+use Rattle.iobufs.specs.Laws.Draining.{joined-part_chunks}
+use Rattle.iobufs.specs.Visiting.{IsVisited}
 
 -- ---- sending
 
@@ -71,6 +77,14 @@ length-advanced text new n within is =
       length-drop n text.bytes,
     )
 
+-- the first bytes of a chunk are those of all bytes
+pub chunk_taken : (chunk text : List ℕ) (n : ℕ) → IsChunkOf chunk text → n ≤ length chunk → (n ≤ length text) × (take n chunk ≡ take n text)
+chunk_taken chunk text n is fits =
+    let long = ap (λ (w : List ℕ). length w) is.front in (
+      omega (arith, fits, long, length-take (length chunk) text),
+      ap (take n) is.front ∙ take-take n (length chunk) text fits,
+    )
+
 -- a batch is the first chunks, joined
 pub batch_bytes : {A : Type 0} (bytes_of : A → List ℕ) (slices : List A) (text : MarkedText) (most : ℕ)
     → map bytes_of slices ≡ take most (text_chunks text)
@@ -109,6 +123,25 @@ pub written_within : {A E : Type 0} (bytes_of : A → List ℕ) (slices : List A
     → map bytes_of slices ≡ take most (text_chunks text) → WritesAtMost result (flat_map bytes_of slices) → WritesAtMost result text.bytes
 written_within bytes_of slices text most (Ok n) is bound = (front_of_chunks bytes_of slices text most n is bound).0
 written_within bytes_of slices text most (Err error) is bound = tt
+
+-- bytes are written after a call that wrote none
+pub appends_after : (a b c : Option (List ℕ)) (u : List ℕ) → Keeps a b → Appends b c u → Appends a c u
+appends_after None b c u p q = tt
+appends_after (Some xs) None c u p q = absurd p
+appends_after (Some xs) (Some ys) None u p q = absurd q
+appends_after (Some xs) (Some ys) (Some zs) u p q = q ∙ ap (λ w. w ++ u) p
+
+-- no advance
+pub rest_none : (old : MarkedText) → IsRestOf old old
+rest_none old = record { counts = []; left = refl }
+
+-- one advance more
+pub rest_on : (old mid new : MarkedText) (n : ℕ) → IsRestOf old mid → new ≡ text_advanced mid n → IsRestOf old new
+rest_on old mid new n is more = record {
+  counts = n ∷ is.counts;
+  left = more
+      ∙ ap (λ (t : MarkedText). text_advanced t n) is.left;
+}
 
 -- ---- storing
 
@@ -236,7 +269,35 @@ room_less old new bytes behind n filled fits =
       fits,
     )
 
+-- ---- visiting
+
+-- each call keeps P, and makes of a chunk what h makes of each byte
+visited-each : {F : Type 0} (call : F → List ℕ → F → List ℕ → Type 0) (P : F → Type 0) (h : ℕ → ℕ) (f last : F)
+    (turns : List (List ℕ × List ℕ))
+    → ((g k : F) (x y : List ℕ) → P g → call g x k y → P k × (y ≡ map h x)) → P f
+    → FoldsTo (λ g (turn : List ℕ × List ℕ) k. call g turn.0 k turn.1) f turns last
+    → flat_map (λ (turn : List ℕ × List ℕ). turn.1) turns ≡ map h (flat_map (λ (turn : List ℕ × List ℕ). turn.0) turns)
+visited-each call P h f last [] each p calls = refl
+visited-each call P h f last (turn ∷ turns) each p (mid, called, more) =
+    let (stays, made) = each f mid turn.0 turn.1 p called in
+    (λ i. made i ++ visited-each call P h mid last turns each stays more i)
+    ∙ sym (map-append h turn.0 (flat_map (λ (t : List ℕ × List ℕ). t.0) turns))
+
+-- a function that makes the same of each byte, as long as its state keeps P, does so to the bytes of all buffers
+pub visited-bytes : {F : Type 0} (call : F → List ℕ → F → List ℕ → Type 0) (P : F → Type 0) (h : ℕ → ℕ) (f last : F) (old new : List Part)
+    → ((g k : F) (x y : List ℕ) → P g → call g x k y → P k × (y ≡ map h x)) → P f → IsVisited call f old last new
+    → new ≡ parts_overwritten old (map h (parts_filled old))
+visited-bytes call P h f last old new each p v =
+    let join : List (List ℕ) → List ℕ = λ chunks. flat_map (λ (chunk : List ℕ). chunk) chunks in
+    let before = sym (joined-part_chunks old) ∙ ap join v.before ∙ flat_map-map (λ (chunk : List ℕ). chunk) (λ (t : List ℕ × List ℕ). t.0) v.turns in
+    let after = sym (joined-part_chunks new) ∙ ap join v.after ∙ flat_map-map (λ (chunk : List ℕ). chunk) (λ (t : List ℕ × List ℕ). t.1) v.turns in
+    v.kept ∙ ap (parts_overwritten old) (after ∙ visited-each call P h f last v.turns each p v.calls ∙ ap (map h) (sym before))
+
 pub ruleset sending = (sent_kept, sent_nothing, sent_on, sent_front, sent_all, sent_none, bytes-advanced)
+
+pub ruleset resting = (rest_none, rest_on)
+
+pub ruleset again = (Keeps-refl, Keeps-trans, appends_after)
 
 pub ruleset storing = (
   stored_kept,

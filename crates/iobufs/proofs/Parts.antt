@@ -12,6 +12,7 @@ pub mod PartLaws
 pub mod PartRuns
 pub mod PartTurns
 pub mod SumLaws
+pub mod Visited
 pub use Coalesced.*
 pub use DrainShapes.*
 pub use DrainTurns.*
@@ -24,3 +25,4 @@ pub use PartLaws.*
 pub use PartRuns.*
 pub use PartTurns.*
 pub use SumLaws.*
+pub use Visited.*

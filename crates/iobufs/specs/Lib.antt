@@ -8,3 +8,4 @@ pub mod Refusals
 pub mod Search
 pub mod Sending
 pub mod Views
+pub mod Visiting

@@ -1,8 +1,11 @@
 -- Bytes on their way to a writer, and from a reader.
 --     IsSent      a writer took a prefix of the bytes, after what it held, and the rest is left
 --     IsStored    bytes that a reader gave fill the spare capacity
-use Rattle.std.specs.Prelude.{◌≡◌, ℕ, Option, List, ◌++◌}
+--     text_after  what several advances leave
+--     IsRestOf    what some advances left
+use Rattle.std.specs.Prelude.{◌≡◌, ℕ, Option, List, [], ◌∷◌, ◌++◌}
 use Rattle.std.specs.Io.KnownBytes.{Appends, Consumes}
+use Rattle.iobufs_core.specs.MarkedText.{MarkedText, text_advanced}
 use Rattle.iobufs_core.specs.Part.{Part}
 use Rattle.iobufs.specs.Laws.Filling.{AreFilled}
 
@@ -17,3 +20,13 @@ pub record IsStored (had has : Option (List ℕ)) (old new : List Part) : Type 0
   pub read : List ℕ
   pub gave : Consumes had has read
   pub filled : AreFilled old read new
+
+-- an `IoBufs` after advances by several counts, the last first
+abbrev pub text_after : MarkedText → List ℕ → MarkedText
+text_after text [] = text
+text_after text (n ∷ before) = text_advanced (text_after text before) n
+
+-- what is left after some advances
+pub record IsRestOf (old new : MarkedText) : Type 0 where
+  pub counts : List ℕ
+  pub left : new ≡ text_after old counts

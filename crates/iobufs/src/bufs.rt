@@ -2,6 +2,7 @@
 ghost use Rattle.iobufs.specs.Inside.Pieces.{AreViews, of_pieces, pieces_bytes};
 ghost use Rattle.iobufs.specs.Located.{greatest_key, keys_upto};
 ghost use Rattle.iobufs.specs.Refusals.{IsRefusedAt};
+ghost use Rattle.iobufs.specs.Sending.{IsRestOf, IsSent};
 ghost use Rattle.iobufs.specs.Views.{text_views};
 ghost use Rattle.iobufs_core.specs.Chunks.{first_chunk};
 ghost use Rattle.iobufs_core.specs.MarkedText.{IsMarked, chunk_count as count_of, default_text, is_single, joined, of_view, taken_view, text_append, text_chunks, text_len, text_prepend, text_rest, text_split_front, text_coalesced, chunk_count};
@@ -13,9 +14,12 @@ ghost use Rattle.std.specs.Cmp.Lexicographic.{pointwise};
 ghost use Rattle.std.specs.Fn.{CalledAt};
 ghost use Rattle.std.specs.Iterator.{DrainsIf, IsFinite, YieldsFirstBy, item_count};
 ghost use Rattle.std.specs.Iterator.Runs.{SomeRun, WholeRun};
+ghost use Rattle.std.specs.Io.KnownBytes.{Appends};
+ghost use Rattle.std.specs.IoError.{error_kind};
+ghost use Rattle.std.specs.declared.io.ErrorKind.TheVariants.{Interrupted};
 ghost use Rattle.std.specs.List.{FoldsTo};
 ghost use Rattle.std.specs.Option.{option_copied};
-ghost use Rattle.std.specs.Prelude.{◌↔◌, None, IfSome, IsSome, IsTrue, IsFalse, nat_le, ◌≡◌, ℕ, List, ◌∷◌, ◌++◌, ◌+◌, ◌*◌, ◌<◌, ◌≤◌, ◌^◌, ◌==◌, [], length, if◌then◌else◌, false, true, slice_get, IsOk, IfOk, IfErr, OnOk, OnErr, IsOkUnless, IsErrAnd, MatchOption, MatchResult, drop, Err, ◌-◌, nat_eq, Some, codes, ⊤};
+ghost use Rattle.std.specs.Prelude.{◌≢◌, ◌↔◌, None, IfSome, IsSome, IsTrue, IsFalse, nat_le, ◌≡◌, ℕ, List, ◌∷◌, ◌++◌, ◌+◌, ◌*◌, ◌<◌, ◌≤◌, ◌^◌, ◌==◌, [], length, if◌then◌else◌, false, true, slice_get, IsOk, IfOk, IfErr, OnOk, OnErr, IsOkUnless, IsErrAnd, MatchOption, MatchResult, drop, Err, ◌-◌, nat_eq, Some, codes, ⊤};
 ghost use Rattle.std.proofs.Common.{rules};
 ghost use Rattle.std.specs.Cmp.Rules.{comparing};
 ghost use Rattle.std.specs.Fmt.{decimal};
@@ -23,17 +27,20 @@ ghost use Rattle.std.specs.Ordering.{on};
 
 mod pieces;
 mod reading;
+pub(crate) mod reserved;
 pub(crate) mod row;
 mod search;
+mod writing;
 
 use bytes::Bytes;
 use iobufs_core::buf::{IoBuf, IoBufMut};
-use iobufs_core::codec::{BufError, Refused};
+use iobufs_core::codec::{Buf, BufError, Refused};
 use pieces::{Form, Pieces, START};
 pub use row::ChunkSlice;
 use row::Row;
 pub use search::{Ends, Located, find_end};
 use std::alloc::{AllocError, Global};
+use std::io::{self, ErrorKind, Write};
 use std::marker::Model;
 use std::ops::Range;
 use std::{fmt, mem};
@@ -380,8 +387,7 @@ impl IoBufs {
     }
 
     // Adds any buffer at the start of any `IoBufs`. In one function with `prepend`, `text64_prepend` takes 1.6 times
-    // the
-    // instructions.
+    // the instructions.
     #[inline(never)]
     fn prepend_any(&mut self, alloc: Global, piece: IoBuf) -> Result<(), Refused<IoBuf>>
         ensures done { OnOk result (self.new ≡ text_prepend self.old piece) }
@@ -543,6 +549,26 @@ impl IoBufs {
         }
     }
 
+    /// Writes all bytes, chunk by chunk, and drops them as the writer takes them (own). Nothing is allocated. An error
+    /// is the writer's, never `ErrorKind::Interrupted`, or `ErrorKind::WriteZero` if it takes none. After it the bytes
+    /// that the writer didn't take are left, and `write_to` may be called again.
+    #[tactic(auto, using(crate::proofs::CallerFacts::sending, crate::proofs::CallerFacts::resting))]
+    pub fn write_to<W: Write>(&mut self, to: &mut W) -> io::Result<()>
+        ensures sent { IsSent (W.contents to.old) (W.contents to.new) self.old.bytes self.new.bytes }
+        ensures rest { IsRestOf self.old self.new }
+        ensures all { OnOk result (self.new.bytes ≡ []) }
+        ensures left { OnErr result (0 < length self.new.bytes) }
+        ensures contents { OnOk result (Appends (W.contents to.old) (W.contents to.new) self.old.bytes) }
+        ensures retried { IfErr result (λ error. error_kind error ≢ Interrupted) }
+    {
+        while self.has_remaining() {
+            if self.write_chunk(to)? == 0 {
+                return Err(io::Error::from(ErrorKind::WriteZero));
+            }
+        }
+        Ok(())
+    }
+
     // The old value is dropped here, and not in each place that puts a new one.
     fn set(&mut self, text: IoBufs)
         ensures { self.new ≡ text }
@@ -686,6 +712,17 @@ impl<'a> Iterator for Chunks<'a> {
         let chunk = self.text.chunk_at(self.next)?;
         self.next += 1;
         Some(chunk)
+    }
+
+    fn size_hint(&self) -> (usize, Option<usize>) {
+        let len = self.len();
+        (len, Some(len))
+    }
+}
+
+impl<'a> ExactSizeIterator for Chunks<'a> {
+    fn len(&self) -> usize {
+        self.text.chunk_count().saturating_sub(self.next)
     }
 }
 

@@ -8,6 +8,8 @@ ghost use Rattle.std.specs.Borrow.{LendsIf, sem};
 ghost use Rattle.iobufs_core.specs.Part.{Part, empty_part, part_capacity};
 ghost use Rattle.iobufs_core.specs.contracts.buf.part.IoBufMut.{the_row as part_row};
 ghost use Rattle.iobufs.specs.Parts.{IsParts, kept_parts, parts_capacity, parts_coalesced, parts_filled, parts_frozen, parts_overwritten, parts_with_len, single_part, parts_chunks, parts_drained, parts_spare};
+ghost use Rattle.iobufs.specs.Visiting.{IsVisited};
+ghost use Rattle.std.specs.Fn.{CalledAtMut};
 ghost use Rattle.iobufs.specs.PartLimits.{IsRowRefusedAt};
 ghost use Rattle.iobufs_core.specs.declared.codec.base.BufError.{BufError};
 
@@ -19,7 +21,7 @@ use bytes::Bytes;
 use few::Few;
 use iobufs_core::buf::IoBufMut;
 use iobufs_core::codec::{Buf, BufError, BufMut};
-use several::Several;
+use several::{Several, visit_part};
 use std::alloc::{AllocError, Global};
 use std::fmt;
 use std::marker::Model;
@@ -260,6 +262,20 @@ impl IoBufsMut {
         }
     }
 
+    /// Calls `visit` on each chunk that holds bytes, in order, to change them in place (own).
+    pub fn for_each_chunk_mut<F: FnMut(&mut [u8])>(&mut self, visit: F)
+        requires { F.IsAlwaysCallable visit }
+        ensures { (last : F) × IsVisited (λ f x g y. CalledAtMut F.FnMut f x tt g y) visit self.old last self.new }
+    {
+        match &mut self.shape {
+            Shape::One(part) => {
+                visit_part(part, visit);
+            }
+            Shape::Few(parts) => parts.for_each_chunk_mut(visit),
+            Shape::Many(parts) => parts.for_each_chunk_mut(visit),
+        }
+    }
+
     /// Returns the number of buffers (own).
     pub fn part_count(&self) -> usize
         ensures { result ≡ length self.now }
@@ -330,8 +346,7 @@ impl IoBufsMut {
 
     /// Returns one buffer; several are copied, without spare capacity (`IoBufsMut::coalesce`): into the first of two or
     /// three, if all bytes fit it, and are half of it or it has at most 4 KiB. Fails with `BufError::BadLayout` exactly
-    /// if
-    /// two or more hold more than `isize::MAX` bytes.
+    /// if two or more hold more than `isize::MAX` bytes.
     #[tactic(auto, using(crate::proofs::Parts::Coalesced::coalescing, crate::proofs::Parts::FewLaws::freezing_few))]
     pub fn coalesce(mut self, alloc: Global) -> Result<IoBufMut, BufError>
         ensures ok { IfOk result (λ part. part ≡ parts_coalesced self) }

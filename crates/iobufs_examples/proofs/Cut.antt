@@ -79,7 +79,7 @@ cut_is range (body ∷ all) text lost can e = elim (less (length text) (length (
       })
 ]
 
--- what is read of such a text are its first records
+-- reading such a text gives its first records
 pub read_up_to : {E : Type 0} (range : RangeCfg) (all : List (List ℕ)) (text lost : List ℕ) (result : Result Run E)
     → CanAllFollow Spelled range all → text ++ lost ≡ all_written Spelled all → ((prefix : Prefix) → HaveOneReading prefix)
     → IfOk result (λ run. IsFramed Spelled range text (bodies run.frames.items) run.stop run.rest.bytes)

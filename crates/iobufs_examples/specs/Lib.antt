@@ -1,4 +1,3 @@
 pub mod InOrder
 pub mod Records
-pub mod Send
 pub mod Web

@@ -1,19 +1,35 @@
 // A text in chunks, and a frame, handed to an async writer.
-ghost use Rattle.std.specs.Prelude.{◌≡◌, ◌<◌, ◌≤◌, [], length, drop};
+ghost use Rattle.std.specs.Prelude.{◌≡◌, ◌<◌, ◌≤◌, [], length, drop, map, take, IfOk};
+ghost use Rattle.std.specs.Io.Slices.{io_slice_bytes};
+ghost use Rattle.iobufs_core.specs.MarkedText.{text_chunks};
 ghost use Rattle.futures.specs.Poll.{OnPending};
 ghost use Rattle.futures.specs.Task.{Covers, Keeps};
 ghost use Rattle.tokio.specs.Io.Moved.{IfReadyErr, OnReadyOk, TakesWritten, WriteFails, bytes_moved, count_moved};
 
-use crate::send::batch;
 use futures::task::{Context, Poll};
 use iobufs::bufs::IoBufs;
+use iobufs_core::codec::Buf;
 use iobufs_frames::FrameWriter;
 use std::alloc::Global;
-use std::io;
+use std::io::{self, ErrorKind, IoSlice};
 use tokio::io::{AsyncWrite, poll_write_all_buf};
 
 // How many chunks are written at a time.
 const MOST: usize = 64;
+
+// The first chunks of an `IoBufs`, at most `most` of them.
+fn batch(alloc: Global, text: &IoBufs, most: usize) -> io::Result<Vec<IoSlice<'_>>>
+    ensures { IfOk result (λ slices. map io_slice_bytes slices.items ≡ take most (text_chunks text.now)) }
+{
+    let Ok(chunks) = text.chunks_vectored(alloc, most) else {
+        return Err(io::Error::from(ErrorKind::OutOfMemory));
+    };
+    let mut slices = Vec::new(alloc);
+    for chunk in chunks {
+        slices.push(IoSlice::new(chunk))?;
+    }
+    Ok(slices)
+}
 
 // Writes the first chunks in one call, and says how many bytes the writer took.
 fn poll_batch<W: AsyncWrite>(

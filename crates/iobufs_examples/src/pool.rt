@@ -25,8 +25,7 @@ impl Pool {
     }
 
     /// The memory of the next freed block, if there is one that isn't handed out. Nobody holds it, and none of those
-    /// that
-    /// were handed out before is the same.
+    /// that were handed out before is the same.
     pub fn take(&mut self, machine: &Machine) -> Option<Freed>
         requires { Promises machine.now.state }
         ensures next { result ≡ slice_get machine.now.state.freed_blocks self.old.given }

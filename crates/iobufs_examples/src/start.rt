@@ -60,7 +60,8 @@ pub const CFG: ((), (), RangeCfg, RangeCfg) = (
 /// Encodes an entry. Its key and value aren't copied.
 pub fn encoded(alloc: Global, entry: Entry) -> Result<IoBufs, Error>
     ensures { IfOk result (λ text. text.bytes
-        ≡ to_be_bytes w64 entry.number ++ ((entry.flags ∷ []) ++ (view_written entry.key ++ view_written entry.value))) }
+        ≡ to_be_bytes w64 entry.number
+        ++ ((entry.flags ∷ []) ++ (view_written entry.key ++ view_written entry.value))) }
 {
     entry.encode_iobufs(alloc)
 }
@@ -68,7 +69,8 @@ pub fn encoded(alloc: Global, entry: Entry) -> Result<IoBufs, Error>
 /// Decodes all bytes as an entry, which shares them.
 pub fn decoded(alloc: Global, body: &IoBuf) -> Result<Entry, Fault>
     ensures bytes { IfOk result (λ entry. body.now.bytes
-        ≡ to_be_bytes w64 entry.number ++ ((entry.flags ∷ []) ++ (view_written entry.key ++ view_written entry.value))) }
+        ≡ to_be_bytes w64 entry.number
+        ++ ((entry.flags ∷ []) ++ (view_written entry.key ++ view_written entry.value))) }
     ensures back { (entry : Entry) → ⟦<(u64, u8, IoBuf, IoBuf) as Look>⟧.admits CFG
         (entry.number, entry.flags, entry.key, entry.value)
         → body.now.bytes ≡ to_be_bytes w64 entry.number ++
@@ -101,7 +103,8 @@ pub fn put<W: Write + Drop>(
 ) -> Result<(), LogError>
     ensures before { OnOk result (Appends (W.contents to.old.to) (W.contents to.new.to) to.old.rest.bytes) }
     ensures put { OnOk result (to.new.rest.bytes ≡ frame_written to.old.prefix
-        (to_be_bytes w64 entry.number ++ ((entry.flags ∷ []) ++ (view_written entry.key ++ view_written entry.value)))) }
+        (to_be_bytes w64 entry.number
+        ++ ((entry.flags ∷ []) ++ (view_written entry.key ++ view_written entry.value)))) }
     ensures dropped { OnErr result (IsSent (W.contents to.old.to)
         (W.contents to.new.to) to.old.rest.bytes to.new.rest.bytes) }
     ensures prefix { to.new.prefix ≡ to.old.prefix }
@@ -114,8 +117,7 @@ pub fn put<W: Write + Drop>(
 }
 
 /// Receives the next entry; `None` at the end of the input. `LogError::Entry` drops a body that is no entry; another
-/// error
-/// loses no byte.
+/// error loses no byte.
 pub fn receive<R: Read + Drop>(
     alloc: Global,
     from: &mut FrameReader<R>,

@@ -69,6 +69,12 @@ impl IoBufsMut {
         assert!(self.0.try_copy_from_slice(src), "source slice length must match buffer length");
     }
 
+    /// Calls `visit` on each chunk that holds bytes, in order, to change them in place.
+    #[inline]
+    pub fn for_each_chunk_mut(&mut self, visit: impl FnMut(&mut [u8])) {
+        self.0.for_each_chunk_mut(visit);
+    }
+
     /// Freezes the buffers that hold bytes to the chunks of one `IoBufs`.
     #[inline]
     pub fn freeze(self) -> IoBufs {

@@ -274,6 +274,31 @@ fn parts() {
     assert_eq!(IoBufsMut::from(vec![1, 2]).try_into_single().unwrap(), [1, 2]);
 }
 
+// Each chunk that holds bytes is visited once, in order; lengths and capacities stay.
+#[test]
+fn chunks_are_changed_in_place() {
+    for n in [0usize, 1, 2, 3, 4, 1000] {
+        let mut parts: IoBufsMut = (0..n).map(|_| IoBufMut::with_capacity(2)).collect();
+        let len = (2 * n).saturating_sub(1);
+        parts.put_slice(&vec![1; len]);
+        for drained in 0..len.min(4) {
+            parts.advance(usize::from(drained > 0));
+            let (before, mut chunks) = ((parts.len(), parts.capacity(), parts.remaining_mut()), 0);
+            parts.for_each_chunk_mut(|chunk| {
+                chunk.iter_mut().for_each(|byte| *byte = (*byte).max(chunks as u8));
+                chunks += 1;
+            });
+            assert_eq!((parts.len(), parts.capacity(), parts.remaining_mut()), before);
+            assert_eq!(chunks, n - drained / 2, "{n} {drained}");
+        }
+    }
+    let mut parts: IoBufsMut = (0..5).map(|_| IoBufMut::with_capacity(1)).collect();
+    parts.put_slice(b"abcde");
+    parts.advance(1);
+    parts.for_each_chunk_mut(|chunk| chunk.make_ascii_uppercase());
+    assert_eq!(bytes(&parts.freeze()), b"BCDE");
+}
+
 #[test]
 #[should_panic(expected = "cannot advance past end of buffer")]
 fn one_byte_too_many() {

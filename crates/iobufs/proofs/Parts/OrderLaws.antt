@@ -118,7 +118,7 @@ first-set [] p q n some first is = absurd (omega arith)
 first-set (r ∷ row) p q n some first is = ap (λ x. x ∷ row) (is ∙ ap (λ x. part_drained x n) first)
 
 -- parts are written over where they stand
-overwritten-both : (ps qs : List Part) (w : List ℕ)
+pub overwritten-both : (ps qs : List Part) (w : List ℕ)
     → parts_overwritten (ps ++ qs) w ≡ parts_overwritten ps w ++ parts_overwritten qs (drop (length (parts_filled ps)) w)
 overwritten-both [] qs w = refl
 overwritten-both (p ∷ ps) qs w =
@@ -127,7 +127,8 @@ overwritten-both (p ∷ ps) qs w =
     ap (λ qs. part_overwritten p (take n w) ∷ qs)
     (overwritten-both ps qs (drop n w) ∙ ap (λ v. parts_overwritten ps (drop n w) ++ parts_overwritten qs v) rest)
 
-overwritten-empty : (ps : List Part) (w : List ℕ) → length (parts_filled ps) ≡ 0 → parts_overwritten ps w ≡ ps
+-- bytes written over parts that hold none
+pub overwritten-empty : (ps : List Part) (w : List ℕ) → length (parts_filled ps) ≡ 0 → parts_overwritten ps w ≡ ps
 overwritten-empty [] w none = refl
 overwritten-empty (p ∷ ps) w none =
     let both = length-append p.filled (parts_filled ps) in

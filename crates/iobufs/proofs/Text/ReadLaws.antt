@@ -1,12 +1,12 @@
 -- The chunks that a reader of several chunks sees, and the bytes that it takes.
-use Rattle.iobufs.proofs.Text.Known.{AreFull, AreViews, advanced_pieces, Err, Excluded, IfOk, Included, Inside, IsChunkOf, IsChunkPlace, IsPieces, List, MarkedText, Ok, Result, Some, View, [], add-one, ap, append-nil, arith, behind_first, by_lt, common_steps, default_view, drop, drop-take, false, false≢true, first_chunk, flat_map-append, get_or, is_single, length, length-append, length-drop, length-take-le, map, nat_eq, nat_tests, native_mark, nil_from_length, of_pieces, of_view, part_frozen, piece_at, piece_start, pieces_bytes, refl, rest_pieces, right_pieces, slice_get, subst, suc, sym, take, take-append-drop, take-append_seam, take_all, taken_view, tests, text_chunks, text_coalesced, text_len, text_of, text_rest, text_advanced, text_right, true, view_advanced, view_len, view_slice, zero, zero-add, ℕ, ◌++◌, ◌+◌, ◌-◌, ◌<◌, ◌∙◌, ◌∷◌, ◌≡◌, ◌≢◌, ◌≤◌}
+use Rattle.iobufs.proofs.Text.Known.{AreFull, AreViews, advanced_pieces, Err, Excluded, IfOk, Included, Inside, IsChunkOf, IsChunkPlace, IsPieces, List, MarkedText, Ok, Result, Some, View, [], add-one, ap, append-nil, arith, behind_first, by_lt, common_steps, default_view, drop, drop-take, false, false≢true, first_chunk, flat_map-append, get_or, is_single, length, length-append, length-drop, length-take-le, map, nat_eq, nat_tests, native_mark, nil_from_length, of_pieces, of_view, part_frozen, piece_at, piece_start, pieces_bytes, refl, rest_pieces, right_pieces, slice_get, subst, suc, sym, take, take-append-drop, take-append_seam, take_all, taken_view, tests, text_chunks, text_coalesced, text_len, text_of, text_rest, text_advanced, text_right, true, view_advanced, view_len, view_slice, zero, zero-add, ℕ, ◌++◌, ◌+◌, ◌-◌, ◌<◌, ◌∙◌, ◌∷◌, ◌≡◌, ◌≤◌}
 use Rattle.iobufs.proofs.Text.ChunkLaws.{chunks-of_empty}
 use Rattle.iobufs.proofs.Text.KeptLaws.{AreViews-rest, HasRoom-on}
 use Rattle.iobufs.proofs.Text.CopyLaws.{bytes-from}
 use Rattle.iobufs.proofs.Text.PieceLaws.{is_single-of_pieces, AreFull-from_pieces, bytes-of_pieces, front-all, len-of_pieces, length-bytes, of_pieces-one, rest-all, rest_pieces-all, rest_pieces-inside, right-of_pieces, right_pieces-none, right_pieces-past}
 use Rattle.iobufs.proofs.Text.PlaceLaws.{index-of_place, right-at_place}
 use Rattle.iobufs.proofs.Text.TakenLaws.{taken_view-across, taken_view-right, taken_view-within}
-use Rattle.iobufs.proofs.Text.TextLaws.{advanced-one, chunks-kept, length-kept, rest-kept, single-kept, single-more, some_views}
+use Rattle.iobufs.proofs.Text.TextLaws.{advanced-one, chunks-kept, rest-kept, single-kept, single-more, some_views}
 
 -- the first chunk is the first chunk, and a beginning of the text
 pub first-of : (vs : List View) (t : MarkedText) → of_pieces vs ≡ t → 0 < length vs → (0 < length (pieces_bytes vs) → AreFull vs)
@@ -234,7 +234,7 @@ AreViews-advanced n (v ∷ w ∷ vs) f = AreViews-rest n (v ∷ w ∷ vs) f
 pub coalesced-one : (v : View) (t : MarkedText) → of_pieces (v ∷ []) ≡ t → of_view v ≡ text_coalesced t
 coalesced-one v t e = rw (sym (ap is_single e) ∙ is_single-of_pieces v []) (sym (of_pieces-one v) ∙ e)
 
--- where chunks are one, that is the first, and nothing is behind it
+-- where chunks are one, that is the first, and nothing is after it
 pub one-popped : (vs ws : List View) (v : View) → vs ≡ v ∷ ws → length vs ≡ 1 → vs ≡ v ∷ []
 one-popped vs [] v is l = is
 one-popped vs (w ∷ ws) v is l = absurd (omega (arith, l, ap (λ (xs : List View). length xs) is))

@@ -6,7 +6,8 @@ ghost use Rattle.iobufs_core.specs.View.{View, IsFreelyShared, default_view, sta
 ghost use Rattle.std.specs.Option.{option_copied};
 ghost use Rattle.std.specs.Prelude.{◌≡◌, List, ◌+◌, ◌*◌, ◌<◌, ◌≤◌, ◌^◌, ◌++◌, [], ◌∷◌, OnOk, OnErr, IfOk, IfErr, IsOk, IsOkUnless, MatchResult, IsTrue, IsFalse, nat_le, length, slice_get, take, drop, map, Err, ℕ, MatchOption};
 
-use super::row::{Row, put_reserved, split_inside};
+use super::reserved::put_reserved;
+use super::row::{Row, split_inside};
 use super::search::Located;
 use iobufs_core::buf::{IoBuf, IoBufMut};
 use iobufs_core::codec::{Buf, BufError, BufMut, OwnedBytes};

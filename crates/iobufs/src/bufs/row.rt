@@ -614,19 +614,6 @@ fn show<F: FnMut(&[u8])>(entries: &[Entry], mut visit: F) -> F
     visit
 }
 
-/// Puts bytes after others that have space for them. The test always holds, as that of `IoBufMut::put_slice`.
-#[inline(always)]
-pub(crate) fn put_reserved(copy: &mut Vec<u8>, bytes: &[u8])
-    requires { vec_len copy.old + length bytes.now ≤ vec_capacity copy.old }
-    ensures items { copy.new.items ≡ copy.old.items ++ bytes.now }
-    ensures len { vec_len copy.new ≡ vec_len copy.old + length bytes.now }
-    ensures capacity { vec_capacity copy.old ≤ vec_capacity copy.new }
-{
-    if bytes.len() <= copy.capacity() - copy.len() {
-        copy.extend_from_slice(bytes).unwrap();
-    }
-}
-
 // Puts the bytes of each chunk after those of a buffer that has space for them.
 fn put_all(entries: &[Entry], copy: &mut IoBufMut)
     requires { length (pieces_bytes (views_in entries.now)) ≤ copy.old.spare }
@@ -768,7 +755,7 @@ impl Clone for Row {
     }
 }
 
-// A place sought among the ends of a row.
+// An offset that is sought among the ends of a row.
 #[derive(Drop)]
 struct Looking<'a> {
     entries: &'a VecDeque<Entry>,

@@ -5,11 +5,14 @@ ghost use Rattle.iobufs_core.specs.Chunks.{first_chunk};
 ghost use Rattle.iobufs_core.specs.MarkedText.{of_view};
 ghost use Rattle.iobufs_core.specs.Part.{empty_part, part_capacity, part_drained, part_frozen, part_overwritten, part_put, part_with_len};
 ghost use Rattle.iobufs.specs.Inside.Pieces.{pieces_bytes};
+ghost use Rattle.iobufs.specs.Visiting.{IsVisited};
+ghost use Rattle.std.specs.Fn.{CalledAtMut};
 ghost use Rattle.iobufs.specs.Parts.{HaveCapacity, IsParts, kept_parts, parts_capacity, parts_chunks, parts_fill, parts_filled, parts_frozen, parts_overwritten, parts_shared_out, parts_spare, parts_with_len, single_part, with_capacity};
 
-use super::several::Several;
+use super::several::{Several, visit_part};
 use crate::bufs::IoBufs;
-use crate::bufs::row::{NewRow, put_reserved};
+use crate::bufs::reserved::put_reserved;
+use crate::bufs::row::NewRow;
 use iobufs_core::buf::IoBufMut;
 use iobufs_core::codec::{Buf, BufError, BufMut};
 use std::alloc::{AllocError, Global};
@@ -150,7 +153,8 @@ fn push_chunk<'a>(
     requires { length chunks.items ≤ max }
     ensures few { IfOk result (λ more. length more.items ≤ max) }
     ensures pushed { IfOk result (λ more.
-        map (λ chunk. chunk.now) more.items ≡ take max (map (λ chunk. chunk.now) chunks.entry.items ++ parts_chunks (part.now ∷ []))) }
+        map (λ chunk. chunk.now) more.items
+        ≡ take max (map (λ chunk. chunk.now) chunks.entry.items ++ parts_chunks (part.now ∷ []))) }
 {
     if chunks.len() < max && !part.is_empty() {
         chunks.push(part.as_ref())?;
@@ -175,7 +179,8 @@ fn add_frozen(alloc: Global, row: &mut NewRow, part: &mut IoBufMut) -> Result<()
     requires fits { length (pieces_bytes row.old.views) + length part.old.filled < 2 ^ 64 }
     requires room { length row.old.views < row.old.room }
     ensures added { OnOk result (row.new.views
-        ≡ (if length (part_frozen part.old).bytes == 0 then row.old.views else row.old.views ++ part_frozen part.old ∷ [])) }
+        ≡ (if length (part_frozen part.old).bytes == 0 then row.old.views
+        else row.old.views ++ part_frozen part.old ∷ [])) }
     ensures same_room { OnOk result (row.new.room ≡ row.old.room) }
     ensures capacity { part_capacity part.new ≤ part_capacity part.old }
     ensures memory { IsOkUnless result BufError.Memory }
@@ -192,7 +197,8 @@ fn add_some(alloc: Global, row: &mut NewRow, part: &mut IoBufMut) -> Result<(), 
     requires fits { length (pieces_bytes row.old.views) + length part.old.filled < 2 ^ 64 }
     requires room { length row.old.views < row.old.room }
     ensures added { OnOk result (row.new.views
-        ≡ (if length (part_frozen part.old).bytes == 0 then row.old.views else row.old.views ++ part_frozen part.old ∷ [])) }
+        ≡ (if length (part_frozen part.old).bytes == 0 then row.old.views
+        else row.old.views ++ part_frozen part.old ∷ [])) }
     ensures same_room { OnOk result (row.new.room ≡ row.old.room) }
     ensures capacity { part_capacity part.new ≤ part_capacity part.old }
     ensures memory { IsOkUnless result BufError.Memory }
@@ -369,6 +375,16 @@ impl Few {
         let rest = copy_share(&mut self.first, src);
         let rest = copy_share(&mut self.second, rest);
         copy_share(&mut self.third, rest);
+    }
+
+    /// Calls `visit` on the bytes of each part that holds some, in order.
+    pub(super) fn for_each_chunk_mut<F: FnMut(&mut [u8])>(&mut self, visit: F)
+        requires { F.IsAlwaysCallable visit }
+        ensures { (last : F) × IsVisited (λ f x g y. CalledAtMut F.FnMut f x tt g y) visit self.old last self.new }
+    {
+        let visit = visit_part(&mut self.first, visit);
+        let visit = visit_part(&mut self.second, visit);
+        visit_part(&mut self.third, visit);
     }
 
     /// Drops the first `n` bytes. The storage of a drained buffer without capacity is freed once another can hold a

@@ -5,10 +5,13 @@ ghost use Rattle.iobufs_core.specs.Chunks.{first_chunk};
 ghost use Rattle.iobufs_core.specs.MarkedText.{of_view, text_append};
 ghost use Rattle.iobufs_core.specs.Part.{empty_part, part_capacity, part_frozen};
 ghost use Rattle.iobufs.specs.Inside.PartOrder.{AreBehind, HaveNoSpare, first_drained, in_order};
+ghost use Rattle.iobufs.specs.Visiting.{IsVisited};
+ghost use Rattle.std.specs.Fn.{CalledAtMut};
 ghost use Rattle.iobufs.specs.Parts.{HaveCapacity, IsParts, kept_parts, parts_capacity, parts_chunks, parts_drained, parts_fill, parts_filled, parts_frozen, parts_overwritten, parts_spare, parts_with_len, single_part};
 
 use crate::bufs::IoBufs;
-use crate::bufs::row::{NewRow, put_reserved};
+use crate::bufs::reserved::put_reserved;
+use crate::bufs::row::NewRow;
 use iobufs_core::buf::{IoBuf, IoBufMut};
 use iobufs_core::codec::{Buf, BufError, BufMut};
 use std::alloc::{AllocError, Global};
@@ -29,8 +32,7 @@ pub(super) struct Several {
     row: VecDeque<IoBufMut>,
     used: usize,
     // The first `full` buffers in order are known to have no spare capacity. A put begins after them, so many small
-    // puts
-    // walk over the buffers once.
+    // puts walk over the buffers once.
     full: usize,
     len: usize,
     capacity: usize,
@@ -208,6 +210,14 @@ impl Several {
         ensures { self.new ≡ parts_overwritten self.old src.now }
     {
         copy_from_slice(&mut self.row, src);
+    }
+
+    /// Calls `visit` on the bytes of each part that holds some, in order.
+    pub(super) fn for_each_chunk_mut<F: FnMut(&mut [u8])>(&mut self, visit: F)
+        requires { F.IsAlwaysCallable visit }
+        ensures { (last : F) × IsVisited (λ f x g y. CalledAtMut F.FnMut f x tt g y) visit self.old last self.new }
+    {
+        visit_all(&mut self.row, visit);
     }
 
     /// Drops the first `n` bytes, and with two or more the parts that can't hold a byte any more, but for the last one.
@@ -424,6 +434,31 @@ fn copy_from_slice(parts: &mut VecDeque<IoBufMut>, src: &[u8])
         let (share, behind) = rest.split_at(part.len());
         part.as_mut().copy_from_slice(share);
         rest = behind;
+    }
+}
+
+// Calls `visit` on the bytes of a part, if it holds some, and returns it.
+pub(super) fn visit_part<F: FnMut(&mut [u8])>(part: &mut IoBufMut, mut visit: F) -> F
+    requires { F.IsAlwaysCallable visit }
+    ensures callable { F.IsAlwaysCallable result }
+    ensures visited { IsVisited (λ f x g y. CalledAtMut F.FnMut f x tt g y) visit
+        (part.old ∷ []) result (part.new ∷ []) }
+{
+    if !part.is_empty() {
+        visit(part.as_mut());
+    }
+    visit
+}
+
+// Calls `visit` on the bytes of each part that holds some, in the order of the deque.
+#[tactic(auto, using(crate::proofs::Parts::Visited::visiting))]
+fn visit_all<F: FnMut(&mut [u8])>(parts: &mut VecDeque<IoBufMut>, mut visit: F)
+    requires { F.IsAlwaysCallable visit }
+    ensures { (last : F) × IsVisited (λ f x g y. CalledAtMut F.FnMut f x tt g y) visit
+        parts.old.items last parts.new.items }
+{
+    for i in 0..parts.len() {
+        visit = visit_part(&mut parts[i], visit);
     }
 }
 

@@ -1,9 +1,9 @@
 // Each caller once, without allocation failure.
 use crate::same::assert_same;
+use iobufs::bufs::IoBufs;
 use iobufs_core::buf::IoBuf;
 use iobufs_core::codec::BufError;
 use iobufs_examples::frame::{echo, frame, read_frame};
-use iobufs_examples::send::send;
 use iobufs_examples::store::store;
 use iobufs_made::{chunks, parts, text};
 use std::alloc::Global;
@@ -26,11 +26,11 @@ fn frames_are_lengths_and_bodies(rt: HostRuntime) -> Result<(), Fail> {
 }
 
 #[test]
-fn chunks_are_sent_two_at_a_time(rt: HostRuntime) -> Result<(), Fail> {
+fn chunks_are_written_in_order(rt: HostRuntime) -> Result<(), Fail> {
     let alloc = rt.alloc();
     let mut text = text(alloc, &PIECES)?;
     let mut to = Vec::from_slice(alloc, b">")?;
-    send(alloc, &mut to, &mut text, 2)?;
+    text.write_to(&mut to)?;
     assert_same!(rt; (to.as_slice(), text.is_empty()), (b">abcdef".as_slice(), true));
     Ok(())
 }
@@ -56,34 +56,61 @@ impl Write for Refuses {
     }
 }
 
-// The number of bytes left of three chunks if the write after `before` others fails, or `None` if all are sent.
-fn left_behind(alloc: Global, most: usize, before: usize) -> Result<Option<usize>, BufError> {
+// The number of bytes left of three chunks if the write after `before` others fails, or `None` if all are written.
+fn left_behind(alloc: Global, before: usize) -> Result<Option<usize>, BufError> {
     let mut text = text(alloc, &PIECES)?;
-    let sent = send(alloc, &mut Refuses { before }, &mut text, most);
-    Ok(sent.is_err().then_some(text.len()))
+    let written = text.write_to(&mut Refuses { before });
+    Ok(written.is_err().then_some(text.len()))
 }
 
-// How many chunks are sent at a time, how many writes come before the one that is refused, and what is left. Each chunk
-// is a write. If the first write of a batch is refused, `send` returns the error; if another one is, the writer returns
-// how many bytes it took, and the next batch begins there. No chunk at a time is an error.
-const BATCHES: [(usize, usize, Option<usize>); 10] = [
-    (1, 0, Some(6)),
-    (1, 1, Some(4)),
-    (1, 2, Some(2)),
-    (2, 0, Some(6)),
-    (2, 1, None),
-    (2, 2, Some(2)),
-    (3, 1, None),
-    (3, 2, None),
-    (3, 3, None),
-    (0, usize::MAX, Some(6)),
-];
+// How many writes come before the one that is refused, and what is left. Each chunk is a write.
+const WRITES: [(usize, Option<usize>); 4] = [(0, Some(6)), (1, Some(4)), (2, Some(2)), (3, None)];
 
 #[test]
-fn batches_begin_where_they_should(rt: HostRuntime) -> Result<(), Fail> {
-    for (most, before, left) in BATCHES {
-        assert_same!(rt; left_behind(rt.alloc(), most, before)?, left, "{most} {before}");
+fn refused_chunks_are_left(rt: HostRuntime) -> Result<(), Fail> {
+    for (before, left) in WRITES {
+        assert_same!(rt; left_behind(rt.alloc(), before)?, left, "{before}");
     }
+    Ok(())
+}
+
+// A writer that is interrupted before each write, and then takes at most two bytes.
+#[derive(Drop)]
+struct Stutters {
+    to: Vec<u8>,
+    is_ready: bool,
+}
+
+impl Write for Stutters {
+    fn write(&mut self, buf: &[u8]) -> io::Result<usize> {
+        self.is_ready = !self.is_ready;
+        if self.is_ready {
+            return Err(io::Error::from(ErrorKind::Interrupted));
+        }
+        let n = buf.len().min(2);
+        self.to.extend_from_slice(&buf[..n])?;
+        Ok(n)
+    }
+
+    fn flush(&mut self) -> io::Result<()> {
+        Ok(())
+    }
+}
+
+#[test]
+fn many_chunks_are_written_bit_by_bit(rt: HostRuntime) -> Result<(), Fail> {
+    let alloc = rt.alloc();
+    let mut text = IoBufs::default();
+    for _ in 0..5000 {
+        text.append(alloc, IoBuf::from(b"abc".as_slice()))?;
+    }
+    let all = text.to_vec(alloc)?;
+    let mut to = Stutters {
+        to: Vec::new(alloc),
+        is_ready: false,
+    };
+    text.write_to(&mut to)?;
+    assert_same!(rt; (to.to.as_slice() == all.as_slice(), text.is_empty()), (true, true));
     Ok(())
 }
 

@@ -1,4 +1,4 @@
-use Rattle.iobufs.proofs.Text.{Inside, List, View, ap, arith, bytes-several, length, length-bytes, length-kept, nat_eq, not_zero, pieced-as, pieces_bytes, sym, views, [], ◌∙◌, ◌∷◌, ◌≡◌}
+use Rattle.iobufs.proofs.Text.{Inside, List, View, ap, arith, bytes-several, length, length-bytes, length-kept, nat_eq, not_zero, pieced-as, pieces_bytes, sym, views, [], ◌∙◌}
 use Rattle.iobufs.proofs.bufs.IoBufs.is_empty.Goals as goal
 
 pub returns-in-One : goal.returns-in-One

@@ -13,5 +13,6 @@ copy_from-requires-clause-inside c =
 pub returns : goal.returns
 returns c =
     c.copy_from.ensures
-    ∙ ap (take _) (from-place c.self.inside.pieces c.args.skip c.locate-place.result.index c.locate-place.result.offset c.locate-place.ensures.place.sum
+    ∙ ap (take _) (from-place c.self.inside.pieces c.args.skip c.locate-place.result.index c.locate-place.result.offset
+    c.locate-place.ensures.place.sum
     ∙ ap (drop c.args.skip) (bytes-kept c.self.inside _ c.self.view_is))

@@ -81,8 +81,8 @@ pub returns-in_err-truncate-clause-static_text : goal.returns-in_err-truncate-cl
 returns-in_err-truncate-clause-static_text c = λ static.
     let first = c.locate-first.ensures.place in
     let full = c.locate-first.ensures.full in
-    let (piece, inside, alone) = static-range _ _ c.args.range.start c.args.range.end _ _ _ _ c.self.view_is full first c.locate-last.ensures.place
-    (omega (arith, c.requires.order, c.if-start-end.false))
+    let (piece, inside, alone) = static-range _ _ c.args.range.start c.args.range.end _ _ _ _ c.self.view_is full first
+    c.locate-last.ensures.place (omega (arith, c.requires.order, c.if-start-end.false))
     (omega (arith, c.requires.inside, length-kept c.self.inside _ c.self.view_is)) static in
     let left = static-run _ _ c.drop_front.new.self c.args.range.start (c.args.range.end - c.args.range.start) _ _ _ full first
     c.in_ok-pieces.ensures.run alone (omega (arith, c.requires.order, c.if-start-end.false)) inside piece c.drop_front.ensures in

@@ -35,7 +35,10 @@ loop-index-preserved c =
     let i = c.loop-index.index in
     let is = c.as_ref.ensures ∙ ap (λ (v : View). v.bytes) c.piece.ensures in
     let parts = bytes-from ours i 0 (omega arith) (omega arith) ∙ ap (λ xs. xs ++ pieces_bytes (drop (i + 1) ours)) (sym is) in
-    record { offset = c.in-Some.ensures.0; matched = matched-more _ _ _ _ c.as_ref.result.now _ _ c.loop-index.invariant.matched parts c.in-Some.ensures.1 }
+    record {
+      offset = c.in-Some.ensures.0;
+      matched = matched-more _ _ _ _ c.as_ref.result.now _ _ c.loop-index.invariant.matched parts c.in-Some.ensures.1;
+    }
 
 pub returns : goal.returns
 returns c =

@@ -4,12 +4,14 @@ use Rattle.iobufs.proofs.builder.BuilderBufsMut.push_bytes.Goals as goal
 
 pub returns-in-Err-clause-too_long : goal.returns-in-Err-clause-too_long
 returns-in-Err-clause-too_long c =
-    let limit = pushes-kept c.self.inside.inline c.self.inside.pushes.segments _ c.self.inside.pushable _ c.self.invariant.limited c.self.view_is in
+    let limit = pushes-kept c.self.inside.inline c.self.inside.pushes.segments _ c.self.inside.pushable _
+    c.self.invariant.limited c.self.view_is in
     λ (long : room_for_pushes c.args.self.now < length c.args.bytes). c.in-Err.ensures.too_long (omega arith)
 
 pub returns-in-Err-clause-memory : goal.returns-in-Err-clause-memory
 returns-in-Err-clause-memory c =
-    let limit = pushes-kept c.self.inside.inline c.self.inside.pushes.segments _ c.self.inside.pushable _ c.self.invariant.limited c.self.view_is in
+    let limit = pushes-kept c.self.inside.inline c.self.inside.pushes.segments _ c.self.inside.pushable _
+    c.self.invariant.limited c.self.view_is in
     λ (fits : length c.args.bytes ≤ room_for_pushes c.args.self.now). c.in-Err.ensures.memory (omega arith)
 
 pub returns-clause-ok : goal.returns-clause-ok
@@ -31,5 +33,6 @@ returns-clause-ok c =
 
 pub returns-clause-too_long : goal.returns-clause-too_long
 returns-clause-too_long c =
-    let limit = pushes-kept c.self.inside.inline c.self.inside.pushes.segments _ c.self.inside.pushable _ c.self.invariant.limited c.self.view_is in
+    let limit = pushes-kept c.self.inside.inline c.self.inside.pushes.segments _ c.self.inside.pushable _
+    c.self.invariant.limited c.self.view_is in
     λ (long : room_for_pushes c.args.self.now < length c.args.bytes). c.in_default.ensures.too_long (omega arith)

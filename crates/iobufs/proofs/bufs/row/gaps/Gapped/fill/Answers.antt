@@ -52,7 +52,8 @@ loop-i-preserved c =
       count = l.invariant.count;
       room = l.invariant.room;
       left = omega (arith, l.invariant.left, done.left);
-      filling = filling-set _ l.entries.items l.i c.in-Some.piece.now c.fill_piece.new.piece l.rest c.fill_piece.new.rest l.end c.in_ok-end.end
+      filling = filling-set _ l.entries.items l.i c.in-Some.piece.now c.fill_piece.new.piece l.rest c.fill_piece.new.rest l.end
+          c.in_ok-end.end
           (omega (arith, c.loop-i-test.true, l.invariant.count, c.len-i-end.ensures, l.entries.ok.0))
           c.in-Some.ensures.value l.invariant.filling
           done.filled done.len done.left done.end.0 done.end.1 done.roomy;

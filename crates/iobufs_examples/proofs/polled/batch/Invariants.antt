@@ -1,6 +1,6 @@
 use Rattle.std.proofs.Common.{◌≡◌, ◌++◌, map}
 use Rattle.std.specs.Io.Slices.{io_slice_bytes}
-use Rattle.iobufs_examples.proofs.send.batch.Given as goal
+use Rattle.iobufs_examples.proofs.polled.batch.Given as goal
 
 abbrev pub invariant-loop-chunk : goal.invariant-loop-chunk
 invariant-loop-chunk l =
