@@ -9,25 +9,8 @@ from pages.trusted import contracts
 
 # ---- docs/API.md
 
-API = {
-    "IoBuf": "iobufs_core/src/buf/view.rt",
-    "IoBufMut": "iobufs_core/src/buf/part.rt iobufs_core/src/buf/convert.rt",
-    "IoBufs": "iobufs/src/bufs.rt",
-    "IoBufsMut": "iobufs/src/bufs_mut.rt",
-    "Builder, EncodeExt": "iobufs/src/builder.rt",
-    "Buf, OwnedBuf, Peek, OwnedBytes": "iobufs_core/src/codec/buf.rt iobufs_core/src/codec/owned_buf.rt"
-    " iobufs_core/src/codec/peek.rt",
-    "BufMut": "iobufs_core/src/codec/buf_mut.rt",
-    "BufsMut, EncodeSize, Write, Read, Encode": "iobufs_core/src/codec/wire.rt iobufs_core/src/codec/encode.rt",
-    "RangeCfg, lengths, find_end": "iobufs_core/src/codec/base.rt iobufs_core/src/codec/length.rt"
-    " iobufs/src/bufs/search.rt",
-    "Frames, Prefix, Received": "iobufs_frames/src/lib.rt iobufs_frames/src/lengths.rt iobufs_frames/src/block.rt",
-    "FrameReader, FrameWriter": "iobufs_frames/src/reader.rt iobufs_frames/src/writer.rt",
-    "FrameCodec": "iobufs_codec/src/lib.rt",
-    "Look, ByParts, IntoParts": "iobufs_values/src/look.rt iobufs_values/src/parts.rt",
-    "Machine": "iobufs_owner/src/owner.rt iobufs_owner/src/owner/reserve.rt",
-    "Table": "iobufs_run/src/table.rt",
-}
+SUBJECTS = (ROOT / "tests/pages/subjects").read_text().splitlines()
+API = dict(line.split(": ") for line in SUBJECTS if not line.startswith("#"))
 COLUMNS = re.compile(r" {2,}")  # Between two columns: len  text_len self\.old
 # The rows of conditions: what a caller knows a part of a condition by, and when a call cannot fail.
 SHORT, SURE = (
