@@ -1,6 +1,6 @@
 //! Proved callers: frames, messages, senders, stores, a cipher, a pool.
 //!
-//! - `frame`: a frame codec. `echo`: frames sent back. `store`, `fill`: writable buffers, and one, filled from a reader.
+//! - `frame`: a frame codec. `echo`: frames sent back. `store`, `fill`: writable buffers, and one filled from a reader.
 //!   `cipher`: chunks changed in place. `keys`: views as keys of a map. `pool`, a caller of the machine: the memory of
 //!   freed blocks.
 //! - `web`: bodies of HTTP messages. `polled`: senders to an async writer.

@@ -61,7 +61,8 @@ module _ {F : Type 0} (call : F → List ℕ → F → List ℕ → Type 0) wher
   visited-one f g p q made some same called is =
       let n = length p.filled in
       let whole : take n made ≡ made = take_all n made (omega arith) in
-      let bytes : q.filled ≡ made = ap (λ (r : Part). r.filled) is ∙ take-append-le n made (drop (length made) p.filled) (omega arith) ∙ whole in
+      let bytes : q.filled ≡ made = ap (λ (r : Part). r.filled) is ∙ take-append-le n made (drop (length made) p.filled) (omega arith)
+          ∙ whole in
       let all : take n (parts_filled (q ∷ [])) ≡ made = ap (take n) (filled-one q ∙ bytes) ∙ whole in record {
         turns = (p.filled, made) ∷ [];
         before = chunks-full p [] some;
