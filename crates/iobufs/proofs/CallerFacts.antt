@@ -290,9 +290,9 @@ pub visited-bytes : {F : Type 0} (call : F → List ℕ → F → List ℕ → T
 visited-bytes call P h f last old new each p v =
     let join : List (List ℕ) → List ℕ = λ chunks. flat_map (λ (chunk : List ℕ). chunk) chunks in
     let before = sym (joined-part_chunks old) ∙ ap join v.before
-        ∙ flat_map-map (λ (chunk : List ℕ). chunk) (λ (t : List ℕ × List ℕ). t.0) v.turns in
+    ∙ flat_map-map (λ (chunk : List ℕ). chunk) (λ (t : List ℕ × List ℕ). t.0) v.turns in
     let after = sym (joined-part_chunks new) ∙ ap join v.after
-        ∙ flat_map-map (λ (chunk : List ℕ). chunk) (λ (t : List ℕ × List ℕ). t.1) v.turns in
+    ∙ flat_map-map (λ (chunk : List ℕ). chunk) (λ (t : List ℕ × List ℕ). t.1) v.turns in
     v.kept ∙ ap (parts_overwritten old) (after ∙ visited-each call P h f last v.turns each p v.calls ∙ ap (map h) (sym before))
 
 pub ruleset sending = (sent_kept, sent_nothing, sent_on, sent_front, sent_all, sent_none, bytes-advanced)

@@ -62,7 +62,7 @@ module _ {F : Type 0} (call : F → List ℕ → F → List ℕ → Type 0) wher
       let n = length p.filled in
       let whole : take n made ≡ made = take_all n made (omega arith) in
       let bytes : q.filled ≡ made = ap (λ (r : Part). r.filled) is ∙ take-append-le n made (drop (length made) p.filled) (omega arith)
-          ∙ whole in
+      ∙ whole in
       let all : take n (parts_filled (q ∷ [])) ≡ made = ap (take n) (filled-one q ∙ bytes) ∙ whole in record {
         turns = (p.filled, made) ∷ [];
         before = chunks-full p [] some;

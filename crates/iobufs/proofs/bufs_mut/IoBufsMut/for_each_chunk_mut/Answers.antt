@@ -25,7 +25,7 @@ returns g c =
         turn (kept_parts w.in-Few.parts) (kept_parts w.for_each_chunk_mut.new.self) w.for_each_chunk_mut.ensures.0
             (ap shape_parts (sym w.in-Few.is) ∙ c.self.view_is) (ap the_view w.self-inside-is)
             (visited-kept call c.args.visit w.for_each_chunk_mut.ensures.0 w.in-Few.parts w.for_each_chunk_mut.new.self
-                w.for_each_chunk_mut.ensures.1),
+            w.for_each_chunk_mut.ensures.1),
       )
       | in-Many w ↦ (
         w.for_each_chunk_mut-in-Many.ensures.0,

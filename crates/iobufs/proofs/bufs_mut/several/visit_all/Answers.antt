@@ -24,7 +24,7 @@ loop-i-preserved g c =
     let here : get_or old i p ≡ p = sym (seen old i p) ∙ ap (λ (ps : List Part). get_or ps 0 p) (sym l.invariant.rest) ∙ seen now i p
     ∙ sym c.index_mut.ensures.value in
     let before : take i old ++ p ∷ [] ≡ take (i + 1) old = ap (λ (r : Part). take i old ++ r ∷ []) (sym here)
-        ∙ sym (take_more old i p was) in
+    ∙ sym (take_more old i p was) in
     let both = visited-both call c.args.visit l.visit last (take i old) (take i now) (p ∷ []) (q ∷ []) l.invariant.so_far
     c.visit_part-visit.ensures.visited in
     record {
