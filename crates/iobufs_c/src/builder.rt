@@ -93,8 +93,7 @@ pub extern "C" fn iobufs_builder_drop(builder: &mut BuilderAt)
 }
 
 /// Makes a builder for `capacity` inline bytes. Returns `Status::BadLayout` or `Status::Memory` if that fails; then
-/// `out` is
-/// unchanged.
+/// `out` is unchanged.
 #[unsafe(no_mangle)]
 pub extern "C" fn iobufs_builder_new(alloc: Global, capacity: usize, out: &mut BuilderAt) -> u8
     ensures at { out.new.at ≡ out.old.at }
@@ -209,8 +208,7 @@ pub extern "C" fn iobufs_builder_push(builder: &mut BuilderAt, piece: &mut ViewA
 }
 
 /// Finishes the builder to an `IoBufs`; none is left. Returns `Status::Memory` if an allocation fails; then the builder
-/// is
-/// dropped, and `out` unchanged.
+/// is dropped, and `out` unchanged.
 #[unsafe(no_mangle)]
 pub extern "C" fn iobufs_builder_finish(builder: &mut BuilderAt, out: &mut TextAt) -> u8
     ensures at { (builder.new.at ≡ builder.old.at) × (out.new.at ≡ out.old.at) }

@@ -21,8 +21,7 @@ use iobufs_core::codec::Read;
 use std::alloc::Global;
 
 /// Writes a big-endian number of two bytes into an `IoBufMut`. Returns `Status::OutOfRange` if it doesn't fit; then
-/// nothing
-/// changes.
+/// nothing changes.
 #[unsafe(no_mangle)]
 pub extern "C" fn iobufmut_put_u16(part: &mut PartAt, n: u16) -> u8
     ensures at { part.new.at ≡ part.old.at }
@@ -34,8 +33,7 @@ pub extern "C" fn iobufmut_put_u16(part: &mut PartAt, n: u16) -> u8
 }
 
 /// Writes a big-endian number of four bytes into an `IoBufMut`. Returns `Status::OutOfRange` if it doesn't fit; then
-/// nothing
-/// changes.
+/// nothing changes.
 #[unsafe(no_mangle)]
 pub extern "C" fn iobufmut_put_u32(part: &mut PartAt, n: u32) -> u8
     ensures at { part.new.at ≡ part.old.at }
@@ -59,8 +57,7 @@ pub extern "C" fn iobufmut_put_u64(part: &mut PartAt, n: u64) -> u8
 }
 
 /// Writes a big-endian number of two bytes into an `IoBufsMut`. Returns `Status::OutOfRange` if it doesn't fit; then
-/// nothing
-/// changes.
+/// nothing changes.
 #[unsafe(no_mangle)]
 pub extern "C" fn iobufsmut_put_u16(parts: &mut PartsAt, n: u16) -> u8
     ensures at { parts.new.at ≡ parts.old.at }
@@ -112,8 +109,7 @@ pub extern "C" fn iobufs_builder_put_u16(builder: &mut BuilderAt, n: u16) -> u8
 }
 
 /// Writes a big-endian number of four bytes into a builder. Returns `Status::OutOfRange` if it doesn't fit; then
-/// nothing
-/// changes.
+/// nothing changes.
 #[unsafe(no_mangle)]
 pub extern "C" fn iobufs_builder_put_u32(builder: &mut BuilderAt, n: u32) -> u8
     ensures at { builder.new.at ≡ builder.old.at }
@@ -126,8 +122,7 @@ pub extern "C" fn iobufs_builder_put_u32(builder: &mut BuilderAt, n: u32) -> u8
 }
 
 /// Writes a big-endian number of eight bytes into a builder. Returns `Status::OutOfRange` if it doesn't fit; then
-/// nothing
-/// changes.
+/// nothing changes.
 #[unsafe(no_mangle)]
 pub extern "C" fn iobufs_builder_put_u64(builder: &mut BuilderAt, n: u64) -> u8
     ensures at { builder.new.at ≡ builder.old.at }
@@ -140,8 +135,7 @@ pub extern "C" fn iobufs_builder_put_u64(builder: &mut BuilderAt, n: u64) -> u8
 }
 
 /// Reads a big-endian number of one byte from the front of a view, and drops it. Returns `Status::EndOfBuffer` if there
-/// are
-/// fewer; then nothing changes.
+/// are fewer; then nothing changes.
 #[unsafe(no_mangle)]
 #[tactic(auto, using(iobufs_core::proofs::CallerFacts::reading))]
 pub extern "C" fn iobuf_get_u8(alloc: Global, src: &mut ViewAt, out: &mut u8) -> u8
@@ -160,8 +154,7 @@ pub extern "C" fn iobuf_get_u8(alloc: Global, src: &mut ViewAt, out: &mut u8) ->
 }
 
 /// Reads a big-endian number of two bytes from the front of a view, and drops it. Returns `Status::EndOfBuffer` if
-/// there are
-/// fewer; then nothing changes.
+/// there are fewer; then nothing changes.
 #[unsafe(no_mangle)]
 #[tactic(auto, using(iobufs_core::proofs::CallerFacts::reading))]
 pub extern "C" fn iobuf_get_u16(alloc: Global, src: &mut ViewAt, out: &mut u16) -> u8
@@ -180,8 +173,7 @@ pub extern "C" fn iobuf_get_u16(alloc: Global, src: &mut ViewAt, out: &mut u16) 
 }
 
 /// Reads a big-endian number of four bytes from the front of a view, and drops it. Returns `Status::EndOfBuffer` if
-/// there
-/// are fewer; then nothing changes.
+/// there are fewer; then nothing changes.
 #[unsafe(no_mangle)]
 #[tactic(auto, using(iobufs_core::proofs::CallerFacts::reading))]
 pub extern "C" fn iobuf_get_u32(alloc: Global, src: &mut ViewAt, out: &mut u32) -> u8
@@ -200,8 +192,7 @@ pub extern "C" fn iobuf_get_u32(alloc: Global, src: &mut ViewAt, out: &mut u32) 
 }
 
 /// Reads a big-endian number of eight bytes from the front of a view, and drops it. Returns `Status::EndOfBuffer` if
-/// there
-/// are fewer; then nothing changes.
+/// there are fewer; then nothing changes.
 #[unsafe(no_mangle)]
 #[tactic(auto, using(iobufs_core::proofs::CallerFacts::reading))]
 pub extern "C" fn iobuf_get_u64(alloc: Global, src: &mut ViewAt, out: &mut u64) -> u8
@@ -220,8 +211,7 @@ pub extern "C" fn iobuf_get_u64(alloc: Global, src: &mut ViewAt, out: &mut u64) 
 }
 
 /// Reads a big-endian number of one byte from the front of an `IoBufs`, and drops it. Returns `Status::EndOfBuffer` if
-/// there
-/// are fewer; then nothing changes.
+/// there are fewer; then nothing changes.
 #[unsafe(no_mangle)]
 #[tactic(auto, using(iobufs_core::proofs::CallerFacts::reading))]
 pub extern "C" fn iobufs_get_u8(alloc: Global, text: &mut TextAt, out: &mut u8) -> u8
@@ -259,8 +249,7 @@ pub extern "C" fn iobufs_get_u16(alloc: Global, text: &mut TextAt, out: &mut u16
 }
 
 /// Reads a big-endian number of four bytes from the front of an `IoBufs`, and drops it. Returns `Status::EndOfBuffer`
-/// if
-/// there are fewer; then nothing changes.
+/// if there are fewer; then nothing changes.
 #[unsafe(no_mangle)]
 #[tactic(auto, using(iobufs_core::proofs::CallerFacts::reading))]
 pub extern "C" fn iobufs_get_u32(alloc: Global, text: &mut TextAt, out: &mut u32) -> u8
@@ -279,8 +268,7 @@ pub extern "C" fn iobufs_get_u32(alloc: Global, text: &mut TextAt, out: &mut u32
 }
 
 /// Reads a big-endian number of eight bytes from the front of an `IoBufs`, and drops it. Returns `Status::EndOfBuffer`
-/// if
-/// there are fewer; then nothing changes.
+/// if there are fewer; then nothing changes.
 #[unsafe(no_mangle)]
 #[tactic(auto, using(iobufs_core::proofs::CallerFacts::reading))]
 pub extern "C" fn iobufs_get_u64(alloc: Global, text: &mut TextAt, out: &mut u64) -> u8

@@ -115,8 +115,7 @@ pub extern "C" fn iobufmut_drop(part: &mut PartAt)
 }
 
 /// Allocates an empty buffer of exactly this capacity. Returns `Status::BadLayout` or `Status::Memory` if that fails;
-/// then
-/// `out` is unchanged.
+/// then `out` is unchanged.
 #[unsafe(no_mangle)]
 pub extern "C" fn iobufmut_with_capacity(alloc: Global, n: usize, out: &mut PartAt) -> u8
     ensures at { out.new.at ≡ out.old.at }
@@ -135,8 +134,7 @@ pub extern "C" fn iobufmut_with_capacity(alloc: Global, n: usize, out: &mut Part
 }
 
 /// Allocates an empty buffer, after testing the alignment. Returns `Status::BadLayout` or `Status::Memory` if that
-/// fails;
-/// then `out` is unchanged.
+/// fails; then `out` is unchanged.
 #[unsafe(no_mangle)]
 pub extern "C" fn iobufmut_with_alignment(
     alloc: Global,
@@ -180,8 +178,7 @@ pub extern "C" fn iobufmut_zeroed(alloc: Global, n: usize, out: &mut PartAt) -> 
 }
 
 /// Allocates a buffer of zeros, after testing the alignment. Returns `Status::BadLayout` or `Status::Memory` if that
-/// fails;
-/// then `out` is unchanged.
+/// fails; then `out` is unchanged.
 #[unsafe(no_mangle)]
 pub extern "C" fn iobufmut_zeroed_with_alignment(
     alloc: Global,
@@ -270,8 +267,7 @@ pub extern "C" fn iobuf_try_into_mut_init(alloc: Global, src: &mut ViewAt, out: 
 }
 
 /// Makes a writable buffer of a view, recovered as by `iobuf_try_into_mut`, else copied, and leaves the empty view.
-/// Returns
-/// `Status::Memory` if an allocation fails; then both are unchanged.
+/// Returns `Status::Memory` if an allocation fails; then both are unchanged.
 #[unsafe(no_mangle)]
 pub extern "C" fn iobufmut_from_view(alloc: Global, src: &mut ViewAt, out: &mut PartAt) -> u8
     ensures at { (src.new.at ≡ src.old.at) × (out.new.at ≡ out.old.at) }
@@ -341,8 +337,7 @@ pub extern "C" fn iobufmut_remaining_mut(part: &mut PartAt) -> usize
 }
 
 /// Writes the address of the readable bytes, if there is a buffer, and returns how many there are. No other shares
-/// them,
-/// so the caller may write there; no contract knows what.
+/// them, so the caller may write there; no contract knows what.
 #[unsafe(no_mangle)]
 pub extern "C" fn iobufmut_chunk(part: &mut PartAt, out: &mut *mut u8) -> usize
     ensures same { (part.new.at ≡ part.old.at) × (part.new.value ≡ part.old.value) }
@@ -424,8 +419,7 @@ pub extern "C" fn iobufmut_put_u8(part: &mut PartAt, n: u8) -> u8
 }
 
 /// Makes `n` bytes readable; those that were not are zero. Returns `Status::OutOfRange` above the capacity; then
-/// nothing
-/// changes.
+/// nothing changes.
 #[unsafe(no_mangle)]
 pub extern "C" fn iobufmut_set_len(part: &mut PartAt, n: usize) -> u8
     ensures at { part.new.at ≡ part.old.at }
@@ -535,8 +529,7 @@ pub extern "C" fn iobufmut_write_at(part: &mut PartAt, at: usize, src: &[u8]) ->
 }
 
 /// Freezes the buffer to a view; no buffer is left. Returns `Status::Memory` if an allocation fails (of a buffer
-/// without an
-/// `Arc` alone); then the buffer is dropped, and `out` unchanged.
+/// without an `Arc` alone); then the buffer is dropped, and `out` unchanged.
 #[unsafe(no_mangle)]
 pub extern "C" fn iobufmut_freeze(part: &mut PartAt, out: &mut ViewAt) -> u8
     ensures at { (part.new.at ≡ part.old.at) × (out.new.at ≡ out.old.at) }

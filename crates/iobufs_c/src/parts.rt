@@ -228,8 +228,7 @@ pub extern "C" fn iobufsmut_is_single(parts: &mut PartsAt) -> bool
 }
 
 /// Writes the address of the first chunk of the readable bytes, if there is a buffer, and returns its length. No other
-/// buffer
-/// shares it, so the caller may write there; no contract knows what.
+/// buffer shares it, so the caller may write there; no contract knows what.
 #[unsafe(no_mangle)]
 pub extern "C" fn iobufsmut_chunk(parts: &mut PartsAt, out: &mut *mut u8) -> usize
     ensures same { (parts.new.at ≡ parts.old.at) × (parts.new.value ≡ parts.old.value) }
@@ -244,8 +243,8 @@ pub extern "C" fn iobufsmut_chunk(parts: &mut PartsAt, out: &mut *mut u8) -> usi
     chunk.len()
 }
 
-/// Writes the address of the readable bytes of a buffer, and its capacity; returns how many there are, and 0
-/// if there is no such buffer.
+/// Writes the address of the readable bytes of a buffer, and its capacity; returns how many there are, and 0 if there
+/// is no such buffer.
 #[unsafe(no_mangle)]
 pub extern "C" fn iobufsmut_part_at(
     parts: &mut PartsAt,
@@ -387,8 +386,7 @@ pub extern "C" fn iobufsmut_put_u8(parts: &mut PartsAt, n: u8) -> u8
 }
 
 /// Makes `n` bytes readable; those that were not are zero. Returns `Status::OutOfRange` above the capacity; then
-/// nothing
-/// changes.
+/// nothing changes.
 #[unsafe(no_mangle)]
 pub extern "C" fn iobufsmut_set_len(parts: &mut PartsAt, n: usize) -> u8
     ensures at { parts.new.at ≡ parts.old.at }
@@ -471,8 +469,7 @@ pub extern "C" fn iobufsmut_copy_from_slice(parts: &mut PartsAt, src: &[u8]) -> 
 }
 
 /// Freezes the buffers that hold bytes to the chunks of one `IoBufs`; no buffers are left. Returns `Status::Memory` if
-/// an
-/// allocation fails; then they are dropped, and `out` unchanged.
+/// an allocation fails; then they are dropped, and `out` unchanged.
 #[unsafe(no_mangle)]
 pub extern "C" fn iobufsmut_freeze(alloc: Global, parts: &mut PartsAt, out: &mut TextAt) -> u8
     ensures at { (parts.new.at ≡ parts.old.at) × (out.new.at ≡ out.old.at) }
@@ -520,8 +517,7 @@ pub extern "C" fn iobufsmut_freeze_init(
 }
 
 /// Coalesces the buffers into one, with a copy of several; none are left. Returns `Status::BadLayout` or
-/// `Status::Memory` if
-/// that fails; then they are dropped, and `out` unchanged.
+/// `Status::Memory` if that fails; then they are dropped, and `out` unchanged.
 #[unsafe(no_mangle)]
 pub extern "C" fn iobufsmut_coalesce(alloc: Global, parts: &mut PartsAt, out: &mut PartAt) -> u8
     ensures at { (parts.new.at ≡ parts.old.at) × (out.new.at ≡ out.old.at) }

@@ -131,8 +131,7 @@ pub extern "C" fn iobufs_from_view(src: &mut ViewAt, out: &mut TextAt)
 }
 
 /// Makes an `IoBufs` of a writable buffer; none is left. Returns `Status::Memory` if an allocation fails; then the
-/// buffer is
-/// dropped, and `out` unchanged.
+/// buffer is dropped, and `out` unchanged.
 #[unsafe(no_mangle)]
 pub extern "C" fn iobufs_from_mut(part: &mut PartAt, out: &mut TextAt) -> u8
     ensures at { (part.new.at ≡ part.old.at) × (out.new.at ≡ out.old.at) }
@@ -263,8 +262,7 @@ pub extern "C" fn iobufs_byte_at(text: &mut TextAt, i: usize, out: &mut u8) -> b
 }
 
 /// Writes the index of the chunk that contains an offset, and the distance from its start. Returns `Status::OutOfRange`
-/// if
-/// the offset is past the bytes; then both are unchanged.
+/// if the offset is past the bytes; then both are unchanged.
 #[unsafe(no_mangle)]
 pub extern "C" fn iobufs_locate(
     text: &mut TextAt,
@@ -289,8 +287,7 @@ pub extern "C" fn iobufs_locate(
 }
 
 /// Appends a view, and leaves its handle empty. Returns `Status::TooLong` or `Status::Memory` if that fails; then both
-/// are
-/// unchanged.
+/// are unchanged.
 #[unsafe(no_mangle)]
 pub extern "C" fn iobufs_append(alloc: Global, text: &mut TextAt, piece: &mut ViewAt) -> u8
     ensures at { (text.new.at ≡ text.old.at) × (piece.new.at ≡ piece.old.at) }
@@ -315,8 +312,7 @@ pub extern "C" fn iobufs_append(alloc: Global, text: &mut TextAt, piece: &mut Vi
 }
 
 /// Prepends a view, and leaves its handle empty. Returns `Status::TooLong` or `Status::Memory` if that fails; then both
-/// are
-/// unchanged.
+/// are unchanged.
 #[unsafe(no_mangle)]
 pub extern "C" fn iobufs_prepend(alloc: Global, text: &mut TextAt, piece: &mut ViewAt) -> u8
     ensures at { (text.new.at ≡ text.old.at) × (piece.new.at ≡ piece.old.at) }
@@ -500,8 +496,7 @@ pub extern "C" fn iobufs_copy_to_slice(text: &mut TextAt, dst: &mut [u8]) -> u8
 }
 
 /// Copies the bytes after the first `skip` out; none are dropped. Returns `Status::EndOfBuffer` if there are fewer;
-/// then nothing
-/// is written.
+/// then nothing is written.
 #[unsafe(no_mangle)]
 pub extern "C" fn iobufs_peek(text: &mut TextAt, skip: usize, dst: &mut [u8]) -> u8
     ensures same { (text.new.at ≡ text.old.at) × (text.new.value ≡ text.old.value) }
@@ -521,8 +516,7 @@ pub extern "C" fn iobufs_peek(text: &mut TextAt, skip: usize, dst: &mut [u8]) ->
 }
 
 /// Takes the first bytes as one view: in the storage of their chunk, or a copy across chunks. Returns
-/// `Status::EndOfBuffer`
-/// if there are fewer, or `Status::Memory`; then both are unchanged.
+/// `Status::EndOfBuffer` if there are fewer, or `Status::Memory`; then both are unchanged.
 #[unsafe(no_mangle)]
 pub extern "C" fn iobufs_take(alloc: Global, text: &mut TextAt, n: usize, out: &mut ViewAt) -> u8
     ensures at { (text.new.at ≡ text.old.at) × (out.new.at ≡ out.old.at) }
@@ -613,8 +607,7 @@ pub extern "C" fn iobufs_take_after(
 }
 
 /// Coalesces the chunks into one view, with a copy of several, and leaves an empty `IoBufs`. Returns
-/// `Status::BadLayout` or
-/// `Status::Memory` if that fails; then the bytes are dropped: clone them first to keep them.
+/// `Status::BadLayout` or `Status::Memory` if that fails; then the bytes are dropped: clone them first to keep them.
 #[unsafe(no_mangle)]
 pub extern "C" fn iobufs_coalesce(alloc: Global, text: &mut TextAt, out: &mut ViewAt) -> u8
     ensures at { (text.new.at ≡ text.old.at) × (out.new.at ≡ out.old.at) }
@@ -636,8 +629,7 @@ pub extern "C" fn iobufs_coalesce(alloc: Global, text: &mut TextAt, out: &mut Vi
 }
 
 /// Takes the only chunk as a view, and leaves an empty `IoBufs`. Returns `Status::Declined` if there are more; then
-/// both are
-/// unchanged.
+/// both are unchanged.
 #[unsafe(no_mangle)]
 pub extern "C" fn iobufs_try_into_single(text: &mut TextAt, out: &mut ViewAt) -> u8
     ensures at { (text.new.at ≡ text.old.at) × (out.new.at ≡ out.old.at) }

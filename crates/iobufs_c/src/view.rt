@@ -248,8 +248,7 @@ pub extern "C" fn iobuf_advance(src: &mut ViewAt, n: usize) -> u8
 }
 
 /// Splits the first bytes off, in the same storage. Returns `Status::OutOfRange` if there are fewer, or
-/// `Status::Memory`;
-/// then both are unchanged.
+/// `Status::Memory`; then both are unchanged.
 #[unsafe(no_mangle)]
 pub extern "C" fn iobuf_split_to(src: &mut ViewAt, at: usize, out: &mut ViewAt) -> u8
     ensures at { (src.new.at ≡ src.old.at) × (out.new.at ≡ out.old.at) }
@@ -299,8 +298,7 @@ pub extern "C" fn iobuf_split_to_init(src: &mut ViewAt, at: usize, out: &mut Vie
 }
 
 /// Takes the first bytes as a view of its own. Returns `Status::EndOfBuffer` if there are fewer, or `Status::Memory`;
-/// then
-/// both are unchanged.
+/// then both are unchanged.
 #[unsafe(no_mangle)]
 pub extern "C" fn iobuf_take(alloc: Global, src: &mut ViewAt, n: usize, out: &mut ViewAt) -> u8
     ensures at { (src.new.at ≡ src.old.at) × (out.new.at ≡ out.old.at) }
@@ -378,7 +376,8 @@ pub extern "C" fn iobuf_slice(
     ensures inside { IfSome (bound_from_c lo_kind lo) (λ from. IfSome (bound_from_c hi_kind hi) (λ to.
         range_fits from to (length src.old.value.bytes) ≡ true → IsDoneUnless result Status.Memory)) }
     ensures nothing { IfSome (bound_from_c lo_kind lo) (λ from. IfSome (bound_from_c hi_kind hi) (λ to.
-        range_fits from to (length src.old.value.bytes) ≡ true → start_place from ≡ end_place to (length src.old.value.bytes) → result ≡ 0)) }
+        range_fits from to (length src.old.value.bytes) ≡ true
+        → start_place from ≡ end_place to (length src.old.value.bytes) → result ≡ 0)) }
     ensures static_text { IfSome (bound_from_c lo_kind lo) (λ from. IfSome (bound_from_c hi_kind hi) (λ to.
         range_fits from to (length src.old.value.bytes) ≡ true → src.old.value.mark ≡ static_mark → result ≡ 0)) }
     ensures bad_start { IfNone (bound_from_c lo_kind lo)
@@ -403,8 +402,7 @@ pub extern "C" fn iobuf_slice(
 }
 
 /// Makes a view of the bytes from `lo` to `hi`, in the same storage, of memory that holds none. Returns
-/// `Status::OutOfRange`
-/// if they aren't within the bytes, or `Status::Memory`; then there is none.
+/// `Status::OutOfRange` if they aren't within the bytes, or `Status::Memory`; then there is none.
 #[unsafe(no_mangle)]
 pub extern "C" fn iobuf_slice_init(src: &mut ViewAt, lo: usize, hi: usize, out: &mut ViewRoom) -> u8
     requires { out.old.value ≡ None }
@@ -430,8 +428,7 @@ pub extern "C" fn iobuf_slice_init(src: &mut ViewAt, lo: usize, hi: usize, out: 
 }
 
 /// Makes a view of bytes that live, unchanged, until the last buffer made of them is dropped. The contract takes them
-/// for
-/// static: only buffers made of them have their address, so nothing reads them after that.
+/// for static: only buffers made of them have their address, so nothing reads them after that.
 #[unsafe(no_mangle)]
 pub extern "C" fn iobuf_from_static(text: &'static [u8], out: &mut ViewAt)
     ensures at { out.new.at ≡ out.old.at }
