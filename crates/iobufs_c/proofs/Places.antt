@@ -40,12 +40,12 @@ use denote.Param.Send.{IsSend, Quiet, part_keyless, owning_send, struct_send, se
 use base.Shift.{Keyless}
 
 -- a value's exit is quiet if that of its fields is
-pub quiet : {D X : Type 0} (to : D → X) (e : Exit X) → Quiet e → Quiet (hidden (under to e))
+quiet : {D X : Type 0} (to : D → X) (e : Exit X) → Quiet e → Quiet (hidden (under to e))
 quiet to unchanged q = λ x w. tt
 quiet to (leaves L l S s r₀) q = λ d. q (to d)
 
 -- the memory of a value may go to another thread if the value may
-pub lies : (V : RattleType) → IsSend V → (p : Ptr) (x : V.Denot) → Keyless (lies_at V full_share p x)
+lies : (V : RattleType) → IsSend V → (p : Ptr) (x : V.Denot) → Keyless (lies_at V full_share p x)
 lies V s (block_ptr b o) x = part_keyless V s full_share x b o
 lies V s null_ptr x = tt
 

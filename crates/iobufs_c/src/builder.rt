@@ -66,14 +66,6 @@ pub extern "C" fn iobufs_builder_size() -> usize
     mem::size_of::<Option<Builder>>()
 }
 
-/// Returns the alignment of a builder.
-#[unsafe(no_mangle)]
-pub extern "C" fn iobufs_builder_align() -> usize
-    ensures value { result ≡ 8 }
-{
-    mem::align_of::<Option<Builder>>()
-}
-
 /// Makes a handle of memory, without a builder.
 #[unsafe(no_mangle)]
 pub unsafe extern "C" fn iobufs_builder_init(at: *mut u8)

@@ -1,5 +1,5 @@
 // Writable buffers, reached by their handles.
-ghost use Rattle.std.specs.Prelude.{◌≡◌, ◌<◌, ◌==◌, if◌then◌else◌, ◌∷◌, [], length, take, replicate, ◌+◌, nat_le, Option, Some, None, IsTrue, true, false, MatchOption, Ok, Err};
+ghost use Rattle.std.specs.Prelude.{◌≡◌, ◌==◌, if◌then◌else◌, ◌∷◌, [], length, take, replicate, ◌+◌, nat_le, Option, Some, None, IsTrue, false, MatchOption, Ok, Err};
 ghost use Rattle.std.specs.Borrow.{sem, Lends, full_share};
 ghost use Rattle.std.specs.Option.{option_map};
 ghost use Rattle.std.specs.Ptr.{lies_at, null_ptr, room_at};
@@ -10,9 +10,9 @@ ghost use Rattle.iobufs_c.specs.Codes.{IsDoneUnless, code_of};
 ghost use Rattle.iobufs_c.specs.Rows.{part_or_empty, part_row, part_written_at};
 
 use crate::status::{Status, refusal};
-use crate::view::{ViewAt, ViewRoom, address};
+use crate::view::{ViewAt, address};
 use iobufs_core::buf::{IoBuf, IoBufMut};
-use iobufs_core::codec::{Buf, BufError, BufMut};
+use iobufs_core::codec::{Buf, BufMut};
 use std::alloc::Global;
 use std::marker::{Model, Send};
 use std::mem;
@@ -48,32 +48,6 @@ impl PartAt {
     }
 }
 
-/// The handle of memory for a writable buffer: of one that isn't made yet, or of a buffer, or of none.
-#[repr(C)]
-pub struct PartRoom {
-    at: *mut u8,
-    ghost value: { Option (Option Part) },
-}
-
-impl Model for PartRoom {
-    ghost use Rattle.iobufs_c.specs.Rows.{may_lie_at, part_row};
-
-    ghost also_owns = { λ h. may_lie_at part_row h.at h.value };
-}
-
-// It may go to another thread (proofs/part/PartRoom/TheSendSync).
-unsafe impl Send for PartRoom {}
-
-impl PartRoom {
-    /// Makes a buffer of memory that holds none.
-    pub(crate) fn make(&mut self, part: Option<IoBufMut>)
-        requires { self.old.value ≡ None }
-        ensures { (self.new.at ≡ self.old.at) × (self.new.value ≡ Some part) }
-    {
-        unsafe { (self.at as *mut Option<IoBufMut>).write(part) }
-    }
-}
-
 fn none() -> Option<IoBufMut>
     ensures { result ≡ None }
 {
@@ -86,14 +60,6 @@ pub extern "C" fn iobufmut_size() -> usize
     ensures value { result ≡ 64 }
 {
     mem::size_of::<Option<IoBufMut>>()
-}
-
-/// Returns the alignment of a buffer.
-#[unsafe(no_mangle)]
-pub extern "C" fn iobufmut_align() -> usize
-    ensures value { result ≡ 8 }
-{
-    mem::align_of::<Option<IoBufMut>>()
 }
 
 /// Makes a handle of memory, without a buffer.
@@ -133,30 +99,6 @@ pub extern "C" fn iobufmut_with_capacity(alloc: Global, n: usize, out: &mut Part
     }
 }
 
-/// Allocates an empty buffer, after testing the alignment. Returns `Status::BadLayout` or `Status::Memory` if that
-/// fails; then `out` is unchanged.
-#[unsafe(no_mangle)]
-pub extern "C" fn iobufmut_with_alignment(
-    alloc: Global,
-    n: usize,
-    align: usize,
-    out: &mut PartAt,
-) -> u8
-    ensures at { out.new.at ≡ out.old.at }
-    ensures value { out.new.value ≡ (if result == 0 then Some (empty_part n) else out.old.value) }
-    ensures bad_layout { IsTrue (bad_layout n align) → result ≡ code_of Status.BadLayout }
-    ensures good_layout { bad_layout n align ≡ false → IsDoneUnless result Status.Memory }
-    ensures nothing { n ≡ 0 → result ≡ 0 }
-{
-    match IoBufMut::with_alignment(alloc, n, align) {
-        Ok(part) => {
-            *out.get() = Some(part);
-            Status::Done.code()
-        }
-        Err(cause) => refusal(cause),
-    }
-}
-
 /// Allocates a buffer of `n` zeros. Returns `Status::BadLayout` or `Status::Memory` if that fails; then `out` is
 /// unchanged.
 #[unsafe(no_mangle)]
@@ -169,31 +111,6 @@ pub extern "C" fn iobufmut_zeroed(alloc: Global, n: usize, out: &mut PartAt) -> 
     ensures nothing { n ≡ 0 → result ≡ 0 }
 {
     match IoBufMut::zeroed(alloc, n) {
-        Ok(part) => {
-            *out.get() = Some(part);
-            Status::Done.code()
-        }
-        Err(cause) => refusal(cause),
-    }
-}
-
-/// Allocates a buffer of zeros, after testing the alignment. Returns `Status::BadLayout` or `Status::Memory` if that
-/// fails; then `out` is unchanged.
-#[unsafe(no_mangle)]
-pub extern "C" fn iobufmut_zeroed_with_alignment(
-    alloc: Global,
-    n: usize,
-    align: usize,
-    out: &mut PartAt,
-) -> u8
-    ensures at { out.new.at ≡ out.old.at }
-    ensures value { out.new.value ≡ (if result == 0 then Some
-        (record { filled = replicate n 0; spare = 0 }) else out.old.value) }
-    ensures bad_layout { IsTrue (bad_layout n align) → result ≡ code_of Status.BadLayout }
-    ensures good_layout { bad_layout n align ≡ false → IsDoneUnless result Status.Memory }
-    ensures nothing { n ≡ 0 → result ≡ 0 }
-{
-    match IoBufMut::zeroed_with_alignment(alloc, n, align) {
         Ok(part) => {
             *out.get() = Some(part);
             Status::Done.code()
@@ -244,28 +161,6 @@ pub extern "C" fn iobuf_try_into_mut(alloc: Global, src: &mut ViewAt, out: &mut 
     }
 }
 
-/// Recovers a view as `iobuf_try_into_mut` does, into memory that holds no buffer.
-#[unsafe(no_mangle)]
-pub extern "C" fn iobuf_try_into_mut_init(alloc: Global, src: &mut ViewAt, out: &mut PartRoom) -> u8
-    requires { out.old.value ≡ None }
-    ensures at { (src.new.at ≡ src.old.at) × (out.new.at ≡ out.old.at) }
-    ensures recovered { result ≡ 0 → (src.new.value ≡ default_view) × MatchOption out.new.value ⊥ (λ made.
-        MatchOption made ⊥ (λ part. IsRecovery src.old.value (Ok part))) }
-    ensures declined { (result == 0) ≡ false → (src.new.value ≡ src.old.value) × (out.new.value ≡ None)
-        × IsRecovery src.old.value (Err src.old.value) }
-    ensures result { IsDoneUnless result Status.Declined }
-{
-    let part = match mem::take(src.get()).try_into_mut(alloc) {
-        Ok(part) => part,
-        Err(view) => {
-            *src.get() = view;
-            return Status::Declined.code();
-        }
-    };
-    out.make(Some(part));
-    Status::Done.code()
-}
-
 /// Makes a writable buffer of a view, recovered as by `iobuf_try_into_mut`, else copied, and leaves the empty view.
 /// Returns `Status::Memory` if an allocation fails; then both are unchanged.
 #[unsafe(no_mangle)]
@@ -297,18 +192,6 @@ pub extern "C" fn iobufmut_len(part: &mut PartAt) -> usize
     match part.get() {
         Some(part) => part.len(),
         None => 0,
-    }
-}
-
-/// Returns whether no byte is readable.
-#[unsafe(no_mangle)]
-pub extern "C" fn iobufmut_is_empty(part: &mut PartAt) -> bool
-    ensures same { (part.new.at ≡ part.old.at) × (part.new.value ≡ part.old.value) }
-    ensures value { result ≡ (length (part_or_empty part.old.value).filled == 0) }
-{
-    match part.get() {
-        Some(part) => part.is_empty(),
-        None => true,
     }
 }
 
@@ -449,17 +332,6 @@ pub extern "C" fn iobufmut_truncate(part: &mut PartAt, n: usize)
     }
 }
 
-/// Drops all bytes, and keeps the capacity.
-#[unsafe(no_mangle)]
-pub extern "C" fn iobufmut_clear(part: &mut PartAt)
-    ensures at { part.new.at ≡ part.old.at }
-    ensures value { part.new.value ≡ option_map (λ part. part_truncated part 0) part.old.value }
-{
-    if let Some(part) = part.get() {
-        part.clear();
-    }
-}
-
 /// Drops the first bytes. Returns `Status::OutOfRange` if there are fewer; then nothing changes.
 #[unsafe(no_mangle)]
 pub extern "C" fn iobufmut_advance(part: &mut PartAt, n: usize) -> u8
@@ -550,25 +422,4 @@ pub extern "C" fn iobufmut_freeze(part: &mut PartAt, out: &mut ViewAt) -> u8
         }
         Err(_) => Status::Memory.code(),
     }
-}
-
-/// Freezes the buffer as `iobufmut_freeze` does, into memory that holds no view.
-#[unsafe(no_mangle)]
-pub extern "C" fn iobufmut_freeze_init(part: &mut PartAt, out: &mut ViewRoom) -> u8
-    requires { out.old.value ≡ None }
-    ensures at { (part.new.at ≡ part.old.at) × (out.new.at ≡ out.old.at) }
-    ensures part { part.new.value ≡ None }
-    ensures value { out.new.value ≡ (if result == 0 then Some (part_frozen (part_or_empty part.old.value)) else None) }
-    ensures memory { IsDoneUnless result Status.Memory }
-    ensures nothing { length (part_or_empty part.old.value).filled ≡ 0 → result ≡ 0 }
-{
-    let Some(part) = mem::replace(part.get(), None) else {
-        out.make(IoBuf::default());
-        return Status::Done.code();
-    };
-    let Ok(view) = part.freeze() else {
-        return Status::Memory.code();
-    };
-    out.make(view);
-    Status::Done.code()
 }

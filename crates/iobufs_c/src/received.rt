@@ -64,14 +64,6 @@ pub extern "C" fn iobufs_received_size() -> usize
     mem::size_of::<Option<Received>>()
 }
 
-/// Returns the alignment of a receive block.
-#[unsafe(no_mangle)]
-pub extern "C" fn iobufs_received_align() -> usize
-    ensures value { result ≡ 8 }
-{
-    mem::align_of::<Option<Received>>()
-}
-
 /// Makes a handle of memory, with no receive block.
 #[unsafe(no_mangle)]
 pub unsafe extern "C" fn iobufs_received_init(at: *mut u8)

@@ -11,7 +11,7 @@ pub enum Status {
     Done,
     /// An allocation failed.
     Memory,
-    /// The alignment is no power of two, or the capacity is too large.
+    /// The capacity is too large.
     BadLayout,
     /// A sum of lengths or capacities would be too large.
     TooLong,

@@ -1,19 +1,16 @@
 // Bytes in several chunks, reached by their handles.
-ghost use Rattle.std.specs.Prelude.{◌≡◌, ℕ, ◌+◌, ◌-◌, ◌≤◌, ◌<◌, ◌^◌, ◌==◌, ◌++◌, ◌∷◌, [], List, if◌then◌else◌, length, take, drop, map, min, nat_le, slice_get, Ok, Err, MatchOption, Option, Some, None, true, false};
+ghost use Rattle.std.specs.Prelude.{◌≡◌, ℕ, ◌+◌, ◌-◌, ◌≤◌, ◌<◌, ◌^◌, ◌==◌, ◌++◌, ◌∷◌, [], List, if◌then◌else◌, length, take, drop, map, min, nat_le, true, false};
 ghost use Rattle.std.specs.Borrow.{sem, Lends, full_share};
 ghost use Rattle.std.specs.Ptr.{lies_at, null_ptr, room_at};
 ghost use Rattle.iobufs.specs.Located.{greatest_key, keys_upto};
 ghost use Rattle.iobufs.specs.contracts.bufs.IoBufs.{the_row as text_row};
 ghost use Rattle.iobufs_core.specs.Chunks.{first_chunk};
 ghost use Rattle.iobufs_core.specs.MarkedText.{MarkedText, chunk_count as count_of, default_text, is_single, of_view, taken_view, text_advanced, text_append, text_chunks, text_coalesced, text_len, text_prepend, text_rest, text_split_front};
-ghost use Rattle.iobufs_core.specs.Part.{part_frozen};
 ghost use Rattle.iobufs_core.specs.View.{IsFreelyShared, default_view, static_mark};
 ghost use Rattle.iobufs_c.specs.Codes.{IsDoneUnless, code_of};
-ghost use Rattle.iobufs_c.specs.Rows.{chunk_len, part_or_empty};
 
-use crate::part::PartAt;
 use crate::status::{Status, refusal};
-use crate::view::{ViewAt, ViewRoom, address};
+use crate::view::{ViewAt, address};
 use iobufs::bufs::{ChunkSlice, IoBufs};
 use iobufs_core::buf::IoBuf;
 use iobufs_core::codec::{Buf, OwnedBuf, Peek};
@@ -52,33 +49,6 @@ impl TextAt {
     }
 }
 
-/// The handle of memory for an `IoBufs`: of one that isn't made yet, or of an `IoBufs`.
-#[repr(C)]
-pub struct TextRoom {
-    at: *mut u8,
-    ghost value: { Option MarkedText },
-}
-
-impl Model for TextRoom {
-    ghost use Rattle.iobufs.specs.contracts.bufs.IoBufs.{the_row as text_row};
-    ghost use Rattle.iobufs_c.specs.Rows.{may_lie_at};
-
-    ghost also_owns = { λ h. may_lie_at text_row h.at h.value };
-}
-
-// It may go to another thread (proofs/text/TextRoom/TheSendSync).
-unsafe impl Send for TextRoom {}
-
-impl TextRoom {
-    /// Makes an `IoBufs` of memory that holds none.
-    pub(crate) fn make(&mut self, text: IoBufs)
-        requires { self.old.value ≡ None }
-        ensures { (self.new.at ≡ self.old.at) × (self.new.value ≡ Some text) }
-    {
-        unsafe { (self.at as *mut IoBufs).write(text) }
-    }
-}
-
 fn empty() -> IoBufs
     ensures { result ≡ default_text }
 {
@@ -91,14 +61,6 @@ pub extern "C" fn iobufs_size() -> usize
     ensures value { result ≡ 56 }
 {
     mem::size_of::<IoBufs>()
-}
-
-/// Returns the alignment of an `IoBufs`.
-#[unsafe(no_mangle)]
-pub extern "C" fn iobufs_align() -> usize
-    ensures value { result ≡ 8 }
-{
-    mem::align_of::<IoBufs>()
 }
 
 /// Makes an empty `IoBufs` of memory.
@@ -128,30 +90,6 @@ pub extern "C" fn iobufs_from_view(src: &mut ViewAt, out: &mut TextAt)
 {
     let view = mem::take(src.get());
     *out.get() = IoBufs::from(view);
-}
-
-/// Makes an `IoBufs` of a writable buffer; none is left. Returns `Status::Memory` if an allocation fails; then the
-/// buffer is dropped, and `out` unchanged.
-#[unsafe(no_mangle)]
-pub extern "C" fn iobufs_from_mut(part: &mut PartAt, out: &mut TextAt) -> u8
-    ensures at { (part.new.at ≡ part.old.at) × (out.new.at ≡ out.old.at) }
-    ensures part { part.new.value ≡ None }
-    ensures value { out.new.value ≡ (if result == 0 then of_view
-        (part_frozen (part_or_empty part.old.value)) else out.old.value) }
-    ensures memory { IsDoneUnless result Status.Memory }
-    ensures nothing { length (part_or_empty part.old.value).filled ≡ 0 → result ≡ 0 }
-{
-    let Some(part) = mem::replace(part.get(), None) else {
-        *out.get() = IoBufs::default();
-        return Status::Done.code();
-    };
-    match IoBufs::from_mut(part) {
-        Ok(text) => {
-            *out.get() = text;
-            Status::Done.code()
-        }
-        Err(_) => Status::Memory.code(),
-    }
 }
 
 /// Returns whether two `IoBufs` hold the same bytes, for every chunking.
@@ -193,24 +131,6 @@ pub extern "C" fn iobufs_len(text: &mut TextAt) -> usize
     text.get().len()
 }
 
-/// Returns whether there are no bytes.
-#[unsafe(no_mangle)]
-pub extern "C" fn iobufs_is_empty(text: &mut TextAt) -> bool
-    ensures same { (text.new.at ≡ text.old.at) × (text.new.value ≡ text.old.value) }
-    ensures value { result ≡ (text_len text.old.value == 0) }
-{
-    text.get().is_empty()
-}
-
-/// Returns whether all bytes are in one chunk.
-#[unsafe(no_mangle)]
-pub extern "C" fn iobufs_is_single(text: &mut TextAt) -> bool
-    ensures same { (text.new.at ≡ text.old.at) × (text.new.value ≡ text.old.value) }
-    ensures value { result ≡ is_single text.old.value }
-{
-    text.get().is_single()
-}
-
 /// Returns the number of chunks that hold bytes.
 #[unsafe(no_mangle)]
 pub extern "C" fn iobufs_chunk_count(text: &mut TextAt) -> usize
@@ -230,35 +150,6 @@ pub extern "C" fn iobufs_chunk(text: &mut TextAt, out: &mut *const u8) -> usize
     let chunk = text.get().chunk();
     *out = address(chunk);
     chunk.len()
-}
-
-/// Writes the address of the chunk of an index, and returns its length; 0 if there is none.
-#[unsafe(no_mangle)]
-pub extern "C" fn iobufs_chunk_at(text: &mut TextAt, i: usize, out: &mut *const u8) -> usize
-    ensures same { (text.new.at ≡ text.old.at) × (text.new.value ≡ text.old.value) }
-    ensures value { result ≡ chunk_len (slice_get (text_chunks text.old.value) i) }
-    ensures address { MatchOption (slice_get (text_chunks text.old.value) i) (out.new ≡ out.old)
-        (λ _. out.new ≡ null_ptr → ⊥) }
-{
-    let Some(chunk) = text.get().chunk_at(i) else {
-        return 0;
-    };
-    *out = address(chunk);
-    chunk.len()
-}
-
-/// Writes the byte at an offset, and returns whether there is one.
-#[unsafe(no_mangle)]
-pub extern "C" fn iobufs_byte_at(text: &mut TextAt, i: usize, out: &mut u8) -> bool
-    ensures same { (text.new.at ≡ text.old.at) × (text.new.value ≡ text.old.value) }
-    ensures found { result ≡ true → slice_get text.old.value.bytes i ≡ Some out.new }
-    ensures none { result ≡ false → (slice_get text.old.value.bytes i ≡ None) × (out.new ≡ out.old) }
-{
-    let Some(byte) = text.get().byte_at(i) else {
-        return false;
-    };
-    *out = byte;
-    true
 }
 
 /// Writes the index of the chunk that contains an offset, and the distance from its start. Returns `Status::OutOfRange`
@@ -369,39 +260,6 @@ pub extern "C" fn iobufs_split_to(
         }
         Err(_) => Status::Memory.code(),
     }
-}
-
-/// Splits the first bytes off into memory that holds no `IoBufs`, as `iobufs_split_to` does.
-#[unsafe(no_mangle)]
-pub extern "C" fn iobufs_split_to_init(
-    alloc: Global,
-    text: &mut TextAt,
-    at: usize,
-    out: &mut TextRoom,
-) -> u8
-    requires { out.old.value ≡ None }
-    ensures at { (text.new.at ≡ text.old.at) × (out.new.at ≡ out.old.at) }
-    ensures text { text.new.value ≡ (if result == 0 then text_rest text.old.value at else text.old.value) }
-    ensures out { out.new.value ≡ (if result == 0 then Some (text_split_front text.old.value at) else None) }
-    ensures outside { text_len text.old.value < at → result ≡ code_of Status.OutOfRange }
-    ensures inside { at ≤ text_len text.old.value → IsDoneUnless result Status.Memory }
-    ensures nothing { at ≡ 0 → result ≡ 0 }
-    ensures whole { at ≡ text_len text.old.value → result ≡ 0 }
-    ensures first { at ≤ text_len text.old.value → at ≡ length (first_chunk (text_chunks text.old.value)) → result ≡ 0 }
-    ensures static_text { at ≤ text_len text.old.value → at ≤ length (first_chunk (text_chunks text.old.value))
-        → (taken_view text.old.value 0 at).mark ≡ static_mark → result ≡ 0 }
-    ensures last { (front : List (List ℕ)) (chunk : List ℕ) → text_chunks text.old.value ≡ front ++ chunk ∷ []
-        → at + length chunk ≡ text_len text.old.value → result ≡ 0 }
-{
-    let text = text.get();
-    if at > text.len() {
-        return Status::OutOfRange.code();
-    }
-    let Ok(front) = text.split_to(alloc, at) else {
-        return Status::Memory.code();
-    };
-    out.make(front);
-    Status::Done.code()
 }
 
 /// Clones the chunks of a range, in their storage. Returns `Status::OutOfRange` if it isn't within the bytes, or
@@ -540,36 +398,6 @@ pub extern "C" fn iobufs_take(alloc: Global, text: &mut TextAt, n: usize, out: &
         }
         Err(_) => Status::Memory.code(),
     }
-}
-
-/// Takes the first bytes as `iobufs_take` does, into memory that holds no view.
-#[unsafe(no_mangle)]
-pub extern "C" fn iobufs_take_init(
-    alloc: Global,
-    text: &mut TextAt,
-    n: usize,
-    out: &mut ViewRoom,
-) -> u8
-    requires { out.old.value ≡ None }
-    ensures at { (text.new.at ≡ text.old.at) × (out.new.at ≡ out.old.at) }
-    ensures text { text.new.value ≡ (if result == 0 then text_rest text.old.value n else text.old.value) }
-    ensures out { out.new.value ≡ (if result == 0 then Some (taken_view text.old.value 0 n) else None) }
-    ensures outside { text_len text.old.value < n → result ≡ code_of Status.EndOfBuffer }
-    ensures inside { n ≤ text_len text.old.value → IsDoneUnless result Status.Memory }
-    ensures nothing { n ≡ 0 → result ≡ 0 }
-    ensures whole { n ≤ text_len text.old.value → n ≡ length (first_chunk (text_chunks text.old.value)) → result ≡ 0 }
-    ensures static_text { n ≤ text_len text.old.value → (taken_view text.old.value 0 n).mark ≡ static_mark
-        → result ≡ 0 }
-{
-    let text = text.get();
-    if n > text.len() {
-        return Status::EndOfBuffer.code();
-    }
-    let Ok(view) = text.take_owned::<IoBuf>(alloc, n) else {
-        return Status::Memory.code();
-    };
-    out.make(view);
-    Status::Done.code()
 }
 
 /// Takes the `n` bytes after the first `skip`, which are dropped too, as `iobufs_take` does.
