@@ -1,18 +1,18 @@
 // Writable buffers, reached by their handles.
-ghost use Rattle.std.specs.Prelude.{◌≡◌, ◌==◌, if◌then◌else◌, ◌∷◌, [], length, take, replicate, ◌+◌, nat_le, Option, Some, None, IsTrue, false, MatchOption, Ok, Err};
+ghost use Rattle.std.specs.Prelude.{◌≡◌, ◌==◌, if◌then◌else◌, ◌∷◌, [], length, take, replicate, ◌+◌, nat_le, Option, Some, None, IsTrue, false, MatchOption, MatchResult, Ok, Err};
 ghost use Rattle.std.specs.Borrow.{sem, Lends, full_share};
 ghost use Rattle.std.specs.Option.{option_map};
 ghost use Rattle.std.specs.Ptr.{lies_at, null_ptr, room_at};
 ghost use Rattle.iobufs_core.specs.Part.{Part, empty_part, is_bad_layout as bad_layout, part_capacity, part_drained, part_frozen, part_put, part_truncated, part_with_len};
 ghost use Rattle.iobufs_core.specs.Recovery.{IsPartOf, IsRecovery};
 ghost use Rattle.iobufs_core.specs.View.{default_view};
-ghost use Rattle.iobufs_c.specs.Codes.{IsDoneUnless, code_of};
+ghost use Rattle.iobufs_c.specs.Codes.{IsDoneUnless, code_of, of_buf_error};
 ghost use Rattle.iobufs_c.specs.Rows.{part_or_empty, part_row, part_written_at};
 
-use crate::status::{Status, refusal};
-use crate::view::{ViewAt, address};
+use crate::status::{Status, enough, refusal, within};
+use crate::view::{ViewAt, address, hand};
 use iobufs_core::buf::{IoBuf, IoBufMut};
-use iobufs_core::codec::{Buf, BufMut};
+use iobufs_core::codec::{Buf, BufError, BufMut};
 use std::alloc::Global;
 use std::marker::{Model, Send};
 use std::mem;
@@ -45,6 +45,21 @@ impl PartAt {
         ensures value { result.now ≡ self.old.value }
     {
         unsafe { &mut *(self.at as *mut Option<IoBufMut>) }
+    }
+}
+
+/// Writes a buffer that was made to `out`, and returns the status.
+pub(crate) fn hand_part(made: Result<IoBufMut, BufError>, out: &mut PartAt) -> u8
+    ensures at { out.new.at ≡ out.old.at }
+    ensures told { MatchResult made (λ part. (result ≡ 0) × (out.new.value ≡ Some part))
+        (λ cause. (result ≡ code_of (of_buf_error cause)) × (out.new.value ≡ out.old.value)) }
+{
+    match made {
+        Ok(part) => {
+            *out.get() = Some(part);
+            Status::Done.code()
+        }
+        Err(cause) => refusal(cause),
     }
 }
 
@@ -90,13 +105,7 @@ pub extern "C" fn iobufmut_with_capacity(alloc: Global, n: usize, out: &mut Part
     ensures good_layout { bad_layout n 1 ≡ false → IsDoneUnless result Status.Memory }
     ensures nothing { n ≡ 0 → result ≡ 0 }
 {
-    match IoBufMut::with_capacity(alloc, n) {
-        Ok(part) => {
-            *out.get() = Some(part);
-            Status::Done.code()
-        }
-        Err(cause) => refusal(cause),
-    }
+    hand_part(IoBufMut::with_capacity(alloc, n), out)
 }
 
 /// Allocates a buffer of `n` zeros. Returns `Status::BadLayout` or `Status::Memory` if that fails; then `out` is
@@ -110,13 +119,7 @@ pub extern "C" fn iobufmut_zeroed(alloc: Global, n: usize, out: &mut PartAt) -> 
     ensures good_layout { bad_layout n 1 ≡ false → IsDoneUnless result Status.Memory }
     ensures nothing { n ≡ 0 → result ≡ 0 }
 {
-    match IoBufMut::zeroed(alloc, n) {
-        Ok(part) => {
-            *out.get() = Some(part);
-            Status::Done.code()
-        }
-        Err(cause) => refusal(cause),
-    }
+    hand_part(IoBufMut::zeroed(alloc, n), out)
 }
 
 /// Copies bytes into a buffer without spare capacity. Returns `Status::Memory` if an allocation fails; then `out` is
@@ -129,13 +132,7 @@ pub extern "C" fn iobufmut_copy_from_slice(alloc: Global, src: &[u8], out: &mut 
     ensures memory { IsDoneUnless result Status.Memory }
     ensures nothing { length src.now ≡ 0 → result ≡ 0 }
 {
-    match IoBufMut::copy_from_slice(alloc, src) {
-        Ok(part) => {
-            *out.get() = Some(part);
-            Status::Done.code()
-        }
-        Err(cause) => refusal(cause),
-    }
+    hand_part(IoBufMut::copy_from_slice(alloc, src), out)
 }
 
 /// Makes a writable buffer of a view of native storage that no other handle has, and leaves the empty view. Returns
@@ -244,25 +241,17 @@ pub extern "C" fn iobufmut_put_slice(part: &mut PartAt, src: &[u8]) -> u8
     ensures result { result ≡ (if nat_le (length src.now)
         (part_or_empty part.old.value).spare then 0 else code_of Status.OutOfRange) }
 {
-    let Some(part) = part.get() else {
-        return fits(src.len(), 0);
-    };
-    if src.len() > part.remaining_mut() {
-        return Status::OutOfRange.code();
+    match part.get() {
+        Some(part) => within(part.try_put_slice(src)),
+        None => fits(src.len(), 0),
     }
-    part.put_slice(src);
-    Status::Done.code()
 }
 
 // Whether `n` bytes are within the spare capacity or the bytes.
 pub(crate) fn fits(n: usize, most: usize) -> u8
     ensures { result ≡ (if nat_le n most then 0 else code_of Status.OutOfRange) }
 {
-    if n <= most {
-        Status::Done.code()
-    } else {
-        Status::OutOfRange.code()
-    }
+    within(n <= most)
 }
 
 /// Writes a byte `n` times. Returns `Status::OutOfRange` if they don't fit; then nothing changes.
@@ -273,14 +262,10 @@ pub extern "C" fn iobufmut_put_bytes(part: &mut PartAt, value: u8, n: usize) -> 
         (λ part. part_put part (replicate n value)) part.old.value else part.old.value) }
     ensures result { result ≡ (if nat_le n (part_or_empty part.old.value).spare then 0 else code_of Status.OutOfRange) }
 {
-    let Some(part) = part.get() else {
-        return fits(n, 0);
-    };
-    if n > part.remaining_mut() {
-        return Status::OutOfRange.code();
+    match part.get() {
+        Some(part) => within(part.try_put_bytes(value, n)),
+        None => fits(n, 0),
     }
-    part.put_bytes(value, n);
-    Status::Done.code()
 }
 
 /// Writes one byte. Returns `Status::OutOfRange` if it doesn't fit; then nothing changes.
@@ -291,14 +276,10 @@ pub extern "C" fn iobufmut_put_u8(part: &mut PartAt, n: u8) -> u8
         (λ part. part_put part (n ∷ [])) part.old.value else part.old.value) }
     ensures result { result ≡ (if nat_le 1 (part_or_empty part.old.value).spare then 0 else code_of Status.OutOfRange) }
 {
-    let Some(part) = part.get() else {
-        return Status::OutOfRange.code();
-    };
-    if part.remaining_mut() == 0 {
-        return Status::OutOfRange.code();
+    match part.get() {
+        Some(part) => within(part.try_put_slice(&[n])),
+        None => Status::OutOfRange.code(),
     }
-    part.put_u8(n);
-    Status::Done.code()
 }
 
 /// Makes `n` bytes readable; those that were not are zero. Returns `Status::OutOfRange` above the capacity; then
@@ -311,14 +292,10 @@ pub extern "C" fn iobufmut_set_len(part: &mut PartAt, n: usize) -> u8
     ensures result { result ≡ (if nat_le n (part_capacity
         (part_or_empty part.old.value)) then 0 else code_of Status.OutOfRange) }
 {
-    let Some(part) = part.get() else {
-        return fits(n, 0);
-    };
-    if n > part.capacity() {
-        return Status::OutOfRange.code();
+    match part.get() {
+        Some(part) => within(part.try_set_len(n)),
+        None => fits(n, 0),
     }
-    part.set_len(n);
-    Status::Done.code()
 }
 
 /// Keeps at most the first `n` bytes.
@@ -341,14 +318,10 @@ pub extern "C" fn iobufmut_advance(part: &mut PartAt, n: usize) -> u8
     ensures result { result ≡ (if nat_le n (length
         (part_or_empty part.old.value).filled) then 0 else code_of Status.OutOfRange) }
 {
-    let Some(part) = part.get() else {
-        return fits(n, 0);
-    };
-    if n > part.len() {
-        return Status::OutOfRange.code();
+    match part.get() {
+        Some(part) => within(part.try_advance(n)),
+        None => fits(n, 0),
     }
-    part.advance(n);
-    Status::Done.code()
 }
 
 /// Copies the first bytes out, and drops them. Returns `Status::EndOfBuffer` if there are fewer; then nothing changes.
@@ -362,18 +335,10 @@ pub extern "C" fn iobufmut_copy_to_slice(part: &mut PartAt, dst: &mut [u8]) -> u
     ensures result { result ≡ (if nat_le (length dst.old)
         (length (part_or_empty part.old.value).filled) then 0 else code_of Status.EndOfBuffer) }
 {
-    let Some(part) = part.get() else {
-        return if dst.is_empty() {
-            Status::Done.code()
-        } else {
-            Status::EndOfBuffer.code()
-        };
-    };
-    if dst.len() > part.len() {
-        return Status::EndOfBuffer.code();
+    match part.get() {
+        Some(part) => enough(part.try_copy_to_slice(dst).is_ok()),
+        None => enough(dst.is_empty()),
     }
-    part.copy_to_slice(dst);
-    Status::Done.code()
 }
 
 /// Overwrites readable bytes from an offset on. Returns `Status::OutOfRange` if there are fewer; then nothing changes.
@@ -415,11 +380,5 @@ pub extern "C" fn iobufmut_freeze(part: &mut PartAt, out: &mut ViewAt) -> u8
         *out.get() = IoBuf::default();
         return Status::Done.code();
     };
-    match part.freeze() {
-        Ok(view) => {
-            *out.get() = view;
-            Status::Done.code()
-        }
-        Err(_) => Status::Memory.code(),
-    }
+    hand(part.freeze(), out)
 }

@@ -9,9 +9,9 @@ ghost use Rattle.iobufs_core.specs.Part.{Part};
 ghost use Rattle.iobufs_c.specs.Codes.{IsDoneUnless, code_of};
 ghost use Rattle.iobufs_c.specs.Rows.{held_parts, parts_of, parts_row};
 
-use crate::part::{PartAt, fits};
-use crate::status::{Status, refusal};
-use crate::text::{Chunk, TextAt, chunk_of};
+use crate::part::{PartAt, fits, hand_part};
+use crate::status::{Status, enough, refusal, within};
+use crate::text::{Chunk, TextAt, chunk_of, hand_text};
 use crate::view::address;
 use iobufs::bufs::IoBufs;
 use iobufs::bufs_mut::IoBufsMut;
@@ -258,14 +258,10 @@ pub extern "C" fn iobufsmut_put_slice(parts: &mut PartsAt, src: &[u8]) -> u8
     ensures result { result ≡ (if nat_le (length src.now)
         (parts_spare (parts_of parts.old.value)) then 0 else code_of Status.OutOfRange) }
 {
-    let Some(parts) = parts.get() else {
-        return fits(src.len(), 0);
-    };
-    if src.len() > parts.remaining_mut() {
-        return Status::OutOfRange.code();
+    match parts.get() {
+        Some(parts) => within(parts.try_put_slice(src)),
+        None => fits(src.len(), 0),
     }
-    parts.put_slice(src);
-    Status::Done.code()
 }
 
 /// Writes a byte `n` times. Returns `Status::OutOfRange` if they don't fit; then nothing changes.
@@ -277,14 +273,10 @@ pub extern "C" fn iobufsmut_put_bytes(parts: &mut PartsAt, value: u8, n: usize) 
     ensures result { result ≡ (if nat_le n (parts_spare
         (parts_of parts.old.value)) then 0 else code_of Status.OutOfRange) }
 {
-    let Some(parts) = parts.get() else {
-        return fits(n, 0);
-    };
-    if n > parts.remaining_mut() {
-        return Status::OutOfRange.code();
+    match parts.get() {
+        Some(parts) => within(parts.try_put_bytes(value, n)),
+        None => fits(n, 0),
     }
-    parts.put_bytes(value, n);
-    Status::Done.code()
 }
 
 /// Writes one byte. Returns `Status::OutOfRange` if it doesn't fit; then nothing changes.
@@ -296,14 +288,10 @@ pub extern "C" fn iobufsmut_put_u8(parts: &mut PartsAt, n: u8) -> u8
     ensures result { result ≡ (if nat_le 1 (parts_spare
         (parts_of parts.old.value)) then 0 else code_of Status.OutOfRange) }
 {
-    let Some(parts) = parts.get() else {
-        return fits(1, 0);
-    };
-    if 1 > parts.remaining_mut() {
-        return Status::OutOfRange.code();
+    match parts.get() {
+        Some(parts) => within(parts.try_put_slice(&[n])),
+        None => fits(1, 0),
     }
-    parts.put_u8(n);
-    Status::Done.code()
 }
 
 /// Makes `n` bytes readable; those that were not are zero. Returns `Status::OutOfRange` above the capacity; then
@@ -316,14 +304,10 @@ pub extern "C" fn iobufsmut_set_len(parts: &mut PartsAt, n: usize) -> u8
     ensures result { result ≡ (if nat_le n (parts_capacity
         (parts_of parts.old.value)) then 0 else code_of Status.OutOfRange) }
 {
-    let Some(parts) = parts.get() else {
-        return fits(n, 0);
-    };
-    if n > parts.capacity() {
-        return Status::OutOfRange.code();
+    match parts.get() {
+        Some(parts) => within(parts.try_set_len(n)),
+        None => fits(n, 0),
     }
-    parts.set_len(n);
-    Status::Done.code()
 }
 
 /// Drops the first bytes. Returns `Status::OutOfRange` if there are fewer; then nothing changes.
@@ -335,14 +319,10 @@ pub extern "C" fn iobufsmut_advance(parts: &mut PartsAt, n: usize) -> u8
     ensures result { result ≡ (if nat_le n (length
         (parts_filled (parts_of parts.old.value))) then 0 else code_of Status.OutOfRange) }
 {
-    let Some(parts) = parts.get() else {
-        return fits(n, 0);
-    };
-    if n > parts.len() {
-        return Status::OutOfRange.code();
+    match parts.get() {
+        Some(parts) => within(parts.try_advance(n)),
+        None => fits(n, 0),
     }
-    parts.advance(n);
-    Status::Done.code()
 }
 
 /// Copies the first bytes out, and drops them. Returns `Status::EndOfBuffer` if there are fewer; then nothing changes.
@@ -356,18 +336,10 @@ pub extern "C" fn iobufsmut_copy_to_slice(parts: &mut PartsAt, dst: &mut [u8]) -
     ensures result { result ≡ (if nat_le (length dst.old)
         (length (parts_filled (parts_of parts.old.value))) then 0 else code_of Status.EndOfBuffer) }
 {
-    let Some(parts) = parts.get() else {
-        return if dst.is_empty() {
-            Status::Done.code()
-        } else {
-            Status::EndOfBuffer.code()
-        };
-    };
-    if dst.len() > parts.len() {
-        return Status::EndOfBuffer.code();
+    match parts.get() {
+        Some(parts) => enough(parts.try_copy_to_slice(dst).is_ok()),
+        None => enough(dst.is_empty()),
     }
-    parts.copy_to_slice(dst);
-    Status::Done.code()
 }
 
 /// Freezes the buffers that hold bytes to the chunks of one `IoBufs`; no buffers are left. Returns `Status::Memory` if
@@ -384,13 +356,7 @@ pub extern "C" fn iobufsmut_freeze(alloc: Global, parts: &mut PartsAt, out: &mut
         *out.get() = IoBufs::default();
         return Status::Done.code();
     };
-    match parts.freeze(alloc) {
-        Ok(text) => {
-            *out.get() = text;
-            Status::Done.code()
-        }
-        Err(_) => Status::Memory.code(),
-    }
+    hand_text(parts.freeze(alloc), out)
 }
 
 /// Coalesces the buffers into one, with a copy of several; none are left. Returns `Status::BadLayout` or
@@ -411,11 +377,5 @@ pub extern "C" fn iobufsmut_coalesce(alloc: Global, parts: &mut PartsAt, out: &m
         *out.get() = None;
         return Status::Done.code();
     };
-    match parts.coalesce(alloc) {
-        Ok(part) => {
-            *out.get() = Some(part);
-            Status::Done.code()
-        }
-        Err(cause) => refusal(cause),
-    }
+    hand_part(parts.coalesce(alloc), out)
 }

@@ -1,5 +1,5 @@
 // Bytes in several chunks, reached by their handles.
-ghost use Rattle.std.specs.Prelude.{◌≡◌, ℕ, ◌+◌, ◌-◌, ◌≤◌, ◌<◌, ◌^◌, ◌==◌, ◌++◌, ◌∷◌, [], List, if◌then◌else◌, length, take, drop, map, min, nat_le, true, false};
+ghost use Rattle.std.specs.Prelude.{◌≡◌, ℕ, ◌+◌, ◌-◌, ◌≤◌, ◌<◌, ◌^◌, ◌==◌, ◌++◌, ◌∷◌, [], List, if◌then◌else◌, length, take, drop, map, min, nat_le, true, false, MatchResult};
 ghost use Rattle.std.specs.Borrow.{sem, Lends, full_share};
 ghost use Rattle.std.specs.Ptr.{lies_at, null_ptr, room_at};
 ghost use Rattle.iobufs.specs.Located.{greatest_key, keys_upto};
@@ -7,13 +7,13 @@ ghost use Rattle.iobufs.specs.contracts.bufs.IoBufs.{the_row as text_row};
 ghost use Rattle.iobufs_core.specs.Chunks.{first_chunk};
 ghost use Rattle.iobufs_core.specs.MarkedText.{MarkedText, chunk_count as count_of, default_text, is_single, of_view, taken_view, text_advanced, text_append, text_chunks, text_coalesced, text_len, text_prepend, text_rest, text_split_front};
 ghost use Rattle.iobufs_core.specs.View.{IsFreelyShared, default_view, static_mark};
-ghost use Rattle.iobufs_c.specs.Codes.{IsDoneUnless, code_of};
+ghost use Rattle.iobufs_c.specs.Codes.{IsDoneUnless, code_of, of_buf_error};
 
-use crate::status::{Status, refusal};
-use crate::view::{ViewAt, address};
+use crate::status::{Status, enough, refusal, within};
+use crate::view::{ViewAt, address, hand};
 use iobufs::bufs::{ChunkSlice, IoBufs};
 use iobufs_core::buf::IoBuf;
-use iobufs_core::codec::{Buf, OwnedBuf, Peek};
+use iobufs_core::codec::{Buf, BufError, OwnedBuf, Peek};
 use std::alloc::Global;
 use std::marker::{Model, Send};
 use std::mem;
@@ -46,6 +46,21 @@ impl TextAt {
         ensures value { result.now ≡ self.old.value }
     {
         unsafe { &mut *(self.at as *mut IoBufs) }
+    }
+}
+
+/// Writes an `IoBufs` that was made to `out`, and returns the status.
+pub(crate) fn hand_text(made: Result<IoBufs, BufError>, out: &mut TextAt) -> u8
+    ensures at { out.new.at ≡ out.old.at }
+    ensures told { MatchResult made (λ text. (result ≡ 0) × (out.new.value ≡ text))
+        (λ cause. (result ≡ code_of (of_buf_error cause)) × (out.new.value ≡ out.old.value)) }
+{
+    match made {
+        Ok(text) => {
+            *out.get() = text;
+            Status::Done.code()
+        }
+        Err(cause) => refusal(cause),
     }
 }
 
@@ -177,8 +192,7 @@ pub extern "C" fn iobufs_locate(
     Status::Done.code()
 }
 
-/// Appends a view, and leaves its handle empty. Returns `Status::TooLong` or `Status::Memory` if that fails; then both
-/// are unchanged.
+/// Appends a view, and leaves its handle empty. After `Status::TooLong` or `Status::Memory` both are unchanged.
 #[unsafe(no_mangle)]
 pub extern "C" fn iobufs_append(alloc: Global, text: &mut TextAt, piece: &mut ViewAt) -> u8
     ensures at { (text.new.at ≡ text.old.at) × (piece.new.at ≡ piece.old.at) }
@@ -202,8 +216,7 @@ pub extern "C" fn iobufs_append(alloc: Global, text: &mut TextAt, piece: &mut Vi
     }
 }
 
-/// Prepends a view, and leaves its handle empty. Returns `Status::TooLong` or `Status::Memory` if that fails; then both
-/// are unchanged.
+/// Prepends a view, and leaves its handle empty. After `Status::TooLong` or `Status::Memory` both are unchanged.
 #[unsafe(no_mangle)]
 pub extern "C" fn iobufs_prepend(alloc: Global, text: &mut TextAt, piece: &mut ViewAt) -> u8
     ensures at { (text.new.at ≡ text.old.at) × (piece.new.at ≡ piece.old.at) }
@@ -249,16 +262,9 @@ pub extern "C" fn iobufs_split_to(
     ensures last { (front : List (List ℕ)) (chunk : List ℕ) → text_chunks text.old.value ≡ front ++ chunk ∷ []
         → at + length chunk ≡ text_len text.old.value → result ≡ 0 }
 {
-    let text = text.get();
-    if at > text.len() {
-        return Status::OutOfRange.code();
-    }
-    match text.split_to(alloc, at) {
-        Ok(front) => {
-            *out.get() = front;
-            Status::Done.code()
-        }
-        Err(_) => Status::Memory.code(),
+    match text.get().try_split_to(alloc, at) {
+        Some(front) => hand_text(front, out),
+        None => Status::OutOfRange.code(),
     }
 }
 
@@ -283,16 +289,9 @@ pub extern "C" fn iobufs_slice(
     ensures static_text { lo ≤ hi → hi ≤ text_len text.old.value
         → (taken_view text.old.value lo (hi - lo)).mark ≡ static_mark → result ≡ 0 }
 {
-    let text = text.get();
-    if lo > hi || hi > text.len() {
-        return Status::OutOfRange.code();
-    }
-    match text.slice(alloc, lo..hi) {
-        Ok(slice) => {
-            *out.get() = slice;
-            Status::Done.code()
-        }
-        Err(_) => Status::Memory.code(),
+    match text.get().try_slice(alloc, lo..hi) {
+        Some(slice) => hand_text(slice, out),
+        None => Status::OutOfRange.code(),
     }
 }
 
@@ -325,12 +324,7 @@ pub extern "C" fn iobufs_advance(text: &mut TextAt, n: usize) -> u8
         (text_len text.old.value) then text_advanced text.old.value n else text.old.value) }
     ensures result { result ≡ (if nat_le n (text_len text.old.value) then 0 else code_of Status.OutOfRange) }
 {
-    let text = text.get();
-    if n > text.len() {
-        return Status::OutOfRange.code();
-    }
-    text.advance(n);
-    Status::Done.code()
+    within(text.get().try_advance(n))
 }
 
 /// Copies the first bytes out, and drops them. Returns `Status::EndOfBuffer` if there are fewer; then nothing changes.
@@ -345,12 +339,7 @@ pub extern "C" fn iobufs_copy_to_slice(text: &mut TextAt, dst: &mut [u8]) -> u8
     ensures result { result ≡ (if nat_le (length dst.old)
         (text_len text.old.value) then 0 else code_of Status.EndOfBuffer) }
 {
-    let text = text.get();
-    if dst.len() > text.len() {
-        return Status::EndOfBuffer.code();
-    }
-    text.copy_to_slice(dst);
-    Status::Done.code()
+    enough(text.get().try_copy_to_slice(dst).is_ok())
 }
 
 /// Copies the bytes after the first `skip` out; none are dropped. Returns `Status::EndOfBuffer` if there are fewer;
@@ -364,13 +353,7 @@ pub extern "C" fn iobufs_peek(text: &mut TextAt, skip: usize, dst: &mut [u8]) ->
     ensures result { result ≡ (if nat_le (skip + length dst.old)
         (text_len text.old.value) then 0 else code_of Status.EndOfBuffer) }
 {
-    let text = text.get();
-    let len = text.len();
-    if skip > len || dst.len() > len - skip {
-        return Status::EndOfBuffer.code();
-    }
-    text.peek_slice(skip, dst);
-    Status::Done.code()
+    enough(text.get().try_peek_slice(skip, dst))
 }
 
 /// Takes the first bytes as one view: in the storage of their chunk, or a copy across chunks. Returns
@@ -391,13 +374,7 @@ pub extern "C" fn iobufs_take(alloc: Global, text: &mut TextAt, n: usize, out: &
     if n > text.len() {
         return Status::EndOfBuffer.code();
     }
-    match text.take_owned::<IoBuf>(alloc, n) {
-        Ok(view) => {
-            *out.get() = view;
-            Status::Done.code()
-        }
-        Err(_) => Status::Memory.code(),
-    }
+    hand(text.take_owned::<IoBuf>(alloc, n), out)
 }
 
 /// Takes the `n` bytes after the first `skip`, which are dropped too, as `iobufs_take` does.
@@ -425,13 +402,7 @@ pub extern "C" fn iobufs_take_after(
     if skip > len || n > len - skip {
         return Status::EndOfBuffer.code();
     }
-    match text.take_owned_after::<IoBuf>(alloc, skip, n) {
-        Ok(view) => {
-            *out.get() = view;
-            Status::Done.code()
-        }
-        Err(_) => Status::Memory.code(),
-    }
+    hand(text.take_owned_after::<IoBuf>(alloc, skip, n), out)
 }
 
 /// Coalesces the chunks into one view, with a copy of several, and leaves an empty `IoBufs`. Returns
@@ -447,17 +418,10 @@ pub extern "C" fn iobufs_coalesce(alloc: Global, text: &mut TextAt, out: &mut Vi
         → result ≡ code_of Status.BadLayout }
     ensures memory { text_len text.old.value < 2 ^ 63 → IsDoneUnless result Status.Memory }
 {
-    match mem::take(text.get()).coalesce(alloc) {
-        Ok(view) => {
-            *out.get() = view;
-            Status::Done.code()
-        }
-        Err(cause) => refusal(cause),
-    }
+    hand(mem::take(text.get()).coalesce(alloc), out)
 }
 
-/// Takes the only chunk as a view, and leaves an empty `IoBufs`. Returns `Status::Declined` if there are more; then
-/// both are unchanged.
+/// Takes the only chunk as a view. Returns `Status::Declined` if there are more; then both are unchanged.
 #[unsafe(no_mangle)]
 pub extern "C" fn iobufs_try_into_single(text: &mut TextAt, out: &mut ViewAt) -> u8
     ensures at { (text.new.at ≡ text.old.at) × (out.new.at ≡ out.old.at) }

@@ -1,15 +1,15 @@
 // Views, reached by their handles.
-ghost use Rattle.std.specs.Prelude.{◌≡◌, ◌≤◌, ◌<◌, ◌==◌, if◌then◌else◌, length, take, nat_le, true, false, IfNone, IfSome};
+ghost use Rattle.std.specs.Prelude.{◌≡◌, ◌≤◌, ◌<◌, ◌==◌, if◌then◌else◌, length, take, nat_le, true, false, IfNone, IfSome, MatchResult};
 ghost use Rattle.std.specs.Borrow.{sem, Lends, full_share};
 ghost use Rattle.std.specs.Ptr.{lies_at, null_ptr, room_at};
 ghost use Rattle.iobufs_core.specs.View.{IsFreelyShared, View, default_view, end_place, range_fits, start_place, static_mark, native_mark, view_advanced, view_rest, view_slice, view_split_front};
 ghost use Rattle.iobufs_core.specs.contracts.buf.view.IoBuf.{the_row as view_row};
-ghost use Rattle.iobufs_c.specs.Codes.{IsDoneUnless, code_of};
+ghost use Rattle.iobufs_c.specs.Codes.{IsDoneUnless, code_of, of_buf_error};
 ghost use Rattle.iobufs_c.specs.Rows.{bound_from_c};
 
-use crate::status::Status;
+use crate::status::{Status, enough, refusal, within};
 use iobufs_core::buf::IoBuf;
-use iobufs_core::codec::Buf;
+use iobufs_core::codec::{Buf, BufError};
 use std::alloc::Global;
 use std::marker::{Model, Send};
 use std::mem;
@@ -51,6 +51,21 @@ pub(crate) fn address(bytes: &[u8]) -> *const u8
     ensures { result ≡ null_ptr → ⊥ }
 {
     bytes.as_ptr()
+}
+
+/// Writes a view that was made to `out`, and returns the status.
+pub(crate) fn hand(made: Result<IoBuf, BufError>, out: &mut ViewAt) -> u8
+    ensures at { out.new.at ≡ out.old.at }
+    ensures told { MatchResult made (λ view. (result ≡ 0) × (out.new.value ≡ view))
+        (λ cause. (result ≡ code_of (of_buf_error cause)) × (out.new.value ≡ out.old.value)) }
+{
+    match made {
+        Ok(view) => {
+            *out.get() = view;
+            Status::Done.code()
+        }
+        Err(cause) => refusal(cause),
+    }
 }
 
 fn empty() -> IoBuf
@@ -144,12 +159,7 @@ pub extern "C" fn iobuf_advance(src: &mut ViewAt, n: usize) -> u8
         (length src.old.value.bytes) then view_advanced src.old.value n else src.old.value) }
     ensures result { result ≡ (if nat_le n (length src.old.value.bytes) then 0 else code_of Status.OutOfRange) }
 {
-    let view = src.get();
-    if n > view.len() {
-        return Status::OutOfRange.code();
-    }
-    view.advance(n);
-    Status::Done.code()
+    within(src.get().try_advance(n))
 }
 
 /// Splits the first bytes off, in the same storage. Returns `Status::OutOfRange` if there are fewer, or
@@ -165,16 +175,9 @@ pub extern "C" fn iobuf_split_to(src: &mut ViewAt, at: usize, out: &mut ViewAt) 
     ensures whole { at ≡ length src.old.value.bytes → result ≡ 0 }
     ensures static_text { at ≤ length src.old.value.bytes → src.old.value.mark ≡ static_mark → result ≡ 0 }
 {
-    let view = src.get();
-    if at > view.len() {
-        return Status::OutOfRange.code();
-    }
-    match view.split_to(at) {
-        Ok(front) => {
-            *out.get() = front;
-            Status::Done.code()
-        }
-        Err(_) => Status::Memory.code(),
+    match src.get().try_split_to(at) {
+        Some(front) => hand(front, out),
+        None => Status::OutOfRange.code(),
     }
 }
 
@@ -190,12 +193,7 @@ pub extern "C" fn iobuf_copy_to_slice(src: &mut ViewAt, dst: &mut [u8]) -> u8
     ensures result { result ≡ (if nat_le (length dst.old)
         (length src.old.value.bytes) then 0 else code_of Status.EndOfBuffer) }
 {
-    let view = src.get();
-    if dst.len() > view.len() {
-        return Status::EndOfBuffer.code();
-    }
-    view.copy_to_slice(dst);
-    Status::Done.code()
+    enough(src.get().try_copy_to_slice(dst).is_ok())
 }
 
 // The bound, if its kind is known.
@@ -242,16 +240,9 @@ pub extern "C" fn iobuf_slice(
     let (Some(from), Some(to)) = (bound(lo_kind, lo), bound(hi_kind, hi)) else {
         return Status::BadKind.code();
     };
-    let view = src.get();
-    if !view.fits_range(from, to) {
-        return Status::OutOfRange.code();
-    }
-    match view.slice(from, to) {
-        Ok(slice) => {
-            *out.get() = slice;
-            Status::Done.code()
-        }
-        Err(_) => Status::Memory.code(),
+    match src.get().try_slice(from, to) {
+        Some(slice) => hand(slice, out),
+        None => Status::OutOfRange.code(),
     }
 }
 
@@ -274,11 +265,5 @@ pub extern "C" fn iobuf_copy_from_slice(alloc: Global, src: &[u8], out: &mut Vie
     ensures nothing { length src.now ≡ 0 → result ≡ 0 }
     ensures memory { IsDoneUnless result Status.Memory }
 {
-    match IoBuf::copy_from_slice(alloc, src) {
-        Ok(view) => {
-            *out.get() = view;
-            Status::Done.code()
-        }
-        Err(_) => Status::Memory.code(),
-    }
+    hand(IoBuf::copy_from_slice(alloc, src), out)
 }
