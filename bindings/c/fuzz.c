@@ -216,12 +216,14 @@ static void same_text(int i) { same_pieces(&text_at[i], &texts[i]); }
 static void same_row(int i) {
     struct row *r = &rows[i];
     CHECK(iobufsmut_part_count(&row_at[i]) == r->count && iobufsmut_len(&row_at[i]) == row_len(r) && iobufsmut_capacity(&row_at[i]) == row_capacity(r));
-    for (size_t k = 0; r->there && k < r->count; k++) {
-        uint8_t *at;
-        size_t capacity;
-        CHECK(iobufsmut_part_at(&row_at[i], k, &at, &capacity) == r->part[k].len && capacity == r->part[k].capacity);
-        CHECK(r->part[k].len == 0 || !memcmp(at, r->part[k].at, r->part[k].len));
+    struct iobufs_iovec list[PIECES];
+    size_t n = iobufsmut_chunks(&row_at[i], list, PIECES), seen = 0;
+    for (size_t k = 0; k < r->count; k++) {
+        if (r->part[k].len == 0) continue;
+        CHECK(seen < n && list[seen].len == r->part[k].len && !memcmp(list[seen].base, r->part[k].at, r->part[k].len));
+        seen++;
     }
+    CHECK(seen == n);
 }
 
 /* ---- the calls ---- */
@@ -233,10 +235,9 @@ static void view_call(int i, int j) {
     struct view *v = &views[i], *out = &views[j];
     struct iobuf_at *at = &view_at[i], *to = &view_at[j];
     size_t n = about(v->len), m;
-    uint8_t byte;
     uint32_t four;
     uint64_t eight;
-    switch (below(14)) {
+    switch (below(12)) {
     case 0: n = below(60); any_bytes(n); OK(iobuf_copy_from_slice(some, n, to)); let_go(out); *out = copied(some, n); break;
     case 1: n = below(60); iobuf_from_static(fixed, n, to); let_go(out); memcpy(out->at, fixed, n); out->len = n; break;
     case 2: OK(iobuf_clone(at, to)); let_go(out); *out = shared(v); break;
@@ -250,11 +251,8 @@ static void view_call(int i, int j) {
         else if (n) { *out = between(v, 0, n); advanced(v, n); }
         break;
     case 5:
-        if (n > v->len) { CHECK(iobuf_take(at, n, to) == IOBUFS_END_OF_BUFFER); break; }
-        OK(iobuf_take(at, n, to)); let_go(out);
-        *out = between(v, 0, n);
-        if (n == v->len && n) let_go(v); else if (n) advanced(v, n);
-        break;
+        if (v->len < 8) { CHECK(iobuf_get_u64(at, &eight) == IOBUFS_END_OF_BUFFER); break; }
+        OK(iobuf_get_u64(at, &eight)); CHECK(eight == number_of(v->at, 8)); advanced(v, 8); break;
     case 6:
         if (n > v->len) { CHECK(iobuf_copy_to_slice(at, some, n > MOST ? MOST : n) == IOBUFS_END_OF_BUFFER); break; }
         OK(iobuf_copy_to_slice(at, some, n)); CHECK(!memcmp(some, v->at, n)); advanced(v, n); break;
@@ -272,16 +270,9 @@ static void view_call(int i, int j) {
     }
     case 9: CHECK(iobuf_eq(at, to) == (v->len == out->len && !memcmp(v->at, out->at, v->len))); break;
     case 10:
-        CHECK(iobuf_byte_at(at, n, &byte) == (n < v->len));
-        if (n < v->len) CHECK(byte == v->at[n]);
-        break;
-    case 11: iobuf_drop(at); let_go(v); break;
-    case 12:
         if (v->len < 4) { CHECK(iobuf_get_u32(at, &four) == IOBUFS_END_OF_BUFFER); break; }
         OK(iobuf_get_u32(at, &four)); CHECK(four == number_of(v->at, 4)); advanced(v, 4); break;
-    case 13:
-        if (v->len < 8) { CHECK(iobuf_get_u64(at, &eight) == IOBUFS_END_OF_BUFFER); break; }
-        OK(iobuf_get_u64(at, &eight)); CHECK(eight == number_of(v->at, 8)); advanced(v, 8); break;
+    case 11: iobuf_drop(at); let_go(v); break;
     }
     same_view(i); same_view(j);
 }
@@ -291,7 +282,7 @@ static void part_call(int i, int j) {
     struct iobufmut_at *at = &part_at[i];
     size_t room = p->capacity - p->len, n = about(room), m = about(p->len);
     uint64_t eight = number();
-    switch (below(16)) {
+    switch (below(15)) {
     case 0: n = below(80); OK(iobufmut_with_capacity(n, at)); p->there = 1; p->len = 0; p->capacity = n; break;
     case 1: n = below(80); OK(iobufmut_zeroed(n, at)); p->there = 1; p->len = p->capacity = n; memset(p->at, 0, n); break;
     case 2: n = below(80); any_bytes(n); OK(iobufmut_copy_from_slice(some, n, at)); p->there = 1; p->len = p->capacity = n; memcpy(p->at, some, n); break;
@@ -317,7 +308,10 @@ static void part_call(int i, int j) {
         if (n > p->capacity) { CHECK(iobufmut_set_len(at, n) == IOBUFS_OUT_OF_RANGE); break; }
         OK(iobufmut_set_len(at, n)); part_set_len(p, n); break;
     case 8: iobufmut_truncate(at, m); if (m < p->len) p->len = m; break;
-    case 9: iobufmut_clear(at); p->len = 0; break;
+    case 9:
+        CHECK(iobufmut_put_u64(at, eight) == (room < 8 ? IOBUFS_OUT_OF_RANGE : IOBUFS_OK));
+        if (room >= 8) { number_bytes(p->at + p->len, eight, 8); p->len += 8; }
+        break;
     case 10:
         if (m > p->len) { CHECK(iobufmut_advance(at, m) == IOBUFS_OUT_OF_RANGE); break; }
         OK(iobufmut_advance(at, m)); part_drain(p, m); break;
@@ -331,10 +325,6 @@ static void part_call(int i, int j) {
     case 14:
         CHECK(iobufmut_put_u16(at, (uint16_t)eight) == (room < 2 ? IOBUFS_OUT_OF_RANGE : IOBUFS_OK));
         if (room >= 2) { number_bytes(p->at + p->len, eight, 2); p->len += 2; }
-        break;
-    case 15:
-        CHECK(iobufmut_put_u64(at, eight) == (room < 8 ? IOBUFS_OUT_OF_RANGE : IOBUFS_OK));
-        if (room >= 8) { number_bytes(p->at + p->len, eight, 8); p->len += 8; }
         break;
     }
     same_part(i);
@@ -356,7 +346,9 @@ static void text_call(int i, int j, int k) {
         else { memmove(t->piece + 1, t->piece, t->count++ * sizeof *t->piece); t->piece[0] = *v; }
         *v = no_bytes; break;
     case 2: iobufs_from_view(&view_at[k], at); drop_text(t); t->piece[0] = *v; *v = no_bytes; break;
-    case 3: OK(iobufs_from_mut(&part_at[k], at)); drop_text(t); t->piece[0] = frozen(&parts[k]); same_part(k); break;
+    case 3:
+        OK(iobufmut_freeze(&part_at[k], &view_at[k])); let_go(v); *v = frozen(&parts[k]); same_part(k);
+        iobufs_from_view(&view_at[k], at); drop_text(t); t->piece[0] = *v; *v = no_bytes; break;
     case 4:
         if (n > len) { CHECK(iobufs_split_to(at, n, to) == IOBUFS_OUT_OF_RANGE); break; }
         OK(iobufs_split_to(at, n, to)); drop_text(out); *out = split(t, n); break;
@@ -391,7 +383,7 @@ static void text_call(int i, int j, int k) {
     case 12: {
         size_t index, offset, before = 0, p = 0;
         CHECK(iobufs_locate(at, n, &index, &offset) == (n < len ? IOBUFS_OK : IOBUFS_OUT_OF_RANGE));
-        CHECK(iobufs_byte_at(at, n, &byte) == (n < len));
+        CHECK(iobufs_peek(at, n, &byte, 1) == (n < len ? IOBUFS_OK : IOBUFS_END_OF_BUFFER));
         if (n >= len) break;
         while (before + t->piece[p].len <= n) before += t->piece[p++].len;
         CHECK(index == p && offset == n - before && byte == t->piece[p].at[offset]); break;
@@ -427,7 +419,7 @@ static void row_call(int i, int j, int k) {
     size_t used = 0;
     for (size_t p = 0; p < r->count; p++) { memcpy(all + used, r->part[p].at, r->part[p].len); used += r->part[p].len; }
     uint64_t eight = number();
-    switch (below(12)) {
+    switch (below(10)) {
     case 0: {
         struct iobufmut_at places[VIEWS];
         size_t count = below(VIEWS + 1);
@@ -469,8 +461,8 @@ static void row_call(int i, int j, int k) {
         if (m > len) { CHECK(iobufsmut_copy_to_slice(at, some, m > 2 * MOST ? 2 * MOST : m) == IOBUFS_END_OF_BUFFER); break; }
         OK(iobufsmut_copy_to_slice(at, some, m)); CHECK(!memcmp(some, all, m)); row_drain(r, m); break;
     case 7:
-        any_bytes(len); OK(iobufsmut_copy_from_slice(at, some, len));
-        for (size_t p = 0, seen = 0; p < r->count; seen += r->part[p++].len) memcpy(r->part[p].at, some + seen, r->part[p].len);
+        CHECK(iobufsmut_put_u64(at, eight) == (room < 8 ? IOBUFS_OUT_OF_RANGE : IOBUFS_OK));
+        if (room >= 8) { number_bytes(some, eight, 8); row_put(r, some, 8); }
         break;
     case 8:
         OK(iobufsmut_freeze(at, &text_at[j])); drop_text(&texts[j]);
@@ -481,14 +473,6 @@ static void row_call(int i, int j, int k) {
         if (r->count == 1) parts[k] = r->part[0];
         else { memcpy(parts[k].at, all, len); parts[k].len = parts[k].capacity = len; parts[k].there = 1; }
         memset(r, 0, sizeof *r); r->count = 1; same_part(k); break;
-    case 10:
-        CHECK(iobufsmut_try_into_single(at, &part_at[k]) == (r->count == 1 ? IOBUFS_OK : IOBUFS_DECLINED));
-        if (r->count == 1) { parts[k] = r->part[0]; memset(r, 0, sizeof *r); r->count = 1; }
-        same_part(k); break;
-    case 11:
-        CHECK(iobufsmut_put_u64(at, eight) == (room < 8 ? IOBUFS_OUT_OF_RANGE : IOBUFS_OK));
-        if (room >= 8) { number_bytes(some, eight, 8); row_put(r, some, 8); }
-        break;
     }
     same_row(i);
 }

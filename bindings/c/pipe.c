@@ -74,7 +74,7 @@ static size_t read_some(int from, uint8_t *room) {
 static const uint8_t *make_bodies(struct iobuf_at *block, struct iobufmut_at *part, size_t i, size_t n) {
     const uint8_t *at;
     if (iobuf_try_into_mut(block, part) != IOBUFS_OK || iobufmut_capacity(part) < batch() * body) OK(iobufmut_with_capacity(batch() * body, part));
-    iobufmut_clear(part);
+    iobufmut_truncate(part, 0);
     for (size_t k = 0; k < n; k++, i++) {
         OK(iobufmut_put_slice(part, (const uint8_t *)&i, sizeof i));
         OK(iobufmut_put_bytes(part, filler(i), body - sizeof i));
@@ -97,7 +97,7 @@ static void put_frame(struct iobufs_builder_at *builder, struct iobuf_at *bodies
 }
 
 static void send_text(int to, struct iobufs_at *text) {
-    while (!iobufs_is_empty(text)) {
+    while (iobufs_len(text) > 0) {
         struct iovec list[LIST];
         size_t len = 0, n = iobufs_chunks(text, (struct iobufs_iovec *)list, listed());
         for (size_t i = 0; i < n; i++) len += list[i].iov_len;

@@ -53,15 +53,12 @@ typedef void kept(struct made *);
 
 static iobufs_status copy(struct made *m) { return iobuf_copy_from_slice(bytes("abc"), 3, &m->out_view); }
 static iobufs_status with_capacity(struct made *m) { return iobufmut_with_capacity(9, &m->out_part); }
-static iobufs_status with_alignment(struct made *m) { return iobufmut_with_alignment(9, 8, &m->out_part); }
 static iobufs_status zeroed(struct made *m) { return iobufmut_zeroed(9, &m->out_part); }
-static iobufs_status zeroed_aligned(struct made *m) { return iobufmut_zeroed_with_alignment(9, 8, &m->out_part); }
 static iobufs_status part_copy(struct made *m) { return iobufmut_copy_from_slice(bytes("abc"), 3, &m->out_part); }
 static iobufs_status from_view(struct made *m) { return iobufmut_from_view(&m->shared, &m->out_part); }
 static iobufs_status freeze(struct made *m) { return iobufmut_freeze(&m->part, &m->out_view); }
 static iobufs_status clone(struct made *m) { return iobuf_clone(&m->view, &m->out_view); }
 static iobufs_status split(struct made *m) { return iobuf_split_to(&m->view, 1, &m->out_view); }
-static iobufs_status take(struct made *m) { return iobuf_take(&m->view, 2, &m->out_view); }
 static iobufs_status slice(struct made *m) { return iobuf_slice(&m->view, 0, 1, 2, 0, &m->out_view); }
 static iobufs_status text_clone(struct made *m) { return iobufs_clone(&m->text, &m->out_text); }
 static iobufs_status append(struct made *m) { return iobufs_append(&m->text, &m->view); }
@@ -73,7 +70,6 @@ static iobufs_status text_truncate(struct made *m) { return iobufs_truncate(&m->
 static iobufs_status text_take(struct made *m) { return iobufs_take(&m->text, 5, &m->out_view); }
 static iobufs_status text_take_after(struct made *m) { return iobufs_take_after(&m->text, 1, 5, &m->out_view); }
 static iobufs_status coalesce(struct made *m) { return iobufs_coalesce(&m->text, &m->out_view); }
-static iobufs_status text_from_mut(struct made *m) { return iobufs_from_mut(&m->part, &m->out_text); }
 static iobufs_status parts_freeze(struct made *m) { return iobufsmut_freeze(&m->parts, &m->out_text); }
 static iobufs_status parts_coalesce(struct made *m) { return iobufsmut_coalesce(&m->parts, &m->out_part); }
 static iobufs_status from_parts(struct made *m) {
@@ -85,18 +81,6 @@ static iobufs_status from_parts(struct made *m) {
     iobufsmut_drop(&out);
     return status;
 }
-
-/* Into memory that holds no buffer: one that was made is dropped. */
-#define MADE(type, call) struct type memory; struct type##_at out = { &memory }; \
-    iobufs_status status = call; if (status == IOBUFS_OK) type##_drop(&out); return status
-static iobufs_status clone_init(struct made *m) { MADE(iobuf, iobuf_clone_init(&m->view, &out)); }
-static iobufs_status split_init(struct made *m) { MADE(iobuf, iobuf_split_to_init(&m->view, 1, &out)); }
-static iobufs_status slice_init(struct made *m) { MADE(iobuf, iobuf_slice_init(&m->view, 1, 3, &out)); }
-static iobufs_status freeze_init(struct made *m) { MADE(iobuf, iobufmut_freeze_init(&m->part, &out)); }
-static iobufs_status recover_init(struct made *m) { MADE(iobufmut, iobuf_try_into_mut_init(&m->view, &out)); }
-static iobufs_status text_split_init(struct made *m) { MADE(iobufs, iobufs_split_to_init(&m->text, 4, &out)); }
-static iobufs_status text_take_init(struct made *m) { MADE(iobuf, iobufs_take_init(&m->text, 5, &out)); }
-static iobufs_status parts_freeze_init(struct made *m) { MADE(iobufs, iobufsmut_freeze_init(&m->parts, &out)); }
 
 static iobufs_status builder_new(struct made *m) { return iobufs_builder_new(9, &m->builder); }
 static iobufs_status push(struct made *m) { return iobufs_builder_push(&m->builder, &m->view); }
@@ -133,23 +117,17 @@ static void received_stays(struct made *m) {
 static void given_up(struct made *m) { (void)m; }
 
 static const struct { const char *name; run *call; kept *stays; } cases[] = {
-    { "copy", copy, view_stays }, { "with_capacity", with_capacity, given_up }, { "with_alignment", with_alignment, given_up },
-    { "zeroed", zeroed, given_up }, { "zeroed_with_alignment", zeroed_aligned, given_up }, { "part copy", part_copy, given_up },
+    { "copy", copy, view_stays }, { "with_capacity", with_capacity, given_up }, { "zeroed", zeroed, given_up }, { "part copy", part_copy, given_up },
     { "from_view", from_view, shared_stays }, { "freeze", freeze, given_up }, { "clone", clone, view_stays },
-    { "split_to", split, view_stays }, { "take", take, view_stays }, { "slice", slice, view_stays },
+    { "split_to", split, view_stays }, { "slice", slice, view_stays },
     { "text clone", text_clone, text_stays }, { "append", append, text_stays }, { "prepend", prepend, text_stays },
     { "append_all", append_all, both_stay },
     { "text split_to", text_split, text_stays }, { "text slice", text_slice, text_stays }, { "text truncate", text_truncate, text_stays }, { "text take", text_take, text_stays },
     { "text take_after", text_take_after, text_stays }, { "coalesce", coalesce, given_up },
-    { "from_mut", text_from_mut, given_up }, { "parts freeze", parts_freeze, given_up },
-    { "parts coalesce", parts_coalesce, given_up }, { "from_parts", from_parts, given_up },
+    { "parts freeze", parts_freeze, given_up }, { "parts coalesce", parts_coalesce, given_up }, { "from_parts", from_parts, given_up },
     { "builder", builder_new, builder_stays }, { "push", push, builder_stays }, { "finish", finish, given_up },
     { "feed", feed, frames_stay }, { "next", next, frames_stay }, { "rest", rest, frames_stay },
     { "space", space, received_stays }, { "received next", received, received_stays },
-    { "clone_init", clone_init, view_stays }, { "split_to_init", split_init, view_stays }, { "slice_init", slice_init, view_stays },
-    { "freeze_init", freeze_init, given_up }, { "try_into_mut_init", recover_init, view_stays },
-    { "text split_to_init", text_split_init, text_stays }, { "text take_init", text_take_init, text_stays },
-    { "parts freeze_init", parts_freeze_init, given_up },
     { "read_view", read_view, text_stays }, { "view read_view", view_read, view_stays },
 };
 
@@ -180,9 +158,9 @@ static int refused(run *call, kept *stays, long k) {
     OK(iobufs_received_new(IOBUFS_VARINT, &received)); OK(iobufs_received_new(IOBUFS_VARINT, &fresh));
     receive(&received, "\3abc", 4);
     for (size_t i = 0; i < iobufs_chunk_count(&text); i++) {
-        const uint8_t *at;
-        size_t n = iobufs_chunk_at(&text, i, &at);
-        OK(iobuf_copy_from_slice(at, n, &other));
+        struct iobufs_iovec chunk;
+        CHECK(iobufs_chunks_from(&text, i, &chunk, 1) == 1);
+        OK(iobuf_copy_from_slice(chunk.base, chunk.len, &other));
         OK(iobufs_frames_feed(&frames, &other));
     }
     OK(iobuf_clone(&shared, &other));

@@ -32,15 +32,13 @@ int main(int argc, char **argv) {
     iobufs_from_view(&w, &one);
     for (int i = 0; i < 4; i++) { OK(iobuf_clone(&v, &w)); OK(iobufs_append(&t, &w)); }
     const uint8_t *at;
-    uint8_t *room, byte;
+    uint8_t *room;
     struct { const uint8_t *at; size_t len; } plain = { bytes("hello world"), 11 };
     volatile size_t *len = &plain.len;
     size_t sum = 0;
     TIME("plain length", *len);
     TIME("iobuf_len", iobuf_len(&v));
-    TIME("iobuf_is_empty", iobuf_is_empty(&v));
     TIME("iobuf_chunk", iobuf_chunk(&v, &at));
-    TIME("iobuf_byte_at", iobuf_byte_at(&v, 3, &byte));
     TIME("iobufmut_len", iobufmut_len(&p));
     TIME("iobufmut_capacity", iobufmut_capacity(&p));
     TIME("iobufmut_remaining_mut", iobufmut_remaining_mut(&p));

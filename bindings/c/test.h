@@ -46,19 +46,18 @@ static inline int text_is(const struct iobufs_at *text, const char *wanted) {
     size_t len = strlen(wanted), seen = 0;
     if (iobufs_len(text) != len) return 0;
     for (size_t i = 0; i < iobufs_chunk_count(text); i++) {
-        const uint8_t *at;
-        size_t n = iobufs_chunk_at(text, i, &at);
-        if (n == 0 || memcmp(at, wanted + seen, n)) return 0;
-        seen += n;
+        struct iobufs_iovec chunk;
+        if (iobufs_chunks_from(text, i, &chunk, 1) != 1) return 0;
+        if (chunk.len == 0 || memcmp(chunk.base, wanted + seen, chunk.len)) return 0;
+        seen += chunk.len;
     }
     return seen == len;
 }
 static inline int parts_are(struct iobufsmut_at *parts, const char *wanted) {
-    size_t len = strlen(wanted);
+    struct iobufs_iovec list[4];
+    size_t len = strlen(wanted), seen = 0, count = iobufsmut_chunks(parts, list, 4);
     if (iobufsmut_len(parts) != len) return 0;
-    for (size_t i = 0; i < len; i++) {
-        uint8_t byte;
-        if (!iobufsmut_byte_at(parts, i, &byte) || byte != (uint8_t)wanted[i]) return 0;
-    }
-    return 1;
+    for (size_t i = 0; i < count; seen += list[i++].len)
+        if (memcmp(list[i].base, wanted + seen, list[i].len)) return 0;
+    return seen == len;
 }

@@ -13,15 +13,12 @@
  * A call that can fail returns a status (`iobufs_status`, named by `iobufs_strerror`), and the compiler warns if it isn't looked
  * at. A call that cannot fail returns its result or nothing. Ranges, offsets and space are tested: if they don't fit, the
  * status says so, and unless the comment says otherwise nothing has changed. A buffer that is moved into another leaves its
- * own handle empty; an empty handle may be used, and dropped, again. What an `out` handle held is dropped. Calls whose names
- * end in `_init` are the exception, and cheaper: their `out` names memory that holds no buffer yet, as uninitialized memory, and
- * they make one of it, so that no `.._init` comes before. Nothing is dropped there. Unless such a call returns IOBUFS_OK, its
- * `out` holds no buffer afterwards either, and must not be dropped.
+ * own handle empty; an empty handle may be used, and dropped, again. Each `out` handle names a buffer, which is overwritten:
+ * what it held is dropped.
  *
  * The caller's duties, which nothing tests:
- *  1. A handle names memory that an `.._init` made a buffer of (`out` of a call that ends in `_init` names other memory, of the
- *     size and the alignment below; a buffer that is there leaks). Memory is freed only after a `.._drop` or `.._deinit` (or
- *     what the buffer holds is leaked). It may be moved (memcpy), and the buffer with it; never two copies may be used.
+ *  1. A handle names memory that an `.._init` made a buffer of. Memory is freed only after a `.._drop` (or what the buffer
+ *     holds is leaked). It may be moved (memcpy), and the buffer with it; never two copies may be used.
  *  2. The handles and other pointers of one call don't overlap: `iobuf_clone(&a, &a)` is not allowed.
  *  3. One call at a time uses a buffer. Another thread may use it after what orders the two (a lock, a thread's start or
  *     join, a SEQ_CST atomic); buffers that share a block may be used by several threads at once. Calls that only look
@@ -61,7 +58,7 @@ extern "C" {
 enum iobufs_code {
     IOBUFS_OK = 0,             /* done */
     IOBUFS_MEMORY = 1,         /* an allocation failed */
-    IOBUFS_BAD_LAYOUT = 2,     /* the alignment is no power of two, or the capacity above SSIZE_MAX */
+    IOBUFS_BAD_LAYOUT = 2,     /* the capacity would be above SSIZE_MAX */
     IOBUFS_TOO_LONG = 3,       /* a sum of lengths or capacities would pass SIZE_MAX */
     IOBUFS_OUT_OF_RANGE = 4,   /* a range or an offset is outside the bytes, or bytes don't fit */
     IOBUFS_END_OF_BUFFER = 5,  /* fewer bytes remain than the call needs */
@@ -75,7 +72,7 @@ typedef uint8_t iobufs_status;
 /* What a status says, in English. Never NULL, also for a number that is no status. */
 static inline const char *iobufs_strerror(iobufs_status status) {
     static const char *const texts[] = {
-        "done", "an allocation failed", "bad alignment or capacity", "lengths or capacities add up to too much",
+        "done", "an allocation failed", "capacity too large", "lengths or capacities add up to too much",
         "outside the bytes or the space", "fewer bytes remain", "no varint", "length outside the range",
         "the buffer can't be converted", "unknown kind",
     };
@@ -89,8 +86,8 @@ static inline const char *iobufs_strerror(iobufs_status status) {
 #define IOBUFS_CHECKED
 #endif
 
-/* Sizes and alignments, of which a buffer's memory has to be. The library's own, which `iobuf_size()` .. return, are at most
- * these: they depend on how it was built. */
+/* Sizes and the alignment, of which a buffer's memory has to be. The library's own are at most these, and depend on how it
+ * was built; `iobuf_size()` .. return the sizes. */
 #define IOBUF_SIZE 48
 #define IOBUFMUT_SIZE 64
 #define IOBUFS_SIZE 56
@@ -154,15 +151,10 @@ enum iobufs_prefix {
 
 /* The library's size of a `struct iobuf`. */
 size_t iobuf_size(void);
-/* The library's alignment of a `struct iobuf`. */
-size_t iobuf_align(void);
 /* Makes the empty view of memory. (IoBuf::default) */
 void iobuf_init(struct iobuf *at);
 /* Drops the bytes; the empty view is left. (Drop) */
 void iobuf_drop(struct iobuf_at *src);
-/* Drops the bytes as iobuf_drop does, and leaves no view: the memory is as before `iobuf_init`, and may be freed.
- * (Drop) */
-void iobuf_deinit(struct iobuf_at *src);
 /* A copy of n bytes. (IoBuf::copy_from_slice)
  * Fails: IOBUFS_MEMORY except for 0 bytes. */
 IOBUFS_CHECKED iobufs_status iobuf_copy_from_slice(const uint8_t *src, size_t n, struct iobuf_at *out);
@@ -171,33 +163,20 @@ IOBUFS_CHECKED iobufs_status iobuf_copy_from_slice(const uint8_t *src, size_t n,
 void iobuf_from_static(const uint8_t *text, size_t n, struct iobuf_at *out);
 /* The number of bytes. (IoBuf::len) */
 size_t iobuf_len(const struct iobuf_at *src);
-/* Whether there are none. (IoBuf::is_empty) */
-bool iobuf_is_empty(const struct iobuf_at *src);
 /* Writes a pointer to the bytes, and returns how many there are; of none it isn't NULL, and may not be read.
  * (AsRef, Buf::chunk) */
 size_t iobuf_chunk(const struct iobuf_at *src, const uint8_t **out);
-/* Writes the byte at offset i, and returns whether there is one. (own) */
-bool iobuf_byte_at(const struct iobuf_at *src, size_t i, uint8_t *out);
 /* Whether two views hold the same bytes. (PartialEq) */
 bool iobuf_eq(const struct iobuf_at *src, const struct iobuf_at *other);
 /* Another view of the same bytes, in their storage: no byte is copied. (Clone)
  * Fails: IOBUFS_MEMORY (reserved). */
 IOBUFS_CHECKED iobufs_status iobuf_clone(const struct iobuf_at *src, struct iobuf_at *out);
-/* Another view, as iobuf_clone makes it, in memory that holds none. (Clone)
- * Fails: IOBUFS_MEMORY (reserved). */
-IOBUFS_CHECKED iobufs_status iobuf_clone_init(const struct iobuf_at *src, struct iobuf_at *out);
 /* Drops the first n bytes. (Buf::advance)
  * Fails: IOBUFS_OUT_OF_RANGE if there are fewer. */
 IOBUFS_CHECKED iobufs_status iobuf_advance(struct iobuf_at *src, size_t n);
 /* Takes the first `at` bytes, in the same storage. (IoBuf::split_to)
  * Fails: IOBUFS_OUT_OF_RANGE if there are fewer; IOBUFS_MEMORY (reserved). */
 IOBUFS_CHECKED iobufs_status iobuf_split_to(struct iobuf_at *src, size_t at, struct iobuf_at *out);
-/* Takes the first `at` bytes, as iobuf_split_to does, to memory that holds no view. (IoBuf::split_to)
- * Fails: IOBUFS_OUT_OF_RANGE if there are fewer; IOBUFS_MEMORY (reserved). */
-IOBUFS_CHECKED iobufs_status iobuf_split_to_init(struct iobuf_at *src, size_t at, struct iobuf_at *out);
-/* Takes the first n bytes, in the same storage. (take_owned, Buf::copy_to_bytes)
- * Fails: IOBUFS_END_OF_BUFFER if there are fewer; IOBUFS_MEMORY (reserved). */
-IOBUFS_CHECKED iobufs_status iobuf_take(struct iobuf_at *src, size_t n, struct iobuf_at *out);
 /* Copies the first n bytes out and drops them. (Buf::copy_to_slice)
  * Fails: IOBUFS_END_OF_BUFFER if there are fewer. */
 IOBUFS_CHECKED iobufs_status iobuf_copy_to_slice(struct iobuf_at *src, uint8_t *dst, size_t n);
@@ -205,25 +184,16 @@ IOBUFS_CHECKED iobufs_status iobuf_copy_to_slice(struct iobuf_at *src, uint8_t *
  * Fails: IOBUFS_BAD_KIND if a kind is none of these; IOBUFS_OUT_OF_RANGE if the range isn't within the bytes;
  *   IOBUFS_MEMORY (reserved). */
 IOBUFS_CHECKED iobufs_status iobuf_slice(const struct iobuf_at *src, uint8_t lo_kind, size_t lo, uint8_t hi_kind, size_t hi, struct iobuf_at *out);
-/* The bytes from offset lo to hi, in the same storage, in memory that holds no view. (IoBuf::slice)
- * Fails: IOBUFS_OUT_OF_RANGE if lo is above hi, or hi above the length; IOBUFS_MEMORY (reserved). */
-IOBUFS_CHECKED iobufs_status iobuf_slice_init(const struct iobuf_at *src, size_t lo, size_t hi, struct iobuf_at *out);
 /* Recovers the storage as a writable buffer, and leaves the empty view. It recovers native storage that no other
  * view shares: tested, not proved. (IoBuf::try_into_mut)
  * Fails: IOBUFS_DECLINED if the storage isn't recovered.
  * Keeps: the view. */
 IOBUFS_CHECKED iobufs_status iobuf_try_into_mut(struct iobuf_at *src, struct iobufmut_at *out);
-/* Recovers the storage, as iobuf_try_into_mut does, to memory that holds no buffer. (IoBuf::try_into_mut)
- * Fails: IOBUFS_DECLINED if the storage isn't recovered.
- * Keeps: the view. */
-IOBUFS_CHECKED iobufs_status iobuf_try_into_mut_init(struct iobuf_at *src, struct iobufmut_at *out);
 
 /* ---- iobufmut (IoBufMut): a buffer to write, of a fixed capacity. None reads as one of capacity 0 ---- */
 
 /* The library's size of a `struct iobufmut`. */
 size_t iobufmut_size(void);
-/* The library's alignment of a `struct iobufmut`. */
-size_t iobufmut_align(void);
 /* Makes a handle with no buffer of memory. */
 void iobufmut_init(struct iobufmut *at);
 /* Drops the buffer; none is left. (Drop) */
@@ -231,17 +201,9 @@ void iobufmut_drop(struct iobufmut_at *part);
 /* An empty buffer of capacity n. (IoBufMut::with_capacity)
  * Fails: IOBUFS_BAD_LAYOUT if n is above SSIZE_MAX; IOBUFS_MEMORY except for 0. */
 IOBUFS_CHECKED iobufs_status iobufmut_with_capacity(size_t n, struct iobufmut_at *out);
-/* An empty buffer of capacity n, after testing the alignment; addresses are not promised. (with_alignment)
- * Fails: IOBUFS_BAD_LAYOUT except for 0 if the alignment is no power of two, or n, rounded up to it, is above
- *   SSIZE_MAX; IOBUFS_MEMORY except for 0. */
-IOBUFS_CHECKED iobufs_status iobufmut_with_alignment(size_t n, size_t align, struct iobufmut_at *out);
 /* A buffer of n bytes, all zero. (IoBufMut::zeroed)
  * Fails: IOBUFS_BAD_LAYOUT if n is above SSIZE_MAX; IOBUFS_MEMORY except for 0. */
 IOBUFS_CHECKED iobufs_status iobufmut_zeroed(size_t n, struct iobufmut_at *out);
-/* A buffer of n zeros, after testing the alignment, as iobufmut_with_alignment does. (zeroed_with_alignment)
- * Fails: IOBUFS_BAD_LAYOUT except for 0 if the alignment is no power of two, or n, rounded up to it, is above
- *   SSIZE_MAX; IOBUFS_MEMORY except for 0. */
-IOBUFS_CHECKED iobufs_status iobufmut_zeroed_with_alignment(size_t n, size_t align, struct iobufmut_at *out);
 /* A copy of n bytes, without spare capacity. (From<&[u8]>)
  * Fails: IOBUFS_MEMORY except for 0 bytes. */
 IOBUFS_CHECKED iobufs_status iobufmut_copy_from_slice(const uint8_t *src, size_t n, struct iobufmut_at *out);
@@ -251,8 +213,6 @@ IOBUFS_CHECKED iobufs_status iobufmut_copy_from_slice(const uint8_t *src, size_t
 IOBUFS_CHECKED iobufs_status iobufmut_from_view(struct iobuf_at *src, struct iobufmut_at *out);
 /* The number of readable bytes. (len) */
 size_t iobufmut_len(const struct iobufmut_at *part);
-/* Whether there are none. (is_empty) */
-bool iobufmut_is_empty(const struct iobufmut_at *part);
 /* How many bytes fit, counted from the first readable one. (capacity) */
 size_t iobufmut_capacity(const struct iobufmut_at *part);
 /* How many bytes may still be put. (BufMut::remaining_mut) */
@@ -289,8 +249,6 @@ IOBUFS_CHECKED iobufs_status iobufmut_write_at(struct iobufmut_at *part, size_t 
 IOBUFS_CHECKED iobufs_status iobufmut_set_len(struct iobufmut_at *part, size_t n);
 /* Keeps at most the first n bytes. (truncate) */
 void iobufmut_truncate(struct iobufmut_at *part, size_t n);
-/* Keeps no byte, and the capacity. (clear) */
-void iobufmut_clear(struct iobufmut_at *part);
 /* Drops the first n readable bytes. (Buf::advance)
  * Fails: IOBUFS_OUT_OF_RANGE if there are fewer. */
 IOBUFS_CHECKED iobufs_status iobufmut_advance(struct iobufmut_at *part, size_t n);
@@ -300,51 +258,34 @@ IOBUFS_CHECKED iobufs_status iobufmut_copy_to_slice(struct iobufmut_at *part, ui
 /* The bytes as a view, not copied; no buffer is left. (freeze)
  * Fails: IOBUFS_MEMORY (reserved), and the buffer is dropped. */
 IOBUFS_CHECKED iobufs_status iobufmut_freeze(struct iobufmut_at *part, struct iobuf_at *out);
-/* The bytes as a view, as iobufmut_freeze makes it, in memory that holds none. (freeze)
- * Fails: IOBUFS_MEMORY (reserved), and the buffer is dropped. */
-IOBUFS_CHECKED iobufs_status iobufmut_freeze_init(struct iobufmut_at *part, struct iobuf_at *out);
 
 /* ---- iobufs (IoBufs): bytes in several chunks, none of which is copied ---- */
 
 /* The library's size of a `struct iobufs`. */
 size_t iobufs_size(void);
-/* The library's alignment of a `struct iobufs`. */
-size_t iobufs_align(void);
 /* Makes memory an empty iobufs. (IoBufs::default) */
 void iobufs_init(struct iobufs *at);
 /* Drops the bytes; it is empty then. (Drop) */
 void iobufs_drop(struct iobufs_at *bufs);
 /* An iobufs of one view, which is left empty. (From<IoBuf>) */
 void iobufs_from_view(struct iobuf_at *src, struct iobufs_at *out);
-/* An iobufs of a writable buffer; none is left. (From<IoBufMut>)
- * Fails: IOBUFS_MEMORY (reserved), and the buffer is dropped. */
-IOBUFS_CHECKED iobufs_status iobufs_from_mut(struct iobufmut_at *part, struct iobufs_at *out);
 /* The same bytes once more, in their storage. (Clone)
  * Fails: IOBUFS_MEMORY, for the deque of chunks. */
 IOBUFS_CHECKED iobufs_status iobufs_clone(const struct iobufs_at *bufs, struct iobufs_at *out);
 /* The number of bytes. (IoBufs::len) */
 size_t iobufs_len(const struct iobufs_at *bufs);
-/* Whether there are none. (IoBufs::is_empty) */
-bool iobufs_is_empty(const struct iobufs_at *bufs);
 /* Whether both hold the same bytes, for every chunking. (==) */
 bool iobufs_eq(const struct iobufs_at *bufs, const struct iobufs_at *other);
-/* Whether all bytes are in one chunk. (is_single) */
-bool iobufs_is_single(const struct iobufs_at *bufs);
 /* The number of chunks that hold bytes. (chunk_count) */
 size_t iobufs_chunk_count(const struct iobufs_at *bufs);
 /* Writes a pointer to the first chunk, as iobuf_chunk does, and returns its length. (Buf::chunk) */
 size_t iobufs_chunk(const struct iobufs_at *bufs, const uint8_t **out);
-/* Writes a pointer to chunk i, counted from 0, and returns its length; 0 if there is none, and it writes nothing.
- * (chunk_at) */
-size_t iobufs_chunk_at(const struct iobufs_at *bufs, size_t i, const uint8_t **out);
 /* Fills a list of n for writev with the first chunks, and returns how many it filled. iobufs_advance then takes the
  * count that writev returns. (Buf::chunks_vectored) */
 size_t iobufs_chunks(const struct iobufs_at *bufs, struct iobufs_iovec *out, size_t n);
 /* Fills a list of n with the chunks from chunk first on, counted from 0, and returns how many it filled; 0 if there
  * are none. So a loop takes many chunks at a time. (own) */
 size_t iobufs_chunks_from(const struct iobufs_at *bufs, size_t first, struct iobufs_iovec *out, size_t n);
-/* Writes the byte at offset i, and returns whether there is one. (own) */
-bool iobufs_byte_at(const struct iobufs_at *bufs, size_t i, uint8_t *out);
 /* Writes the index of the chunk that contains an offset, and the distance from its start. (own)
  * Fails: IOBUFS_OUT_OF_RANGE if the offset is at the end, or after it. */
 IOBUFS_CHECKED iobufs_status iobufs_locate(const struct iobufs_at *bufs, size_t at, size_t *index, size_t *offset);
@@ -359,9 +300,6 @@ IOBUFS_CHECKED iobufs_status iobufs_prepend(struct iobufs_at *bufs, struct iobuf
 /* Takes the first `at` bytes. (IoBufs::split_to)
  * Fails: IOBUFS_OUT_OF_RANGE if there are fewer; IOBUFS_MEMORY, at times. */
 IOBUFS_CHECKED iobufs_status iobufs_split_to(struct iobufs_at *bufs, size_t at, struct iobufs_at *out);
-/* Takes the first `at` bytes, as iobufs_split_to does, to memory that holds no iobufs. (IoBufs::split_to)
- * Fails: IOBUFS_OUT_OF_RANGE if there are fewer; IOBUFS_MEMORY, at times. */
-IOBUFS_CHECKED iobufs_status iobufs_split_to_init(struct iobufs_at *bufs, size_t at, struct iobufs_at *out);
 /* The bytes from offset lo to hi, in their storage. It costs the chunks of that range alone. (own)
  * Fails: IOBUFS_OUT_OF_RANGE if lo is above hi, or hi above the length; IOBUFS_MEMORY. */
 IOBUFS_CHECKED iobufs_status iobufs_slice(const struct iobufs_at *bufs, size_t lo, size_t hi, struct iobufs_at *out);
@@ -382,9 +320,6 @@ IOBUFS_CHECKED iobufs_status iobufs_peek(const struct iobufs_at *bufs, size_t sk
 /* Takes the first n bytes as one view: shared within a chunk, a copy across chunks. (take_owned, Buf::copy_to_bytes)
  * Fails: IOBUFS_END_OF_BUFFER if there are fewer; IOBUFS_MEMORY, for the copy. */
 IOBUFS_CHECKED iobufs_status iobufs_take(struct iobufs_at *bufs, size_t n, struct iobuf_at *out);
-/* Takes the first n bytes, as iobufs_take does, to memory that holds no view. (take_owned, Buf::copy_to_bytes)
- * Fails: IOBUFS_END_OF_BUFFER if there are fewer; IOBUFS_MEMORY, for the copy. */
-IOBUFS_CHECKED iobufs_status iobufs_take_init(struct iobufs_at *bufs, size_t n, struct iobuf_at *out);
 /* Takes the n bytes after the first `skip`, which are dropped too, as one view, as iobufs_take does. (own)
  * Fails: IOBUFS_END_OF_BUFFER if there are fewer; IOBUFS_MEMORY, for the copy. */
 IOBUFS_CHECKED iobufs_status iobufs_take_after(struct iobufs_at *bufs, size_t skip, size_t n, struct iobuf_at *out);
@@ -401,8 +336,6 @@ IOBUFS_CHECKED iobufs_status iobufs_try_into_single(struct iobufs_at *bufs, stru
 
 /* The library's size of a `struct iobufsmut`. */
 size_t iobufsmut_size(void);
-/* The library's alignment of a `struct iobufsmut`. */
-size_t iobufsmut_align(void);
 /* Makes a handle with no parts of memory. */
 void iobufsmut_init(struct iobufsmut *at);
 /* Drops the buffers; none are left. (Drop) */
@@ -415,27 +348,18 @@ void iobufsmut_from_mut(struct iobufmut_at *part, struct iobufsmut_at *out);
 IOBUFS_CHECKED iobufs_status iobufsmut_from_parts(struct iobufmut_at *buffers, size_t n, struct iobufsmut_at *out);
 /* The number of readable bytes. (len) */
 size_t iobufsmut_len(const struct iobufsmut_at *parts);
-/* Whether there are none. (is_empty) */
-bool iobufsmut_is_empty(const struct iobufsmut_at *parts);
 /* How many bytes fit, counted from the first readable one. (capacity) */
 size_t iobufsmut_capacity(const struct iobufsmut_at *parts);
 /* How many bytes may still be put. (BufMut::remaining_mut) */
 size_t iobufsmut_remaining_mut(const struct iobufsmut_at *parts);
 /* The number of parts. (own) */
 size_t iobufsmut_part_count(const struct iobufsmut_at *parts);
-/* Whether there is just one. (is_single) */
-bool iobufsmut_is_single(const struct iobufsmut_at *parts);
 /* Writes a pointer to the first chunk of the readable bytes, as iobuf_chunk does, and returns its length; it may be
  * overwritten there. If there are no parts, it writes none. (Buf::chunk) */
 size_t iobufsmut_chunk(struct iobufsmut_at *parts, uint8_t **out);
-/* Writes a pointer to the readable bytes of part i, as iobuf_chunk does, and its capacity, and returns how many they
- * are; if there is no part i, writes no pointer and the capacity 0. (own) */
-size_t iobufsmut_part_at(struct iobufsmut_at *parts, size_t i, uint8_t **out, size_t *capacity);
 /* Fills a list of n for readv (or writev) with the first chunks of the readable bytes, and returns how many it
  * filled. To read into parts, set their length first. (Buf::chunks_vectored) */
 size_t iobufsmut_chunks(const struct iobufsmut_at *parts, struct iobufs_iovec *out, size_t n);
-/* Writes the readable byte at offset i, and returns whether there is one. (own) */
-bool iobufsmut_byte_at(const struct iobufsmut_at *parts, size_t i, uint8_t *out);
 /* Puts bytes, part after part. (BufMut::put_slice)
  * Fails: IOBUFS_OUT_OF_RANGE if they don't fit. */
 IOBUFS_CHECKED iobufs_status iobufsmut_put_slice(struct iobufsmut_at *parts, const uint8_t *src, size_t n);
@@ -466,29 +390,17 @@ IOBUFS_CHECKED iobufs_status iobufsmut_advance(struct iobufsmut_at *parts, size_
 /* Copies the first n bytes out and drops them. (Buf::copy_to_slice)
  * Fails: IOBUFS_END_OF_BUFFER if there are fewer. */
 IOBUFS_CHECKED iobufs_status iobufsmut_copy_to_slice(struct iobufsmut_at *parts, uint8_t *dst, size_t n);
-/* Overwrites the readable bytes, of which there have to be n. (copy_from_slice)
- * Fails: IOBUFS_OUT_OF_RANGE if there are fewer or more. */
-IOBUFS_CHECKED iobufs_status iobufsmut_copy_from_slice(struct iobufsmut_at *parts, const uint8_t *src, size_t n);
 /* The parts that hold bytes as the chunks of one iobufs, not copied; none are left. (freeze)
  * Fails: IOBUFS_MEMORY, for the deque, and the parts are dropped. */
 IOBUFS_CHECKED iobufs_status iobufsmut_freeze(struct iobufsmut_at *parts, struct iobufs_at *out);
-/* The parts as one iobufs, as iobufsmut_freeze makes it, in memory that holds none. (freeze)
- * Fails: IOBUFS_MEMORY, for the deque, and the parts are dropped. */
-IOBUFS_CHECKED iobufs_status iobufsmut_freeze_init(struct iobufsmut_at *parts, struct iobufs_at *out);
 /* The parts as one buffer, with a copy of several. None are left, also after an error. (coalesce)
  * Fails: IOBUFS_BAD_LAYOUT if several have more than SSIZE_MAX bytes; IOBUFS_MEMORY, for the copy. */
 IOBUFS_CHECKED iobufs_status iobufsmut_coalesce(struct iobufsmut_at *parts, struct iobufmut_at *out);
-/* The only part as a buffer; none are left. (try_into_single)
- * Fails: IOBUFS_DECLINED if there are more.
- * Keeps: the parts. */
-IOBUFS_CHECKED iobufs_status iobufsmut_try_into_single(struct iobufsmut_at *parts, struct iobufmut_at *out);
 
 /* ---- iobufs_builder (Builder): bytes that are put, and views that are pushed, as one iobufs ---- */
 
 /* The library's size of a `struct iobufs_builder`. */
 size_t iobufs_builder_size(void);
-/* The library's alignment of a `struct iobufs_builder`. */
-size_t iobufs_builder_align(void);
 /* Makes a handle with no builder of memory. */
 void iobufs_builder_init(struct iobufs_builder *at);
 /* Drops the builder; none is left. (Drop) */
@@ -593,8 +505,6 @@ IOBUFS_CHECKED iobufs_status iobufs_get_u64(struct iobufs_at *bufs, uint64_t *ou
 
 /* The library's size of a `struct iobufs_frames`. */
 size_t iobufs_frames_size(void);
-/* The library's alignment of a `struct iobufs_frames`. */
-size_t iobufs_frames_align(void);
 /* Makes frames of memory, to which nothing was fed, with varint lengths. (own) */
 void iobufs_frames_init(struct iobufs_frames *at);
 /* Drops what was fed; nothing is left, and lengths are varints. (Drop) */
@@ -631,8 +541,6 @@ IOBUFS_CHECKED iobufs_status iobufs_frames_head(uint8_t prefix, size_t n, uint8_
 
 /* The library's size of a `struct iobufs_received`. */
 size_t iobufs_received_size(void);
-/* The library's alignment of a `struct iobufs_received`. */
-size_t iobufs_received_align(void);
 /* Makes a handle with no receive block of memory. */
 void iobufs_received_init(struct iobufs_received *at);
 /* Drops what came and was not taken; no receive block is left. (Drop) */

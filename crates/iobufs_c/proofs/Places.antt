@@ -40,12 +40,12 @@ use denote.Param.Send.{IsSend, Quiet, part_keyless, owning_send, struct_send, se
 use base.Shift.{Keyless}
 
 -- a value's exit is quiet if that of its fields is
-pub quiet : {D X : Type 0} (to : D → X) (e : Exit X) → Quiet e → Quiet (hidden (under to e))
+quiet : {D X : Type 0} (to : D → X) (e : Exit X) → Quiet e → Quiet (hidden (under to e))
 quiet to unchanged q = λ x w. tt
 quiet to (leaves L l S s r₀) q = λ d. q (to d)
 
 -- the memory of a value may go to another thread if the value may
-pub lies : (V : RattleType) → IsSend V → (p : Ptr) (x : V.Denot) → Keyless (lies_at V full_share p x)
+lies : (V : RattleType) → IsSend V → (p : Ptr) (x : V.Denot) → Keyless (lies_at V full_share p x)
 lies V s (block_ptr b o) x = part_keyless V s full_share x b o
 lies V s null_ptr x = tt
 
@@ -149,8 +149,8 @@ module _ (V : RattleType) (name : Sym) (D : Type 0) (at : D → Ptr) (value : D 
         (λ _. tt) in let hs : Stays ended.signature.params ended.kept = (stay_dropped self no, tt) in
         proved 𝓛 ended hs c 𝓜 𝓡 (Goes-spent_ref 𝓛 1 (0 ∷ []) tt (plain (λ _. Row)), tt) k fn closed
         (λ κs. (mut_vals, tt)) (λ κs. (mut_Tells (named 0) κs.0 Row, tt)) (λ κs qs bounds a gh are.
-        let rb : ℕ = a.0.ref_ptr.0 in let ro : ℕ = a.0.ref_ptr.1 in let κ : Lft = κs.0 in let q : Share = qs.0 in let d : Row.Denot = a.0.now in
-        let γ : GName = a.0.ghost_name in
+        let rb : ℕ = a.0.ref_ptr.0 in let ro : ℕ = a.0.ref_ptr.1 in let κ : Lft = κs.0 in let q : Share = qs.0 in
+        let d : Row.Denot = a.0.now in let γ : GName = a.0.ghost_name in
         let at_entry : (walk_of 𝓛 ended hs c).Ghost = ((κs, qs, bounds, a, (vptr rb ro ∷ [], tt)), gh) in
         let Post : Val → SProp 𝓤 = (walk_of 𝓛 ended hs c).post at_entry in
         qed 𝓛 (((‵ (flft κ q) ⊛ ‵ ftrue) ⊛ ‵ (owns (types_at ended.signature.params κs) a at_entry.0.4)) ∷ raw ((c κs a).requires gh) ∷

@@ -1,17 +1,12 @@
 -- The contents of a handle's memory, and how a handle without a buffer reads.
 --     part_row, parts_row,     what the memory holds: a buffer of this kind, or none
 --     builder_row
---     may_lie_at               memory for a value: its own, or uninitialized
 --     part_or_empty, parts_of, what a handle shows: none reads as one that holds nothing and takes nothing
 --     building_or_empty
 --     part_written_at          other bytes written over those that are filled, from an offset on
---     chunk_len                the length of a chunk that may be there
 --     held_parts               the buffers of handles, in order
 --     bound_from_c             a bound in C's form
-use base.Fml.{Fml}
-use base.Fraction.{full_share}
 use denote.RattleType.{RattleType}
-use denote.RawPtr.{Ptr, lies_at, room_at}
 use Rattle.std.specs.Prelude.{ℕ, ◌+◌, Option, Some, None, List, [], ◌∷◌, ◌++◌, length, take, drop, ◌==◌, if◌then◌else◌}
 use Rattle.iobufs_core.specs.Part.{Part, empty_part, part_overwritten}
 use Rattle.iobufs.specs.Building.{Building, empty_building}
@@ -32,11 +27,6 @@ parts_row = option_row of_parts
 abbrev pub builder_row : RattleType
 builder_row = option_row of_builder
 
--- the memory of a value, or memory in which one can be made
-abbrev pub may_lie_at : (V : RattleType) → Ptr → Option V.Denot → Fml
-may_lie_at V at (Some value) = lies_at V full_share at value
-may_lie_at V at None = room_at V at
-
 -- none reads as one that holds nothing and takes nothing
 abbrev pub part_or_empty : Option Part → Part
 part_or_empty (Some part) = part
@@ -53,11 +43,6 @@ building_or_empty None = empty_building 0
 -- other bytes written over those that are filled, from a place on
 abbrev pub part_written_at : Part → ℕ → List ℕ → Part
 part_written_at part at bytes = part_overwritten part (take at part.filled ++ bytes ++ drop (at + length bytes) part.filled)
-
--- the length of a piece that may be there
-abbrev pub chunk_len : Option (List ℕ) → ℕ
-chunk_len (Some chunk) = length chunk
-chunk_len None = 0
 
 -- the buffers at places, in order
 abbrev pub held_parts : List (Option Part) → List Part

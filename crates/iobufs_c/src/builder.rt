@@ -10,8 +10,8 @@ ghost use Rattle.iobufs_c.specs.Codes.{IsDoneUnless, code_of};
 ghost use Rattle.iobufs_c.specs.Rows.{builder_row, building_or_empty};
 
 use crate::part::fits;
-use crate::status::{Status, refusal};
-use crate::text::TextAt;
+use crate::status::{Status, refusal, within};
+use crate::text::{TextAt, hand_text};
 use crate::view::ViewAt;
 use iobufs::bufs::IoBufs;
 use iobufs::builder::Builder;
@@ -66,14 +66,6 @@ pub extern "C" fn iobufs_builder_size() -> usize
     mem::size_of::<Option<Builder>>()
 }
 
-/// Returns the alignment of a builder.
-#[unsafe(no_mangle)]
-pub extern "C" fn iobufs_builder_align() -> usize
-    ensures value { result ≡ 8 }
-{
-    mem::align_of::<Option<Builder>>()
-}
-
 /// Makes a handle of memory, without a builder.
 #[unsafe(no_mangle)]
 pub unsafe extern "C" fn iobufs_builder_init(at: *mut u8)
@@ -93,8 +85,7 @@ pub extern "C" fn iobufs_builder_drop(builder: &mut BuilderAt)
 }
 
 /// Makes a builder for `capacity` inline bytes. Returns `Status::BadLayout` or `Status::Memory` if that fails; then
-/// `out` is
-/// unchanged.
+/// `out` is unchanged.
 #[unsafe(no_mangle)]
 pub extern "C" fn iobufs_builder_new(alloc: Global, capacity: usize, out: &mut BuilderAt) -> u8
     ensures at { out.new.at ≡ out.old.at }
@@ -133,14 +124,10 @@ pub extern "C" fn iobufs_builder_put_slice(builder: &mut BuilderAt, src: &[u8]) 
     ensures result { result ≡ (if nat_le (length src.now)
         (building_room (building_or_empty builder.old.value)) then 0 else code_of Status.OutOfRange) }
 {
-    let Some(builder) = builder.get() else {
-        return fits(src.len(), 0);
-    };
-    if src.len() > builder.remaining_mut() {
-        return Status::OutOfRange.code();
+    match builder.get() {
+        Some(builder) => within(builder.try_put_slice(src)),
+        None => fits(src.len(), 0),
     }
-    builder.put_slice(src);
-    Status::Done.code()
 }
 
 /// Writes a byte `n` times. Returns `Status::OutOfRange` if they don't fit; then nothing changes.
@@ -152,14 +139,10 @@ pub extern "C" fn iobufs_builder_put_bytes(builder: &mut BuilderAt, value: u8, n
     ensures result { result ≡ (if nat_le n (building_room
         (building_or_empty builder.old.value)) then 0 else code_of Status.OutOfRange) }
 {
-    let Some(builder) = builder.get() else {
-        return fits(n, 0);
-    };
-    if n > builder.remaining_mut() {
-        return Status::OutOfRange.code();
+    match builder.get() {
+        Some(builder) => within(builder.try_put_bytes(value, n)),
+        None => fits(n, 0),
     }
-    builder.put_bytes(value, n);
-    Status::Done.code()
 }
 
 /// Writes one byte. Returns `Status::OutOfRange` if it doesn't fit; then nothing changes.
@@ -171,14 +154,10 @@ pub extern "C" fn iobufs_builder_put_u8(builder: &mut BuilderAt, n: u8) -> u8
     ensures result { result ≡ (if nat_le 1 (building_room
         (building_or_empty builder.old.value)) then 0 else code_of Status.OutOfRange) }
 {
-    let Some(builder) = builder.get() else {
-        return fits(1, 0);
-    };
-    if 1 > builder.remaining_mut() {
-        return Status::OutOfRange.code();
+    match builder.get() {
+        Some(builder) => within(builder.try_put_slice(&[n])),
+        None => fits(1, 0),
     }
-    builder.put_u8(n);
-    Status::Done.code()
 }
 
 /// Pushes a view without copying, and leaves its handle empty. Returns `Status::TooLong` or `Status::Memory`, or
@@ -209,8 +188,7 @@ pub extern "C" fn iobufs_builder_push(builder: &mut BuilderAt, piece: &mut ViewA
 }
 
 /// Finishes the builder to an `IoBufs`; none is left. Returns `Status::Memory` if an allocation fails; then the builder
-/// is
-/// dropped, and `out` unchanged.
+/// is dropped, and `out` unchanged.
 #[unsafe(no_mangle)]
 pub extern "C" fn iobufs_builder_finish(builder: &mut BuilderAt, out: &mut TextAt) -> u8
     ensures at { (builder.new.at ≡ builder.old.at) × (out.new.at ≡ out.old.at) }
@@ -225,11 +203,5 @@ pub extern "C" fn iobufs_builder_finish(builder: &mut BuilderAt, out: &mut TextA
         *out.get() = IoBufs::default();
         return Status::Done.code();
     };
-    match builder.finish() {
-        Ok(text) => {
-            *out.get() = text;
-            Status::Done.code()
-        }
-        Err(_) => Status::Memory.code(),
-    }
+    hand_text(builder.finish(), out)
 }

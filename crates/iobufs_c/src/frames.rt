@@ -1,5 +1,5 @@
 // Frames at their places.
-ghost use Rattle.std.specs.Prelude.{◌≡◌, ◌⊎◌, ℕ, ◌+◌, ◌≤◌, ◌<◌, ◌^◌, ◌==◌, if◌then◌else◌, ◌++◌, length, drop, nat_le, false, true, IfNone, IfSome};
+ghost use Rattle.std.specs.Prelude.{◌≡◌, ◌⊎◌, ◌+◌, ◌≤◌, ◌<◌, ◌^◌, ◌==◌, if◌then◌else◌, ◌++◌, length, drop, nat_le, false, true, IfNone, IfSome};
 ghost use Rattle.std.specs.Borrow.{sem, Lends, full_share};
 ghost use Rattle.std.specs.Ptr.{lies_at, room_at};
 ghost use Rattle.iobufs_core.specs.MarkedText.{is_single, text_append, text_len};
@@ -63,14 +63,6 @@ pub extern "C" fn iobufs_frames_size() -> usize
     ensures value { result ≡ 64 }
 {
     mem::size_of::<Frames>()
-}
-
-/// Returns the alignment of frames.
-#[unsafe(no_mangle)]
-pub extern "C" fn iobufs_frames_align() -> usize
-    ensures value { result ≡ 8 }
-{
-    mem::align_of::<Frames>()
 }
 
 /// Makes frames of memory, to which nothing was fed.

@@ -161,8 +161,7 @@ pub extern "C" fn iobuf_read_length(
 }
 
 /// Reads a varint length from `lo` to `hi` at the front of an `IoBufs`, and the bytes after it as a view. Returns a
-/// status
-/// of `iobufs_read_length`, or `Status::Memory`; then both are unchanged.
+/// status of `iobufs_read_length`, or `Status::Memory`; then both are unchanged.
 #[unsafe(no_mangle)]
 pub extern "C" fn iobufs_read_view(
     alloc: Global,

@@ -20,9 +20,7 @@ use crate::view::ViewAt;
 use iobufs_core::codec::Read;
 use std::alloc::Global;
 
-/// Writes a big-endian number of two bytes into an `IoBufMut`. Returns `Status::OutOfRange` if it doesn't fit; then
-/// nothing
-/// changes.
+/// Writes a big-endian `u16` into an `IoBufMut`. Returns `Status::OutOfRange` if it doesn't fit; then nothing changes.
 #[unsafe(no_mangle)]
 pub extern "C" fn iobufmut_put_u16(part: &mut PartAt, n: u16) -> u8
     ensures at { part.new.at ≡ part.old.at }
@@ -33,9 +31,7 @@ pub extern "C" fn iobufmut_put_u16(part: &mut PartAt, n: u16) -> u8
     iobufmut_put_slice(part, &u16::to_be_bytes(n))
 }
 
-/// Writes a big-endian number of four bytes into an `IoBufMut`. Returns `Status::OutOfRange` if it doesn't fit; then
-/// nothing
-/// changes.
+/// Writes a big-endian `u32` into an `IoBufMut`. Returns `Status::OutOfRange` if it doesn't fit; then nothing changes.
 #[unsafe(no_mangle)]
 pub extern "C" fn iobufmut_put_u32(part: &mut PartAt, n: u32) -> u8
     ensures at { part.new.at ≡ part.old.at }
@@ -46,8 +42,7 @@ pub extern "C" fn iobufmut_put_u32(part: &mut PartAt, n: u32) -> u8
     iobufmut_put_slice(part, &u32::to_be_bytes(n))
 }
 
-/// Writes a big-endian number of eight bytes into an `IoBufMut`. Returns `Status::OutOfRange` if it doesn't fit; then
-/// nothing changes.
+/// Writes a big-endian `u64` into an `IoBufMut`. Returns `Status::OutOfRange` if it doesn't fit; then nothing changes.
 #[unsafe(no_mangle)]
 pub extern "C" fn iobufmut_put_u64(part: &mut PartAt, n: u64) -> u8
     ensures at { part.new.at ≡ part.old.at }
@@ -58,9 +53,7 @@ pub extern "C" fn iobufmut_put_u64(part: &mut PartAt, n: u64) -> u8
     iobufmut_put_slice(part, &u64::to_be_bytes(n))
 }
 
-/// Writes a big-endian number of two bytes into an `IoBufsMut`. Returns `Status::OutOfRange` if it doesn't fit; then
-/// nothing
-/// changes.
+/// Writes a big-endian `u16` into an `IoBufsMut`. Returns `Status::OutOfRange` if it doesn't fit; then nothing changes.
 #[unsafe(no_mangle)]
 pub extern "C" fn iobufsmut_put_u16(parts: &mut PartsAt, n: u16) -> u8
     ensures at { parts.new.at ≡ parts.old.at }
@@ -72,8 +65,7 @@ pub extern "C" fn iobufsmut_put_u16(parts: &mut PartsAt, n: u16) -> u8
     iobufsmut_put_slice(parts, &u16::to_be_bytes(n))
 }
 
-/// Writes a big-endian number of four bytes into an `IoBufsMut`. Returns `Status::OutOfRange` if it doesn't fit; then
-/// nothing changes.
+/// Writes a big-endian `u32` into an `IoBufsMut`. Returns `Status::OutOfRange` if it doesn't fit; then nothing changes.
 #[unsafe(no_mangle)]
 pub extern "C" fn iobufsmut_put_u32(parts: &mut PartsAt, n: u32) -> u8
     ensures at { parts.new.at ≡ parts.old.at }
@@ -85,8 +77,7 @@ pub extern "C" fn iobufsmut_put_u32(parts: &mut PartsAt, n: u32) -> u8
     iobufsmut_put_slice(parts, &u32::to_be_bytes(n))
 }
 
-/// Writes a big-endian number of eight bytes into an `IoBufsMut`. Returns `Status::OutOfRange` if it doesn't fit; then
-/// nothing changes.
+/// Writes a big-endian `u64` into an `IoBufsMut`. Returns `Status::OutOfRange` if it doesn't fit; then nothing changes.
 #[unsafe(no_mangle)]
 pub extern "C" fn iobufsmut_put_u64(parts: &mut PartsAt, n: u64) -> u8
     ensures at { parts.new.at ≡ parts.old.at }
@@ -98,8 +89,7 @@ pub extern "C" fn iobufsmut_put_u64(parts: &mut PartsAt, n: u64) -> u8
     iobufsmut_put_slice(parts, &u64::to_be_bytes(n))
 }
 
-/// Writes a big-endian number of two bytes into a builder. Returns `Status::OutOfRange` if it doesn't fit; then nothing
-/// changes.
+/// Writes a big-endian `u16` into a builder. Returns `Status::OutOfRange` if it doesn't fit; then nothing changes.
 #[unsafe(no_mangle)]
 pub extern "C" fn iobufs_builder_put_u16(builder: &mut BuilderAt, n: u16) -> u8
     ensures at { builder.new.at ≡ builder.old.at }
@@ -111,9 +101,7 @@ pub extern "C" fn iobufs_builder_put_u16(builder: &mut BuilderAt, n: u16) -> u8
     iobufs_builder_put_slice(builder, &u16::to_be_bytes(n))
 }
 
-/// Writes a big-endian number of four bytes into a builder. Returns `Status::OutOfRange` if it doesn't fit; then
-/// nothing
-/// changes.
+/// Writes a big-endian `u32` into a builder. Returns `Status::OutOfRange` if it doesn't fit; then nothing changes.
 #[unsafe(no_mangle)]
 pub extern "C" fn iobufs_builder_put_u32(builder: &mut BuilderAt, n: u32) -> u8
     ensures at { builder.new.at ≡ builder.old.at }
@@ -125,9 +113,7 @@ pub extern "C" fn iobufs_builder_put_u32(builder: &mut BuilderAt, n: u32) -> u8
     iobufs_builder_put_slice(builder, &u32::to_be_bytes(n))
 }
 
-/// Writes a big-endian number of eight bytes into a builder. Returns `Status::OutOfRange` if it doesn't fit; then
-/// nothing
-/// changes.
+/// Writes a big-endian `u64` into a builder. Returns `Status::OutOfRange` if it doesn't fit; then nothing changes.
 #[unsafe(no_mangle)]
 pub extern "C" fn iobufs_builder_put_u64(builder: &mut BuilderAt, n: u64) -> u8
     ensures at { builder.new.at ≡ builder.old.at }
@@ -139,9 +125,7 @@ pub extern "C" fn iobufs_builder_put_u64(builder: &mut BuilderAt, n: u64) -> u8
     iobufs_builder_put_slice(builder, &u64::to_be_bytes(n))
 }
 
-/// Reads a big-endian number of one byte from the front of a view, and drops it. Returns `Status::EndOfBuffer` if there
-/// are
-/// fewer; then nothing changes.
+/// Reads a `u8` off a view. Returns `Status::EndOfBuffer` if it is shorter; then nothing changes.
 #[unsafe(no_mangle)]
 #[tactic(auto, using(iobufs_core::proofs::CallerFacts::reading))]
 pub extern "C" fn iobuf_get_u8(alloc: Global, src: &mut ViewAt, out: &mut u8) -> u8
@@ -159,9 +143,7 @@ pub extern "C" fn iobuf_get_u8(alloc: Global, src: &mut ViewAt, out: &mut u8) ->
     Status::Done.code()
 }
 
-/// Reads a big-endian number of two bytes from the front of a view, and drops it. Returns `Status::EndOfBuffer` if
-/// there are
-/// fewer; then nothing changes.
+/// Reads a big-endian `u16` off a view. Returns `Status::EndOfBuffer` if it is shorter; then nothing changes.
 #[unsafe(no_mangle)]
 #[tactic(auto, using(iobufs_core::proofs::CallerFacts::reading))]
 pub extern "C" fn iobuf_get_u16(alloc: Global, src: &mut ViewAt, out: &mut u16) -> u8
@@ -179,9 +161,7 @@ pub extern "C" fn iobuf_get_u16(alloc: Global, src: &mut ViewAt, out: &mut u16) 
     Status::Done.code()
 }
 
-/// Reads a big-endian number of four bytes from the front of a view, and drops it. Returns `Status::EndOfBuffer` if
-/// there
-/// are fewer; then nothing changes.
+/// Reads a big-endian `u32` off a view. Returns `Status::EndOfBuffer` if it is shorter; then nothing changes.
 #[unsafe(no_mangle)]
 #[tactic(auto, using(iobufs_core::proofs::CallerFacts::reading))]
 pub extern "C" fn iobuf_get_u32(alloc: Global, src: &mut ViewAt, out: &mut u32) -> u8
@@ -199,9 +179,7 @@ pub extern "C" fn iobuf_get_u32(alloc: Global, src: &mut ViewAt, out: &mut u32) 
     Status::Done.code()
 }
 
-/// Reads a big-endian number of eight bytes from the front of a view, and drops it. Returns `Status::EndOfBuffer` if
-/// there
-/// are fewer; then nothing changes.
+/// Reads a big-endian `u64` off a view. Returns `Status::EndOfBuffer` if it is shorter; then nothing changes.
 #[unsafe(no_mangle)]
 #[tactic(auto, using(iobufs_core::proofs::CallerFacts::reading))]
 pub extern "C" fn iobuf_get_u64(alloc: Global, src: &mut ViewAt, out: &mut u64) -> u8
@@ -219,9 +197,7 @@ pub extern "C" fn iobuf_get_u64(alloc: Global, src: &mut ViewAt, out: &mut u64) 
     Status::Done.code()
 }
 
-/// Reads a big-endian number of one byte from the front of an `IoBufs`, and drops it. Returns `Status::EndOfBuffer` if
-/// there
-/// are fewer; then nothing changes.
+/// Reads a `u8` off an `IoBufs`. Returns `Status::EndOfBuffer` if it is shorter; then nothing changes.
 #[unsafe(no_mangle)]
 #[tactic(auto, using(iobufs_core::proofs::CallerFacts::reading))]
 pub extern "C" fn iobufs_get_u8(alloc: Global, text: &mut TextAt, out: &mut u8) -> u8
@@ -239,8 +215,7 @@ pub extern "C" fn iobufs_get_u8(alloc: Global, text: &mut TextAt, out: &mut u8) 
     Status::Done.code()
 }
 
-/// Reads a big-endian number of two bytes from the front of an `IoBufs`, and drops it. Returns `Status::EndOfBuffer` if
-/// there are fewer; then nothing changes.
+/// Reads a big-endian `u16` off an `IoBufs`. Returns `Status::EndOfBuffer` if it is shorter; then nothing changes.
 #[unsafe(no_mangle)]
 #[tactic(auto, using(iobufs_core::proofs::CallerFacts::reading))]
 pub extern "C" fn iobufs_get_u16(alloc: Global, text: &mut TextAt, out: &mut u16) -> u8
@@ -258,9 +233,7 @@ pub extern "C" fn iobufs_get_u16(alloc: Global, text: &mut TextAt, out: &mut u16
     Status::Done.code()
 }
 
-/// Reads a big-endian number of four bytes from the front of an `IoBufs`, and drops it. Returns `Status::EndOfBuffer`
-/// if
-/// there are fewer; then nothing changes.
+/// Reads a big-endian `u32` off an `IoBufs`. Returns `Status::EndOfBuffer` if it is shorter; then nothing changes.
 #[unsafe(no_mangle)]
 #[tactic(auto, using(iobufs_core::proofs::CallerFacts::reading))]
 pub extern "C" fn iobufs_get_u32(alloc: Global, text: &mut TextAt, out: &mut u32) -> u8
@@ -278,9 +251,7 @@ pub extern "C" fn iobufs_get_u32(alloc: Global, text: &mut TextAt, out: &mut u32
     Status::Done.code()
 }
 
-/// Reads a big-endian number of eight bytes from the front of an `IoBufs`, and drops it. Returns `Status::EndOfBuffer`
-/// if
-/// there are fewer; then nothing changes.
+/// Reads a big-endian `u64` off an `IoBufs`. Returns `Status::EndOfBuffer` if it is shorter; then nothing changes.
 #[unsafe(no_mangle)]
 #[tactic(auto, using(iobufs_core::proofs::CallerFacts::reading))]
 pub extern "C" fn iobufs_get_u64(alloc: Global, text: &mut TextAt, out: &mut u64) -> u8

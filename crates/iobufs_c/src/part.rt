@@ -1,16 +1,16 @@
 // Writable buffers, reached by their handles.
-ghost use Rattle.std.specs.Prelude.{◌≡◌, ◌<◌, ◌==◌, if◌then◌else◌, ◌∷◌, [], length, take, replicate, ◌+◌, nat_le, Option, Some, None, IsTrue, true, false, MatchOption, Ok, Err};
+ghost use Rattle.std.specs.Prelude.{◌≡◌, ◌==◌, if◌then◌else◌, ◌∷◌, [], length, take, replicate, ◌+◌, nat_le, Option, Some, None, IsTrue, false, MatchOption, MatchResult, Ok, Err};
 ghost use Rattle.std.specs.Borrow.{sem, Lends, full_share};
 ghost use Rattle.std.specs.Option.{option_map};
 ghost use Rattle.std.specs.Ptr.{lies_at, null_ptr, room_at};
 ghost use Rattle.iobufs_core.specs.Part.{Part, empty_part, is_bad_layout as bad_layout, part_capacity, part_drained, part_frozen, part_put, part_truncated, part_with_len};
 ghost use Rattle.iobufs_core.specs.Recovery.{IsPartOf, IsRecovery};
 ghost use Rattle.iobufs_core.specs.View.{default_view};
-ghost use Rattle.iobufs_c.specs.Codes.{IsDoneUnless, code_of};
+ghost use Rattle.iobufs_c.specs.Codes.{IsDoneUnless, code_of, of_buf_error};
 ghost use Rattle.iobufs_c.specs.Rows.{part_or_empty, part_row, part_written_at};
 
-use crate::status::{Status, refusal};
-use crate::view::{ViewAt, ViewRoom, address};
+use crate::status::{Status, enough, refusal, within};
+use crate::view::{ViewAt, address, hand};
 use iobufs_core::buf::{IoBuf, IoBufMut};
 use iobufs_core::codec::{Buf, BufError, BufMut};
 use std::alloc::Global;
@@ -48,29 +48,18 @@ impl PartAt {
     }
 }
 
-/// The handle of memory for a writable buffer: of one that isn't made yet, or of a buffer, or of none.
-#[repr(C)]
-pub struct PartRoom {
-    at: *mut u8,
-    ghost value: { Option (Option Part) },
-}
-
-impl Model for PartRoom {
-    ghost use Rattle.iobufs_c.specs.Rows.{may_lie_at, part_row};
-
-    ghost also_owns = { λ h. may_lie_at part_row h.at h.value };
-}
-
-// It may go to another thread (proofs/part/PartRoom/TheSendSync).
-unsafe impl Send for PartRoom {}
-
-impl PartRoom {
-    /// Makes a buffer of memory that holds none.
-    pub(crate) fn make(&mut self, part: Option<IoBufMut>)
-        requires { self.old.value ≡ None }
-        ensures { (self.new.at ≡ self.old.at) × (self.new.value ≡ Some part) }
-    {
-        unsafe { (self.at as *mut Option<IoBufMut>).write(part) }
+/// Writes a buffer that was made to `out`, and returns the status.
+pub(crate) fn hand_part(made: Result<IoBufMut, BufError>, out: &mut PartAt) -> u8
+    ensures at { out.new.at ≡ out.old.at }
+    ensures told { MatchResult made (λ part. (result ≡ 0) × (out.new.value ≡ Some part))
+        (λ cause. (result ≡ code_of (of_buf_error cause)) × (out.new.value ≡ out.old.value)) }
+{
+    match made {
+        Ok(part) => {
+            *out.get() = Some(part);
+            Status::Done.code()
+        }
+        Err(cause) => refusal(cause),
     }
 }
 
@@ -86,14 +75,6 @@ pub extern "C" fn iobufmut_size() -> usize
     ensures value { result ≡ 64 }
 {
     mem::size_of::<Option<IoBufMut>>()
-}
-
-/// Returns the alignment of a buffer.
-#[unsafe(no_mangle)]
-pub extern "C" fn iobufmut_align() -> usize
-    ensures value { result ≡ 8 }
-{
-    mem::align_of::<Option<IoBufMut>>()
 }
 
 /// Makes a handle of memory, without a buffer.
@@ -115,8 +96,7 @@ pub extern "C" fn iobufmut_drop(part: &mut PartAt)
 }
 
 /// Allocates an empty buffer of exactly this capacity. Returns `Status::BadLayout` or `Status::Memory` if that fails;
-/// then
-/// `out` is unchanged.
+/// then `out` is unchanged.
 #[unsafe(no_mangle)]
 pub extern "C" fn iobufmut_with_capacity(alloc: Global, n: usize, out: &mut PartAt) -> u8
     ensures at { out.new.at ≡ out.old.at }
@@ -125,38 +105,7 @@ pub extern "C" fn iobufmut_with_capacity(alloc: Global, n: usize, out: &mut Part
     ensures good_layout { bad_layout n 1 ≡ false → IsDoneUnless result Status.Memory }
     ensures nothing { n ≡ 0 → result ≡ 0 }
 {
-    match IoBufMut::with_capacity(alloc, n) {
-        Ok(part) => {
-            *out.get() = Some(part);
-            Status::Done.code()
-        }
-        Err(cause) => refusal(cause),
-    }
-}
-
-/// Allocates an empty buffer, after testing the alignment. Returns `Status::BadLayout` or `Status::Memory` if that
-/// fails;
-/// then `out` is unchanged.
-#[unsafe(no_mangle)]
-pub extern "C" fn iobufmut_with_alignment(
-    alloc: Global,
-    n: usize,
-    align: usize,
-    out: &mut PartAt,
-) -> u8
-    ensures at { out.new.at ≡ out.old.at }
-    ensures value { out.new.value ≡ (if result == 0 then Some (empty_part n) else out.old.value) }
-    ensures bad_layout { IsTrue (bad_layout n align) → result ≡ code_of Status.BadLayout }
-    ensures good_layout { bad_layout n align ≡ false → IsDoneUnless result Status.Memory }
-    ensures nothing { n ≡ 0 → result ≡ 0 }
-{
-    match IoBufMut::with_alignment(alloc, n, align) {
-        Ok(part) => {
-            *out.get() = Some(part);
-            Status::Done.code()
-        }
-        Err(cause) => refusal(cause),
-    }
+    hand_part(IoBufMut::with_capacity(alloc, n), out)
 }
 
 /// Allocates a buffer of `n` zeros. Returns `Status::BadLayout` or `Status::Memory` if that fails; then `out` is
@@ -170,39 +119,7 @@ pub extern "C" fn iobufmut_zeroed(alloc: Global, n: usize, out: &mut PartAt) -> 
     ensures good_layout { bad_layout n 1 ≡ false → IsDoneUnless result Status.Memory }
     ensures nothing { n ≡ 0 → result ≡ 0 }
 {
-    match IoBufMut::zeroed(alloc, n) {
-        Ok(part) => {
-            *out.get() = Some(part);
-            Status::Done.code()
-        }
-        Err(cause) => refusal(cause),
-    }
-}
-
-/// Allocates a buffer of zeros, after testing the alignment. Returns `Status::BadLayout` or `Status::Memory` if that
-/// fails;
-/// then `out` is unchanged.
-#[unsafe(no_mangle)]
-pub extern "C" fn iobufmut_zeroed_with_alignment(
-    alloc: Global,
-    n: usize,
-    align: usize,
-    out: &mut PartAt,
-) -> u8
-    ensures at { out.new.at ≡ out.old.at }
-    ensures value { out.new.value ≡ (if result == 0 then Some
-        (record { filled = replicate n 0; spare = 0 }) else out.old.value) }
-    ensures bad_layout { IsTrue (bad_layout n align) → result ≡ code_of Status.BadLayout }
-    ensures good_layout { bad_layout n align ≡ false → IsDoneUnless result Status.Memory }
-    ensures nothing { n ≡ 0 → result ≡ 0 }
-{
-    match IoBufMut::zeroed_with_alignment(alloc, n, align) {
-        Ok(part) => {
-            *out.get() = Some(part);
-            Status::Done.code()
-        }
-        Err(cause) => refusal(cause),
-    }
+    hand_part(IoBufMut::zeroed(alloc, n), out)
 }
 
 /// Copies bytes into a buffer without spare capacity. Returns `Status::Memory` if an allocation fails; then `out` is
@@ -215,13 +132,7 @@ pub extern "C" fn iobufmut_copy_from_slice(alloc: Global, src: &[u8], out: &mut 
     ensures memory { IsDoneUnless result Status.Memory }
     ensures nothing { length src.now ≡ 0 → result ≡ 0 }
 {
-    match IoBufMut::copy_from_slice(alloc, src) {
-        Ok(part) => {
-            *out.get() = Some(part);
-            Status::Done.code()
-        }
-        Err(cause) => refusal(cause),
-    }
+    hand_part(IoBufMut::copy_from_slice(alloc, src), out)
 }
 
 /// Makes a writable buffer of a view of native storage that no other handle has, and leaves the empty view. Returns
@@ -247,31 +158,8 @@ pub extern "C" fn iobuf_try_into_mut(alloc: Global, src: &mut ViewAt, out: &mut 
     }
 }
 
-/// Recovers a view as `iobuf_try_into_mut` does, into memory that holds no buffer.
-#[unsafe(no_mangle)]
-pub extern "C" fn iobuf_try_into_mut_init(alloc: Global, src: &mut ViewAt, out: &mut PartRoom) -> u8
-    requires { out.old.value ≡ None }
-    ensures at { (src.new.at ≡ src.old.at) × (out.new.at ≡ out.old.at) }
-    ensures recovered { result ≡ 0 → (src.new.value ≡ default_view) × MatchOption out.new.value ⊥ (λ made.
-        MatchOption made ⊥ (λ part. IsRecovery src.old.value (Ok part))) }
-    ensures declined { (result == 0) ≡ false → (src.new.value ≡ src.old.value) × (out.new.value ≡ None)
-        × IsRecovery src.old.value (Err src.old.value) }
-    ensures result { IsDoneUnless result Status.Declined }
-{
-    let part = match mem::take(src.get()).try_into_mut(alloc) {
-        Ok(part) => part,
-        Err(view) => {
-            *src.get() = view;
-            return Status::Declined.code();
-        }
-    };
-    out.make(Some(part));
-    Status::Done.code()
-}
-
 /// Makes a writable buffer of a view, recovered as by `iobuf_try_into_mut`, else copied, and leaves the empty view.
-/// Returns
-/// `Status::Memory` if an allocation fails; then both are unchanged.
+/// Returns `Status::Memory` if an allocation fails; then both are unchanged.
 #[unsafe(no_mangle)]
 pub extern "C" fn iobufmut_from_view(alloc: Global, src: &mut ViewAt, out: &mut PartAt) -> u8
     ensures at { (src.new.at ≡ src.old.at) × (out.new.at ≡ out.old.at) }
@@ -304,18 +192,6 @@ pub extern "C" fn iobufmut_len(part: &mut PartAt) -> usize
     }
 }
 
-/// Returns whether no byte is readable.
-#[unsafe(no_mangle)]
-pub extern "C" fn iobufmut_is_empty(part: &mut PartAt) -> bool
-    ensures same { (part.new.at ≡ part.old.at) × (part.new.value ≡ part.old.value) }
-    ensures value { result ≡ (length (part_or_empty part.old.value).filled == 0) }
-{
-    match part.get() {
-        Some(part) => part.is_empty(),
-        None => true,
-    }
-}
-
 /// Returns how many bytes fit, counted from the first readable one.
 #[unsafe(no_mangle)]
 pub extern "C" fn iobufmut_capacity(part: &mut PartAt) -> usize
@@ -341,8 +217,7 @@ pub extern "C" fn iobufmut_remaining_mut(part: &mut PartAt) -> usize
 }
 
 /// Writes the address of the readable bytes, if there is a buffer, and returns how many there are. No other shares
-/// them,
-/// so the caller may write there; no contract knows what.
+/// them, so the caller may write there; no contract knows what.
 #[unsafe(no_mangle)]
 pub extern "C" fn iobufmut_chunk(part: &mut PartAt, out: &mut *mut u8) -> usize
     ensures same { (part.new.at ≡ part.old.at) × (part.new.value ≡ part.old.value) }
@@ -366,25 +241,17 @@ pub extern "C" fn iobufmut_put_slice(part: &mut PartAt, src: &[u8]) -> u8
     ensures result { result ≡ (if nat_le (length src.now)
         (part_or_empty part.old.value).spare then 0 else code_of Status.OutOfRange) }
 {
-    let Some(part) = part.get() else {
-        return fits(src.len(), 0);
-    };
-    if src.len() > part.remaining_mut() {
-        return Status::OutOfRange.code();
+    match part.get() {
+        Some(part) => within(part.try_put_slice(src)),
+        None => fits(src.len(), 0),
     }
-    part.put_slice(src);
-    Status::Done.code()
 }
 
 // Whether `n` bytes are within the spare capacity or the bytes.
 pub(crate) fn fits(n: usize, most: usize) -> u8
     ensures { result ≡ (if nat_le n most then 0 else code_of Status.OutOfRange) }
 {
-    if n <= most {
-        Status::Done.code()
-    } else {
-        Status::OutOfRange.code()
-    }
+    within(n <= most)
 }
 
 /// Writes a byte `n` times. Returns `Status::OutOfRange` if they don't fit; then nothing changes.
@@ -395,14 +262,10 @@ pub extern "C" fn iobufmut_put_bytes(part: &mut PartAt, value: u8, n: usize) -> 
         (λ part. part_put part (replicate n value)) part.old.value else part.old.value) }
     ensures result { result ≡ (if nat_le n (part_or_empty part.old.value).spare then 0 else code_of Status.OutOfRange) }
 {
-    let Some(part) = part.get() else {
-        return fits(n, 0);
-    };
-    if n > part.remaining_mut() {
-        return Status::OutOfRange.code();
+    match part.get() {
+        Some(part) => within(part.try_put_bytes(value, n)),
+        None => fits(n, 0),
     }
-    part.put_bytes(value, n);
-    Status::Done.code()
 }
 
 /// Writes one byte. Returns `Status::OutOfRange` if it doesn't fit; then nothing changes.
@@ -413,19 +276,14 @@ pub extern "C" fn iobufmut_put_u8(part: &mut PartAt, n: u8) -> u8
         (λ part. part_put part (n ∷ [])) part.old.value else part.old.value) }
     ensures result { result ≡ (if nat_le 1 (part_or_empty part.old.value).spare then 0 else code_of Status.OutOfRange) }
 {
-    let Some(part) = part.get() else {
-        return Status::OutOfRange.code();
-    };
-    if part.remaining_mut() == 0 {
-        return Status::OutOfRange.code();
+    match part.get() {
+        Some(part) => within(part.try_put_slice(&[n])),
+        None => Status::OutOfRange.code(),
     }
-    part.put_u8(n);
-    Status::Done.code()
 }
 
 /// Makes `n` bytes readable; those that were not are zero. Returns `Status::OutOfRange` above the capacity; then
-/// nothing
-/// changes.
+/// nothing changes.
 #[unsafe(no_mangle)]
 pub extern "C" fn iobufmut_set_len(part: &mut PartAt, n: usize) -> u8
     ensures at { part.new.at ≡ part.old.at }
@@ -434,14 +292,10 @@ pub extern "C" fn iobufmut_set_len(part: &mut PartAt, n: usize) -> u8
     ensures result { result ≡ (if nat_le n (part_capacity
         (part_or_empty part.old.value)) then 0 else code_of Status.OutOfRange) }
 {
-    let Some(part) = part.get() else {
-        return fits(n, 0);
-    };
-    if n > part.capacity() {
-        return Status::OutOfRange.code();
+    match part.get() {
+        Some(part) => within(part.try_set_len(n)),
+        None => fits(n, 0),
     }
-    part.set_len(n);
-    Status::Done.code()
 }
 
 /// Keeps at most the first `n` bytes.
@@ -455,17 +309,6 @@ pub extern "C" fn iobufmut_truncate(part: &mut PartAt, n: usize)
     }
 }
 
-/// Drops all bytes, and keeps the capacity.
-#[unsafe(no_mangle)]
-pub extern "C" fn iobufmut_clear(part: &mut PartAt)
-    ensures at { part.new.at ≡ part.old.at }
-    ensures value { part.new.value ≡ option_map (λ part. part_truncated part 0) part.old.value }
-{
-    if let Some(part) = part.get() {
-        part.clear();
-    }
-}
-
 /// Drops the first bytes. Returns `Status::OutOfRange` if there are fewer; then nothing changes.
 #[unsafe(no_mangle)]
 pub extern "C" fn iobufmut_advance(part: &mut PartAt, n: usize) -> u8
@@ -475,14 +318,10 @@ pub extern "C" fn iobufmut_advance(part: &mut PartAt, n: usize) -> u8
     ensures result { result ≡ (if nat_le n (length
         (part_or_empty part.old.value).filled) then 0 else code_of Status.OutOfRange) }
 {
-    let Some(part) = part.get() else {
-        return fits(n, 0);
-    };
-    if n > part.len() {
-        return Status::OutOfRange.code();
+    match part.get() {
+        Some(part) => within(part.try_advance(n)),
+        None => fits(n, 0),
     }
-    part.advance(n);
-    Status::Done.code()
 }
 
 /// Copies the first bytes out, and drops them. Returns `Status::EndOfBuffer` if there are fewer; then nothing changes.
@@ -496,18 +335,10 @@ pub extern "C" fn iobufmut_copy_to_slice(part: &mut PartAt, dst: &mut [u8]) -> u
     ensures result { result ≡ (if nat_le (length dst.old)
         (length (part_or_empty part.old.value).filled) then 0 else code_of Status.EndOfBuffer) }
 {
-    let Some(part) = part.get() else {
-        return if dst.is_empty() {
-            Status::Done.code()
-        } else {
-            Status::EndOfBuffer.code()
-        };
-    };
-    if dst.len() > part.len() {
-        return Status::EndOfBuffer.code();
+    match part.get() {
+        Some(part) => enough(part.try_copy_to_slice(dst).is_ok()),
+        None => enough(dst.is_empty()),
     }
-    part.copy_to_slice(dst);
-    Status::Done.code()
 }
 
 /// Overwrites readable bytes from an offset on. Returns `Status::OutOfRange` if there are fewer; then nothing changes.
@@ -535,8 +366,7 @@ pub extern "C" fn iobufmut_write_at(part: &mut PartAt, at: usize, src: &[u8]) ->
 }
 
 /// Freezes the buffer to a view; no buffer is left. Returns `Status::Memory` if an allocation fails (of a buffer
-/// without an
-/// `Arc` alone); then the buffer is dropped, and `out` unchanged.
+/// without an `Arc` alone); then the buffer is dropped, and `out` unchanged.
 #[unsafe(no_mangle)]
 pub extern "C" fn iobufmut_freeze(part: &mut PartAt, out: &mut ViewAt) -> u8
     ensures at { (part.new.at ≡ part.old.at) × (out.new.at ≡ out.old.at) }
@@ -550,32 +380,5 @@ pub extern "C" fn iobufmut_freeze(part: &mut PartAt, out: &mut ViewAt) -> u8
         *out.get() = IoBuf::default();
         return Status::Done.code();
     };
-    match part.freeze() {
-        Ok(view) => {
-            *out.get() = view;
-            Status::Done.code()
-        }
-        Err(_) => Status::Memory.code(),
-    }
-}
-
-/// Freezes the buffer as `iobufmut_freeze` does, into memory that holds no view.
-#[unsafe(no_mangle)]
-pub extern "C" fn iobufmut_freeze_init(part: &mut PartAt, out: &mut ViewRoom) -> u8
-    requires { out.old.value ≡ None }
-    ensures at { (part.new.at ≡ part.old.at) × (out.new.at ≡ out.old.at) }
-    ensures part { part.new.value ≡ None }
-    ensures value { out.new.value ≡ (if result == 0 then Some (part_frozen (part_or_empty part.old.value)) else None) }
-    ensures memory { IsDoneUnless result Status.Memory }
-    ensures nothing { length (part_or_empty part.old.value).filled ≡ 0 → result ≡ 0 }
-{
-    let Some(part) = mem::replace(part.get(), None) else {
-        out.make(IoBuf::default());
-        return Status::Done.code();
-    };
-    let Ok(view) = part.freeze() else {
-        return Status::Memory.code();
-    };
-    out.make(view);
-    Status::Done.code()
+    hand(part.freeze(), out)
 }

@@ -1,17 +1,17 @@
 // Several writable buffers as one, reached by their handles.
-ghost use Rattle.std.specs.Prelude.{◌≡◌, ◌⊎◌, ◌≤◌, ◌<◌, ◌^◌, ◌==◌, ◌∷◌, [], if◌then◌else◌, List, length, map, take, drop, min, replicate, nat_le, slice_get, Option, Some, None, Ok, IfOk, IsOk, OnOk, OnErr, true, false, MatchOption};
+ghost use Rattle.std.specs.Prelude.{◌≡◌, ◌⊎◌, ◌≤◌, ◌<◌, ◌^◌, ◌==◌, ◌∷◌, [], if◌then◌else◌, List, length, map, take, drop, min, replicate, nat_le, Option, Some, None, IfOk, IsOk, OnOk, OnErr, false, MatchOption};
 ghost use Rattle.std.specs.Borrow.{sem, Lends, full_share};
 ghost use Rattle.std.specs.Option.{option_map};
 ghost use Rattle.std.specs.Ptr.{lies_at, null_ptr, room_at};
-ghost use Rattle.iobufs.specs.Parts.{kept_parts, parts_capacity, parts_chunks, parts_coalesced, parts_drained, parts_fill, parts_filled, parts_frozen, parts_overwritten, parts_spare, parts_with_len, single_part};
+ghost use Rattle.iobufs.specs.Parts.{kept_parts, parts_capacity, parts_chunks, parts_coalesced, parts_drained, parts_fill, parts_filled, parts_frozen, parts_spare, parts_with_len};
 ghost use Rattle.iobufs_core.specs.Chunks.{first_chunk};
-ghost use Rattle.iobufs_core.specs.Part.{Part, part_capacity};
+ghost use Rattle.iobufs_core.specs.Part.{Part};
 ghost use Rattle.iobufs_c.specs.Codes.{IsDoneUnless, code_of};
-ghost use Rattle.iobufs_c.specs.Rows.{chunk_len, held_parts, parts_of, parts_row};
+ghost use Rattle.iobufs_c.specs.Rows.{held_parts, parts_of, parts_row};
 
-use crate::part::{PartAt, fits};
-use crate::status::{Status, refusal};
-use crate::text::{Chunk, TextAt, TextRoom, chunk_of};
+use crate::part::{PartAt, fits, hand_part};
+use crate::status::{Status, enough, refusal, within};
+use crate::text::{Chunk, TextAt, chunk_of, hand_text};
 use crate::view::address;
 use iobufs::bufs::IoBufs;
 use iobufs::bufs_mut::IoBufsMut;
@@ -64,14 +64,6 @@ pub extern "C" fn iobufsmut_size() -> usize
     ensures value { result ≡ 184 }
 {
     mem::size_of::<Option<IoBufsMut>>()
-}
-
-/// Returns the alignment of an `IoBufsMut`.
-#[unsafe(no_mangle)]
-pub extern "C" fn iobufsmut_align() -> usize
-    ensures value { result ≡ 8 }
-{
-    mem::align_of::<Option<IoBufsMut>>()
 }
 
 /// Makes a handle of memory, without buffers.
@@ -167,18 +159,6 @@ pub extern "C" fn iobufsmut_len(parts: &mut PartsAt) -> usize
     }
 }
 
-/// Returns whether no byte is readable.
-#[unsafe(no_mangle)]
-pub extern "C" fn iobufsmut_is_empty(parts: &mut PartsAt) -> bool
-    ensures same { (parts.new.at ≡ parts.old.at) × (parts.new.value ≡ parts.old.value) }
-    ensures value { result ≡ (length (parts_filled (parts_of parts.old.value)) == 0) }
-{
-    match parts.get() {
-        Some(parts) => parts.is_empty(),
-        None => true,
-    }
-}
-
 /// Returns how many bytes fit, counted from the first readable one.
 #[unsafe(no_mangle)]
 pub extern "C" fn iobufsmut_capacity(parts: &mut PartsAt) -> usize
@@ -215,21 +195,8 @@ pub extern "C" fn iobufsmut_part_count(parts: &mut PartsAt) -> usize
     }
 }
 
-/// Returns whether there is just one buffer.
-#[unsafe(no_mangle)]
-pub extern "C" fn iobufsmut_is_single(parts: &mut PartsAt) -> bool
-    ensures same { (parts.new.at ≡ parts.old.at) × (parts.new.value ≡ parts.old.value) }
-    ensures value { result ≡ (length (parts_of parts.old.value) == 1) }
-{
-    match parts.get() {
-        Some(parts) => parts.is_single(),
-        None => true,
-    }
-}
-
 /// Writes the address of the first chunk of the readable bytes, if there is a buffer, and returns its length. No other
-/// buffer
-/// shares it, so the caller may write there; no contract knows what.
+/// buffer shares it, so the caller may write there; no contract knows what.
 #[unsafe(no_mangle)]
 pub extern "C" fn iobufsmut_chunk(parts: &mut PartsAt, out: &mut *mut u8) -> usize
     ensures same { (parts.new.at ≡ parts.old.at) × (parts.new.value ≡ parts.old.value) }
@@ -240,35 +207,6 @@ pub extern "C" fn iobufsmut_chunk(parts: &mut PartsAt, out: &mut *mut u8) -> usi
         return 0;
     };
     let chunk = parts.chunk();
-    *out = address(chunk) as *mut u8;
-    chunk.len()
-}
-
-/// Writes the address of the readable bytes of a buffer, and its capacity; returns how many there are, and 0
-/// if there is no such buffer.
-#[unsafe(no_mangle)]
-pub extern "C" fn iobufsmut_part_at(
-    parts: &mut PartsAt,
-    i: usize,
-    out: &mut *mut u8,
-    capacity: &mut usize,
-) -> usize
-    ensures same { (parts.new.at ≡ parts.old.at) × (parts.new.value ≡ parts.old.value) }
-    ensures value { result ≡ chunk_len (option_map (λ part. part.filled) (slice_get (parts_of parts.old.value) i)) }
-    ensures capacity { MatchOption (slice_get (parts_of parts.old.value) i) (capacity.new ≡ 0)
-        (λ part. capacity.new ≡ part_capacity part) }
-    ensures address { MatchOption parts.old.value (out.new ≡ out.old)
-        (λ list. MatchOption (slice_get list i) (out.new ≡ out.old) (λ _. out.new ≡ null_ptr → ⊥)) }
-{
-    *capacity = 0;
-    let Some(parts) = parts.get() else {
-        return 0;
-    };
-    let Some(part) = parts.part_at(i) else {
-        return 0;
-    };
-    *capacity = part.capacity();
-    let chunk = part.as_ref();
     *out = address(chunk) as *mut u8;
     chunk.len()
 }
@@ -311,24 +249,6 @@ pub extern "C" fn iobufsmut_chunks(parts: &mut PartsAt, out: &mut [Chunk]) -> us
     }
 }
 
-/// Writes the readable byte at an offset, and returns whether there is one.
-#[unsafe(no_mangle)]
-pub extern "C" fn iobufsmut_byte_at(parts: &mut PartsAt, i: usize, out: &mut u8) -> bool
-    ensures same { (parts.new.at ≡ parts.old.at) × (parts.new.value ≡ parts.old.value) }
-    ensures found { result ≡ true → slice_get (parts_filled (parts_of parts.old.value)) i ≡ Some out.new }
-    ensures none { result ≡ false → (slice_get (parts_filled (parts_of parts.old.value)) i ≡ None)
-        × (out.new ≡ out.old) }
-{
-    let Some(parts) = parts.get() else {
-        return false;
-    };
-    let Some(byte) = parts.byte_at(i) else {
-        return false;
-    };
-    *out = byte;
-    true
-}
-
 /// Writes bytes after the readable ones. Returns `Status::OutOfRange` if they don't fit; then nothing changes.
 #[unsafe(no_mangle)]
 pub extern "C" fn iobufsmut_put_slice(parts: &mut PartsAt, src: &[u8]) -> u8
@@ -338,14 +258,10 @@ pub extern "C" fn iobufsmut_put_slice(parts: &mut PartsAt, src: &[u8]) -> u8
     ensures result { result ≡ (if nat_le (length src.now)
         (parts_spare (parts_of parts.old.value)) then 0 else code_of Status.OutOfRange) }
 {
-    let Some(parts) = parts.get() else {
-        return fits(src.len(), 0);
-    };
-    if src.len() > parts.remaining_mut() {
-        return Status::OutOfRange.code();
+    match parts.get() {
+        Some(parts) => within(parts.try_put_slice(src)),
+        None => fits(src.len(), 0),
     }
-    parts.put_slice(src);
-    Status::Done.code()
 }
 
 /// Writes a byte `n` times. Returns `Status::OutOfRange` if they don't fit; then nothing changes.
@@ -357,14 +273,10 @@ pub extern "C" fn iobufsmut_put_bytes(parts: &mut PartsAt, value: u8, n: usize) 
     ensures result { result ≡ (if nat_le n (parts_spare
         (parts_of parts.old.value)) then 0 else code_of Status.OutOfRange) }
 {
-    let Some(parts) = parts.get() else {
-        return fits(n, 0);
-    };
-    if n > parts.remaining_mut() {
-        return Status::OutOfRange.code();
+    match parts.get() {
+        Some(parts) => within(parts.try_put_bytes(value, n)),
+        None => fits(n, 0),
     }
-    parts.put_bytes(value, n);
-    Status::Done.code()
 }
 
 /// Writes one byte. Returns `Status::OutOfRange` if it doesn't fit; then nothing changes.
@@ -376,19 +288,14 @@ pub extern "C" fn iobufsmut_put_u8(parts: &mut PartsAt, n: u8) -> u8
     ensures result { result ≡ (if nat_le 1 (parts_spare
         (parts_of parts.old.value)) then 0 else code_of Status.OutOfRange) }
 {
-    let Some(parts) = parts.get() else {
-        return fits(1, 0);
-    };
-    if 1 > parts.remaining_mut() {
-        return Status::OutOfRange.code();
+    match parts.get() {
+        Some(parts) => within(parts.try_put_slice(&[n])),
+        None => fits(1, 0),
     }
-    parts.put_u8(n);
-    Status::Done.code()
 }
 
 /// Makes `n` bytes readable; those that were not are zero. Returns `Status::OutOfRange` above the capacity; then
-/// nothing
-/// changes.
+/// nothing changes.
 #[unsafe(no_mangle)]
 pub extern "C" fn iobufsmut_set_len(parts: &mut PartsAt, n: usize) -> u8
     ensures at { parts.new.at ≡ parts.old.at }
@@ -397,14 +304,10 @@ pub extern "C" fn iobufsmut_set_len(parts: &mut PartsAt, n: usize) -> u8
     ensures result { result ≡ (if nat_le n (parts_capacity
         (parts_of parts.old.value)) then 0 else code_of Status.OutOfRange) }
 {
-    let Some(parts) = parts.get() else {
-        return fits(n, 0);
-    };
-    if n > parts.capacity() {
-        return Status::OutOfRange.code();
+    match parts.get() {
+        Some(parts) => within(parts.try_set_len(n)),
+        None => fits(n, 0),
     }
-    parts.set_len(n);
-    Status::Done.code()
 }
 
 /// Drops the first bytes. Returns `Status::OutOfRange` if there are fewer; then nothing changes.
@@ -416,14 +319,10 @@ pub extern "C" fn iobufsmut_advance(parts: &mut PartsAt, n: usize) -> u8
     ensures result { result ≡ (if nat_le n (length
         (parts_filled (parts_of parts.old.value))) then 0 else code_of Status.OutOfRange) }
 {
-    let Some(parts) = parts.get() else {
-        return fits(n, 0);
-    };
-    if n > parts.len() {
-        return Status::OutOfRange.code();
+    match parts.get() {
+        Some(parts) => within(parts.try_advance(n)),
+        None => fits(n, 0),
     }
-    parts.advance(n);
-    Status::Done.code()
 }
 
 /// Copies the first bytes out, and drops them. Returns `Status::EndOfBuffer` if there are fewer; then nothing changes.
@@ -437,42 +336,14 @@ pub extern "C" fn iobufsmut_copy_to_slice(parts: &mut PartsAt, dst: &mut [u8]) -
     ensures result { result ≡ (if nat_le (length dst.old)
         (length (parts_filled (parts_of parts.old.value))) then 0 else code_of Status.EndOfBuffer) }
 {
-    let Some(parts) = parts.get() else {
-        return if dst.is_empty() {
-            Status::Done.code()
-        } else {
-            Status::EndOfBuffer.code()
-        };
-    };
-    if dst.len() > parts.len() {
-        return Status::EndOfBuffer.code();
+    match parts.get() {
+        Some(parts) => enough(parts.try_copy_to_slice(dst).is_ok()),
+        None => enough(dst.is_empty()),
     }
-    parts.copy_to_slice(dst);
-    Status::Done.code()
-}
-
-/// Overwrites the readable bytes. Returns `Status::OutOfRange` if there are not just as many; then nothing changes.
-#[unsafe(no_mangle)]
-pub extern "C" fn iobufsmut_copy_from_slice(parts: &mut PartsAt, src: &[u8]) -> u8
-    ensures at { parts.new.at ≡ parts.old.at }
-    ensures value { parts.new.value ≡ (if result == 0 then option_map
-        (λ parts. parts_overwritten parts src.now) parts.old.value else parts.old.value) }
-    ensures result { result ≡ (if length src.now == length
-        (parts_filled (parts_of parts.old.value)) then 0 else code_of Status.OutOfRange) }
-{
-    let Some(parts) = parts.get() else {
-        return fits(src.len(), 0);
-    };
-    if src.len() != parts.len() {
-        return Status::OutOfRange.code();
-    }
-    parts.copy_from_slice(src);
-    Status::Done.code()
 }
 
 /// Freezes the buffers that hold bytes to the chunks of one `IoBufs`; no buffers are left. Returns `Status::Memory` if
-/// an
-/// allocation fails; then they are dropped, and `out` unchanged.
+/// an allocation fails; then they are dropped, and `out` unchanged.
 #[unsafe(no_mangle)]
 pub extern "C" fn iobufsmut_freeze(alloc: Global, parts: &mut PartsAt, out: &mut TextAt) -> u8
     ensures at { (parts.new.at ≡ parts.old.at) × (out.new.at ≡ out.old.at) }
@@ -485,43 +356,11 @@ pub extern "C" fn iobufsmut_freeze(alloc: Global, parts: &mut PartsAt, out: &mut
         *out.get() = IoBufs::default();
         return Status::Done.code();
     };
-    match parts.freeze(alloc) {
-        Ok(text) => {
-            *out.get() = text;
-            Status::Done.code()
-        }
-        Err(_) => Status::Memory.code(),
-    }
-}
-
-/// Freezes the buffers as `iobufsmut_freeze` does, into memory that holds no `IoBufs`.
-#[unsafe(no_mangle)]
-pub extern "C" fn iobufsmut_freeze_init(
-    alloc: Global,
-    parts: &mut PartsAt,
-    out: &mut TextRoom,
-) -> u8
-    requires { out.old.value ≡ None }
-    ensures at { (parts.new.at ≡ parts.old.at) × (out.new.at ≡ out.old.at) }
-    ensures parts { parts.new.value ≡ None }
-    ensures value { out.new.value ≡ (if result == 0 then Some (parts_frozen (parts_of parts.old.value)) else None) }
-    ensures memory { IsDoneUnless result Status.Memory }
-    ensures nothing { length (parts_filled (parts_of parts.old.value)) ≡ 0 → result ≡ 0 }
-{
-    let Some(parts) = mem::replace(parts.get(), None) else {
-        out.make(IoBufs::default());
-        return Status::Done.code();
-    };
-    let Ok(text) = parts.freeze(alloc) else {
-        return Status::Memory.code();
-    };
-    out.make(text);
-    Status::Done.code()
+    hand_text(parts.freeze(alloc), out)
 }
 
 /// Coalesces the buffers into one, with a copy of several; none are left. Returns `Status::BadLayout` or
-/// `Status::Memory` if
-/// that fails; then they are dropped, and `out` unchanged.
+/// `Status::Memory` if that fails; then they are dropped, and `out` unchanged.
 #[unsafe(no_mangle)]
 pub extern "C" fn iobufsmut_coalesce(alloc: Global, parts: &mut PartsAt, out: &mut PartAt) -> u8
     ensures at { (parts.new.at ≡ parts.old.at) × (out.new.at ≡ out.old.at) }
@@ -538,38 +377,5 @@ pub extern "C" fn iobufsmut_coalesce(alloc: Global, parts: &mut PartsAt, out: &m
         *out.get() = None;
         return Status::Done.code();
     };
-    match parts.coalesce(alloc) {
-        Ok(part) => {
-            *out.get() = Some(part);
-            Status::Done.code()
-        }
-        Err(cause) => refusal(cause),
-    }
-}
-
-/// Takes the only buffer out; none are left. Returns `Status::Declined` if there are more; then both are unchanged.
-#[unsafe(no_mangle)]
-pub extern "C" fn iobufsmut_try_into_single(parts: &mut PartsAt, out: &mut PartAt) -> u8
-    ensures at { (parts.new.at ≡ parts.old.at) × (out.new.at ≡ out.old.at) }
-    ensures single { result ≡ 0 → (parts.old.value ≡ option_map (λ part. part ∷ []) out.new.value)
-        × (parts.new.value ≡ None) }
-    ensures declined { (result == 0) ≡ false
-        → (single_part (parts_of parts.old.value) ≡ None) × (parts.new.value ≡ parts.old.value)
-        × (out.new.value ≡ out.old.value) }
-    ensures result { IsDoneUnless result Status.Declined }
-{
-    let Some(whole) = mem::replace(parts.get(), None) else {
-        *out.get() = None;
-        return Status::Done.code();
-    };
-    match whole.try_into_single() {
-        Ok(part) => {
-            *out.get() = Some(part);
-            Status::Done.code()
-        }
-        Err(whole) => {
-            *parts.get() = Some(whole);
-            Status::Declined.code()
-        }
-    }
+    hand_part(parts.coalesce(alloc), out)
 }

@@ -64,14 +64,6 @@ pub extern "C" fn iobufs_received_size() -> usize
     mem::size_of::<Option<Received>>()
 }
 
-/// Returns the alignment of a receive block.
-#[unsafe(no_mangle)]
-pub extern "C" fn iobufs_received_align() -> usize
-    ensures value { result ≡ 8 }
-{
-    mem::align_of::<Option<Received>>()
-}
-
 /// Makes a handle of memory, with no receive block.
 #[unsafe(no_mangle)]
 pub unsafe extern "C" fn iobufs_received_init(at: *mut u8)
@@ -120,9 +112,9 @@ pub extern "C" fn iobufs_received_len(received: &mut ReceivedAt) -> usize
     }
 }
 
-/// Makes space for a read, of at least one byte, and writes its address and how many bytes it has. They are zeros, or
-/// what the block held before. Returns `Status::Memory` if an allocation fails, or `Status::Declined` if there is no
-/// receive block; then `n` is unchanged.
+/// Makes space for a read, of at least one byte, and writes its address and how many bytes it has: zeros, or bytes that
+/// the block held before. Returns `Status::Memory` if an allocation fails, or `Status::Declined` if there is no receive
+/// block; then `n` is unchanged.
 #[unsafe(no_mangle)]
 pub extern "C" fn iobufs_frames_space(
     received: &mut ReceivedAt,

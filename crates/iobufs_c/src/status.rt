@@ -1,5 +1,5 @@
 // The statuses that calls return.
-ghost use Rattle.std.specs.Prelude.{◌≡◌};
+ghost use Rattle.std.specs.Prelude.{◌≡◌, if◌then◌else◌};
 ghost use Rattle.iobufs_c.specs.Codes.{code_of, of_buf_error, of_error};
 
 use iobufs_core::codec::{BufError, Error};
@@ -11,7 +11,7 @@ pub enum Status {
     Done,
     /// An allocation failed.
     Memory,
-    /// The alignment is no power of two, or the capacity is too large.
+    /// The capacity is too large.
     BadLayout,
     /// A sum of lengths or capacities would be too large.
     TooLong,
@@ -46,6 +46,28 @@ impl Status {
             Status::Declined => 8,
             Status::BadKind => 9,
         }
+    }
+}
+
+/// Returns the number of done, or of `Status::OutOfRange`.
+pub(crate) fn within(is_done: bool) -> u8
+    ensures { result ≡ (if is_done then 0 else code_of Status.OutOfRange) }
+{
+    if is_done {
+        Status::Done.code()
+    } else {
+        Status::OutOfRange.code()
+    }
+}
+
+/// Returns the number of done, or of `Status::EndOfBuffer`.
+pub(crate) fn enough(is_done: bool) -> u8
+    ensures { result ≡ (if is_done then 0 else code_of Status.EndOfBuffer) }
+{
+    if is_done {
+        Status::Done.code()
+    } else {
+        Status::EndOfBuffer.code()
     }
 }
 

@@ -1,22 +1,19 @@
 // Bytes in several chunks, reached by their handles.
-ghost use Rattle.std.specs.Prelude.{◌≡◌, ℕ, ◌+◌, ◌-◌, ◌≤◌, ◌<◌, ◌^◌, ◌==◌, ◌++◌, ◌∷◌, [], List, if◌then◌else◌, length, take, drop, map, min, nat_le, slice_get, Ok, Err, MatchOption, Option, Some, None, true, false};
+ghost use Rattle.std.specs.Prelude.{◌≡◌, ℕ, ◌+◌, ◌-◌, ◌≤◌, ◌<◌, ◌^◌, ◌==◌, ◌++◌, ◌∷◌, [], List, if◌then◌else◌, length, take, drop, map, min, nat_le, true, false, MatchResult};
 ghost use Rattle.std.specs.Borrow.{sem, Lends, full_share};
 ghost use Rattle.std.specs.Ptr.{lies_at, null_ptr, room_at};
 ghost use Rattle.iobufs.specs.Located.{greatest_key, keys_upto};
 ghost use Rattle.iobufs.specs.contracts.bufs.IoBufs.{the_row as text_row};
 ghost use Rattle.iobufs_core.specs.Chunks.{first_chunk};
 ghost use Rattle.iobufs_core.specs.MarkedText.{MarkedText, chunk_count as count_of, default_text, is_single, of_view, taken_view, text_advanced, text_append, text_chunks, text_coalesced, text_len, text_prepend, text_rest, text_split_front};
-ghost use Rattle.iobufs_core.specs.Part.{part_frozen};
 ghost use Rattle.iobufs_core.specs.View.{IsFreelyShared, default_view, static_mark};
-ghost use Rattle.iobufs_c.specs.Codes.{IsDoneUnless, code_of};
-ghost use Rattle.iobufs_c.specs.Rows.{chunk_len, part_or_empty};
+ghost use Rattle.iobufs_c.specs.Codes.{IsDoneUnless, code_of, of_buf_error};
 
-use crate::part::PartAt;
-use crate::status::{Status, refusal};
-use crate::view::{ViewAt, ViewRoom, address};
+use crate::status::{Status, enough, refusal, within};
+use crate::view::{ViewAt, address, hand};
 use iobufs::bufs::{ChunkSlice, IoBufs};
 use iobufs_core::buf::IoBuf;
-use iobufs_core::codec::{Buf, OwnedBuf, Peek};
+use iobufs_core::codec::{Buf, BufError, OwnedBuf, Peek};
 use std::alloc::Global;
 use std::marker::{Model, Send};
 use std::mem;
@@ -52,30 +49,18 @@ impl TextAt {
     }
 }
 
-/// The handle of memory for an `IoBufs`: of one that isn't made yet, or of an `IoBufs`.
-#[repr(C)]
-pub struct TextRoom {
-    at: *mut u8,
-    ghost value: { Option MarkedText },
-}
-
-impl Model for TextRoom {
-    ghost use Rattle.iobufs.specs.contracts.bufs.IoBufs.{the_row as text_row};
-    ghost use Rattle.iobufs_c.specs.Rows.{may_lie_at};
-
-    ghost also_owns = { λ h. may_lie_at text_row h.at h.value };
-}
-
-// It may go to another thread (proofs/text/TextRoom/TheSendSync).
-unsafe impl Send for TextRoom {}
-
-impl TextRoom {
-    /// Makes an `IoBufs` of memory that holds none.
-    pub(crate) fn make(&mut self, text: IoBufs)
-        requires { self.old.value ≡ None }
-        ensures { (self.new.at ≡ self.old.at) × (self.new.value ≡ Some text) }
-    {
-        unsafe { (self.at as *mut IoBufs).write(text) }
+/// Writes an `IoBufs` that was made to `out`, and returns the status.
+pub(crate) fn hand_text(made: Result<IoBufs, BufError>, out: &mut TextAt) -> u8
+    ensures at { out.new.at ≡ out.old.at }
+    ensures told { MatchResult made (λ text. (result ≡ 0) × (out.new.value ≡ text))
+        (λ cause. (result ≡ code_of (of_buf_error cause)) × (out.new.value ≡ out.old.value)) }
+{
+    match made {
+        Ok(text) => {
+            *out.get() = text;
+            Status::Done.code()
+        }
+        Err(cause) => refusal(cause),
     }
 }
 
@@ -91,14 +76,6 @@ pub extern "C" fn iobufs_size() -> usize
     ensures value { result ≡ 56 }
 {
     mem::size_of::<IoBufs>()
-}
-
-/// Returns the alignment of an `IoBufs`.
-#[unsafe(no_mangle)]
-pub extern "C" fn iobufs_align() -> usize
-    ensures value { result ≡ 8 }
-{
-    mem::align_of::<IoBufs>()
 }
 
 /// Makes an empty `IoBufs` of memory.
@@ -128,31 +105,6 @@ pub extern "C" fn iobufs_from_view(src: &mut ViewAt, out: &mut TextAt)
 {
     let view = mem::take(src.get());
     *out.get() = IoBufs::from(view);
-}
-
-/// Makes an `IoBufs` of a writable buffer; none is left. Returns `Status::Memory` if an allocation fails; then the
-/// buffer is
-/// dropped, and `out` unchanged.
-#[unsafe(no_mangle)]
-pub extern "C" fn iobufs_from_mut(part: &mut PartAt, out: &mut TextAt) -> u8
-    ensures at { (part.new.at ≡ part.old.at) × (out.new.at ≡ out.old.at) }
-    ensures part { part.new.value ≡ None }
-    ensures value { out.new.value ≡ (if result == 0 then of_view
-        (part_frozen (part_or_empty part.old.value)) else out.old.value) }
-    ensures memory { IsDoneUnless result Status.Memory }
-    ensures nothing { length (part_or_empty part.old.value).filled ≡ 0 → result ≡ 0 }
-{
-    let Some(part) = mem::replace(part.get(), None) else {
-        *out.get() = IoBufs::default();
-        return Status::Done.code();
-    };
-    match IoBufs::from_mut(part) {
-        Ok(text) => {
-            *out.get() = text;
-            Status::Done.code()
-        }
-        Err(_) => Status::Memory.code(),
-    }
 }
 
 /// Returns whether two `IoBufs` hold the same bytes, for every chunking.
@@ -194,24 +146,6 @@ pub extern "C" fn iobufs_len(text: &mut TextAt) -> usize
     text.get().len()
 }
 
-/// Returns whether there are no bytes.
-#[unsafe(no_mangle)]
-pub extern "C" fn iobufs_is_empty(text: &mut TextAt) -> bool
-    ensures same { (text.new.at ≡ text.old.at) × (text.new.value ≡ text.old.value) }
-    ensures value { result ≡ (text_len text.old.value == 0) }
-{
-    text.get().is_empty()
-}
-
-/// Returns whether all bytes are in one chunk.
-#[unsafe(no_mangle)]
-pub extern "C" fn iobufs_is_single(text: &mut TextAt) -> bool
-    ensures same { (text.new.at ≡ text.old.at) × (text.new.value ≡ text.old.value) }
-    ensures value { result ≡ is_single text.old.value }
-{
-    text.get().is_single()
-}
-
 /// Returns the number of chunks that hold bytes.
 #[unsafe(no_mangle)]
 pub extern "C" fn iobufs_chunk_count(text: &mut TextAt) -> usize
@@ -233,38 +167,8 @@ pub extern "C" fn iobufs_chunk(text: &mut TextAt, out: &mut *const u8) -> usize
     chunk.len()
 }
 
-/// Writes the address of the chunk of an index, and returns its length; 0 if there is none.
-#[unsafe(no_mangle)]
-pub extern "C" fn iobufs_chunk_at(text: &mut TextAt, i: usize, out: &mut *const u8) -> usize
-    ensures same { (text.new.at ≡ text.old.at) × (text.new.value ≡ text.old.value) }
-    ensures value { result ≡ chunk_len (slice_get (text_chunks text.old.value) i) }
-    ensures address { MatchOption (slice_get (text_chunks text.old.value) i) (out.new ≡ out.old)
-        (λ _. out.new ≡ null_ptr → ⊥) }
-{
-    let Some(chunk) = text.get().chunk_at(i) else {
-        return 0;
-    };
-    *out = address(chunk);
-    chunk.len()
-}
-
-/// Writes the byte at an offset, and returns whether there is one.
-#[unsafe(no_mangle)]
-pub extern "C" fn iobufs_byte_at(text: &mut TextAt, i: usize, out: &mut u8) -> bool
-    ensures same { (text.new.at ≡ text.old.at) × (text.new.value ≡ text.old.value) }
-    ensures found { result ≡ true → slice_get text.old.value.bytes i ≡ Some out.new }
-    ensures none { result ≡ false → (slice_get text.old.value.bytes i ≡ None) × (out.new ≡ out.old) }
-{
-    let Some(byte) = text.get().byte_at(i) else {
-        return false;
-    };
-    *out = byte;
-    true
-}
-
 /// Writes the index of the chunk that contains an offset, and the distance from its start. Returns `Status::OutOfRange`
-/// if
-/// the offset is past the bytes; then both are unchanged.
+/// if the offset is past the bytes; then both are unchanged.
 #[unsafe(no_mangle)]
 pub extern "C" fn iobufs_locate(
     text: &mut TextAt,
@@ -288,9 +192,7 @@ pub extern "C" fn iobufs_locate(
     Status::Done.code()
 }
 
-/// Appends a view, and leaves its handle empty. Returns `Status::TooLong` or `Status::Memory` if that fails; then both
-/// are
-/// unchanged.
+/// Appends a view, and leaves its handle empty. After `Status::TooLong` or `Status::Memory` both are unchanged.
 #[unsafe(no_mangle)]
 pub extern "C" fn iobufs_append(alloc: Global, text: &mut TextAt, piece: &mut ViewAt) -> u8
     ensures at { (text.new.at ≡ text.old.at) × (piece.new.at ≡ piece.old.at) }
@@ -314,9 +216,7 @@ pub extern "C" fn iobufs_append(alloc: Global, text: &mut TextAt, piece: &mut Vi
     }
 }
 
-/// Prepends a view, and leaves its handle empty. Returns `Status::TooLong` or `Status::Memory` if that fails; then both
-/// are
-/// unchanged.
+/// Prepends a view, and leaves its handle empty. After `Status::TooLong` or `Status::Memory` both are unchanged.
 #[unsafe(no_mangle)]
 pub extern "C" fn iobufs_prepend(alloc: Global, text: &mut TextAt, piece: &mut ViewAt) -> u8
     ensures at { (text.new.at ≡ text.old.at) × (piece.new.at ≡ piece.old.at) }
@@ -362,50 +262,10 @@ pub extern "C" fn iobufs_split_to(
     ensures last { (front : List (List ℕ)) (chunk : List ℕ) → text_chunks text.old.value ≡ front ++ chunk ∷ []
         → at + length chunk ≡ text_len text.old.value → result ≡ 0 }
 {
-    let text = text.get();
-    if at > text.len() {
-        return Status::OutOfRange.code();
+    match text.get().try_split_to(alloc, at) {
+        Some(front) => hand_text(front, out),
+        None => Status::OutOfRange.code(),
     }
-    match text.split_to(alloc, at) {
-        Ok(front) => {
-            *out.get() = front;
-            Status::Done.code()
-        }
-        Err(_) => Status::Memory.code(),
-    }
-}
-
-/// Splits the first bytes off into memory that holds no `IoBufs`, as `iobufs_split_to` does.
-#[unsafe(no_mangle)]
-pub extern "C" fn iobufs_split_to_init(
-    alloc: Global,
-    text: &mut TextAt,
-    at: usize,
-    out: &mut TextRoom,
-) -> u8
-    requires { out.old.value ≡ None }
-    ensures at { (text.new.at ≡ text.old.at) × (out.new.at ≡ out.old.at) }
-    ensures text { text.new.value ≡ (if result == 0 then text_rest text.old.value at else text.old.value) }
-    ensures out { out.new.value ≡ (if result == 0 then Some (text_split_front text.old.value at) else None) }
-    ensures outside { text_len text.old.value < at → result ≡ code_of Status.OutOfRange }
-    ensures inside { at ≤ text_len text.old.value → IsDoneUnless result Status.Memory }
-    ensures nothing { at ≡ 0 → result ≡ 0 }
-    ensures whole { at ≡ text_len text.old.value → result ≡ 0 }
-    ensures first { at ≤ text_len text.old.value → at ≡ length (first_chunk (text_chunks text.old.value)) → result ≡ 0 }
-    ensures static_text { at ≤ text_len text.old.value → at ≤ length (first_chunk (text_chunks text.old.value))
-        → (taken_view text.old.value 0 at).mark ≡ static_mark → result ≡ 0 }
-    ensures last { (front : List (List ℕ)) (chunk : List ℕ) → text_chunks text.old.value ≡ front ++ chunk ∷ []
-        → at + length chunk ≡ text_len text.old.value → result ≡ 0 }
-{
-    let text = text.get();
-    if at > text.len() {
-        return Status::OutOfRange.code();
-    }
-    let Ok(front) = text.split_to(alloc, at) else {
-        return Status::Memory.code();
-    };
-    out.make(front);
-    Status::Done.code()
 }
 
 /// Clones the chunks of a range, in their storage. Returns `Status::OutOfRange` if it isn't within the bytes, or
@@ -429,16 +289,9 @@ pub extern "C" fn iobufs_slice(
     ensures static_text { lo ≤ hi → hi ≤ text_len text.old.value
         → (taken_view text.old.value lo (hi - lo)).mark ≡ static_mark → result ≡ 0 }
 {
-    let text = text.get();
-    if lo > hi || hi > text.len() {
-        return Status::OutOfRange.code();
-    }
-    match text.slice(alloc, lo..hi) {
-        Ok(slice) => {
-            *out.get() = slice;
-            Status::Done.code()
-        }
-        Err(_) => Status::Memory.code(),
+    match text.get().try_slice(alloc, lo..hi) {
+        Some(slice) => hand_text(slice, out),
+        None => Status::OutOfRange.code(),
     }
 }
 
@@ -471,12 +324,7 @@ pub extern "C" fn iobufs_advance(text: &mut TextAt, n: usize) -> u8
         (text_len text.old.value) then text_advanced text.old.value n else text.old.value) }
     ensures result { result ≡ (if nat_le n (text_len text.old.value) then 0 else code_of Status.OutOfRange) }
 {
-    let text = text.get();
-    if n > text.len() {
-        return Status::OutOfRange.code();
-    }
-    text.advance(n);
-    Status::Done.code()
+    within(text.get().try_advance(n))
 }
 
 /// Copies the first bytes out, and drops them. Returns `Status::EndOfBuffer` if there are fewer; then nothing changes.
@@ -491,17 +339,11 @@ pub extern "C" fn iobufs_copy_to_slice(text: &mut TextAt, dst: &mut [u8]) -> u8
     ensures result { result ≡ (if nat_le (length dst.old)
         (text_len text.old.value) then 0 else code_of Status.EndOfBuffer) }
 {
-    let text = text.get();
-    if dst.len() > text.len() {
-        return Status::EndOfBuffer.code();
-    }
-    text.copy_to_slice(dst);
-    Status::Done.code()
+    enough(text.get().try_copy_to_slice(dst).is_ok())
 }
 
 /// Copies the bytes after the first `skip` out; none are dropped. Returns `Status::EndOfBuffer` if there are fewer;
-/// then nothing
-/// is written.
+/// then nothing is written.
 #[unsafe(no_mangle)]
 pub extern "C" fn iobufs_peek(text: &mut TextAt, skip: usize, dst: &mut [u8]) -> u8
     ensures same { (text.new.at ≡ text.old.at) × (text.new.value ≡ text.old.value) }
@@ -511,18 +353,11 @@ pub extern "C" fn iobufs_peek(text: &mut TextAt, skip: usize, dst: &mut [u8]) ->
     ensures result { result ≡ (if nat_le (skip + length dst.old)
         (text_len text.old.value) then 0 else code_of Status.EndOfBuffer) }
 {
-    let text = text.get();
-    let len = text.len();
-    if skip > len || dst.len() > len - skip {
-        return Status::EndOfBuffer.code();
-    }
-    text.peek_slice(skip, dst);
-    Status::Done.code()
+    enough(text.get().try_peek_slice(skip, dst))
 }
 
 /// Takes the first bytes as one view: in the storage of their chunk, or a copy across chunks. Returns
-/// `Status::EndOfBuffer`
-/// if there are fewer, or `Status::Memory`; then both are unchanged.
+/// `Status::EndOfBuffer` if there are fewer, or `Status::Memory`; then both are unchanged.
 #[unsafe(no_mangle)]
 pub extern "C" fn iobufs_take(alloc: Global, text: &mut TextAt, n: usize, out: &mut ViewAt) -> u8
     ensures at { (text.new.at ≡ text.old.at) × (out.new.at ≡ out.old.at) }
@@ -539,43 +374,7 @@ pub extern "C" fn iobufs_take(alloc: Global, text: &mut TextAt, n: usize, out: &
     if n > text.len() {
         return Status::EndOfBuffer.code();
     }
-    match text.take_owned::<IoBuf>(alloc, n) {
-        Ok(view) => {
-            *out.get() = view;
-            Status::Done.code()
-        }
-        Err(_) => Status::Memory.code(),
-    }
-}
-
-/// Takes the first bytes as `iobufs_take` does, into memory that holds no view.
-#[unsafe(no_mangle)]
-pub extern "C" fn iobufs_take_init(
-    alloc: Global,
-    text: &mut TextAt,
-    n: usize,
-    out: &mut ViewRoom,
-) -> u8
-    requires { out.old.value ≡ None }
-    ensures at { (text.new.at ≡ text.old.at) × (out.new.at ≡ out.old.at) }
-    ensures text { text.new.value ≡ (if result == 0 then text_rest text.old.value n else text.old.value) }
-    ensures out { out.new.value ≡ (if result == 0 then Some (taken_view text.old.value 0 n) else None) }
-    ensures outside { text_len text.old.value < n → result ≡ code_of Status.EndOfBuffer }
-    ensures inside { n ≤ text_len text.old.value → IsDoneUnless result Status.Memory }
-    ensures nothing { n ≡ 0 → result ≡ 0 }
-    ensures whole { n ≤ text_len text.old.value → n ≡ length (first_chunk (text_chunks text.old.value)) → result ≡ 0 }
-    ensures static_text { n ≤ text_len text.old.value → (taken_view text.old.value 0 n).mark ≡ static_mark
-        → result ≡ 0 }
-{
-    let text = text.get();
-    if n > text.len() {
-        return Status::EndOfBuffer.code();
-    }
-    let Ok(view) = text.take_owned::<IoBuf>(alloc, n) else {
-        return Status::Memory.code();
-    };
-    out.make(view);
-    Status::Done.code()
+    hand(text.take_owned::<IoBuf>(alloc, n), out)
 }
 
 /// Takes the `n` bytes after the first `skip`, which are dropped too, as `iobufs_take` does.
@@ -603,18 +402,11 @@ pub extern "C" fn iobufs_take_after(
     if skip > len || n > len - skip {
         return Status::EndOfBuffer.code();
     }
-    match text.take_owned_after::<IoBuf>(alloc, skip, n) {
-        Ok(view) => {
-            *out.get() = view;
-            Status::Done.code()
-        }
-        Err(_) => Status::Memory.code(),
-    }
+    hand(text.take_owned_after::<IoBuf>(alloc, skip, n), out)
 }
 
 /// Coalesces the chunks into one view, with a copy of several, and leaves an empty `IoBufs`. Returns
-/// `Status::BadLayout` or
-/// `Status::Memory` if that fails; then the bytes are dropped: clone them first to keep them.
+/// `Status::BadLayout` or `Status::Memory` if that fails; then the bytes are dropped: clone them first to keep them.
 #[unsafe(no_mangle)]
 pub extern "C" fn iobufs_coalesce(alloc: Global, text: &mut TextAt, out: &mut ViewAt) -> u8
     ensures at { (text.new.at ≡ text.old.at) × (out.new.at ≡ out.old.at) }
@@ -626,18 +418,10 @@ pub extern "C" fn iobufs_coalesce(alloc: Global, text: &mut TextAt, out: &mut Vi
         → result ≡ code_of Status.BadLayout }
     ensures memory { text_len text.old.value < 2 ^ 63 → IsDoneUnless result Status.Memory }
 {
-    match mem::take(text.get()).coalesce(alloc) {
-        Ok(view) => {
-            *out.get() = view;
-            Status::Done.code()
-        }
-        Err(cause) => refusal(cause),
-    }
+    hand(mem::take(text.get()).coalesce(alloc), out)
 }
 
-/// Takes the only chunk as a view, and leaves an empty `IoBufs`. Returns `Status::Declined` if there are more; then
-/// both are
-/// unchanged.
+/// Takes the only chunk as a view. Returns `Status::Declined` if there are more; then both are unchanged.
 #[unsafe(no_mangle)]
 pub extern "C" fn iobufs_try_into_single(text: &mut TextAt, out: &mut ViewAt) -> u8
     ensures at { (text.new.at ≡ text.old.at) × (out.new.at ≡ out.old.at) }

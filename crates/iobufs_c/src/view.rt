@@ -1,17 +1,15 @@
 // Views, reached by their handles.
-ghost use Rattle.std.specs.Prelude.{◌≡◌, ◌≤◌, ◌<◌, ◌==◌, if◌then◌else◌, length, take, nat_le, slice_get, Option, Some, None, true, false, IfNone, IfSome};
+ghost use Rattle.std.specs.Prelude.{◌≡◌, ◌≤◌, ◌<◌, ◌==◌, if◌then◌else◌, length, take, nat_le, true, false, IfNone, IfSome, MatchResult};
 ghost use Rattle.std.specs.Borrow.{sem, Lends, full_share};
 ghost use Rattle.std.specs.Ptr.{lies_at, null_ptr, room_at};
-ghost use Rattle.iobufs_core.specs.MarkedText.{of_view, taken_view};
 ghost use Rattle.iobufs_core.specs.View.{IsFreelyShared, View, default_view, end_place, range_fits, start_place, static_mark, native_mark, view_advanced, view_rest, view_slice, view_split_front};
 ghost use Rattle.iobufs_core.specs.contracts.buf.view.IoBuf.{the_row as view_row};
-ghost use Rattle.std.specs.declared.ops.Bound.TheVariants.{Included, Excluded};
-ghost use Rattle.iobufs_c.specs.Codes.{IsDoneUnless, code_of};
+ghost use Rattle.iobufs_c.specs.Codes.{IsDoneUnless, code_of, of_buf_error};
 ghost use Rattle.iobufs_c.specs.Rows.{bound_from_c};
 
-use crate::status::Status;
+use crate::status::{Status, enough, refusal, within};
 use iobufs_core::buf::IoBuf;
-use iobufs_core::codec::{Buf, OwnedBuf};
+use iobufs_core::codec::{Buf, BufError};
 use std::alloc::Global;
 use std::marker::{Model, Send};
 use std::mem;
@@ -48,46 +46,26 @@ impl ViewAt {
     }
 }
 
-/// The handle of memory for a view: of one that isn't made yet, or of a view.
-#[repr(C)]
-pub struct ViewRoom {
-    at: *mut u8,
-    ghost value: { Option View },
-}
-
-impl Model for ViewRoom {
-    ghost use Rattle.iobufs_core.specs.contracts.buf.view.IoBuf.{the_row as view_row};
-    ghost use Rattle.iobufs_c.specs.Rows.{may_lie_at};
-
-    ghost also_owns = { λ h. may_lie_at view_row h.at h.value };
-}
-
-// It may go to another thread (proofs/view/ViewRoom/TheSendSync).
-unsafe impl Send for ViewRoom {}
-
-impl ViewRoom {
-    /// Makes a view of memory that holds none.
-    pub(crate) fn make(&mut self, view: IoBuf)
-        requires { self.old.value ≡ None }
-        ensures { (self.new.at ≡ self.old.at) × (self.new.value ≡ Some view) }
-    {
-        unsafe { (self.at as *mut IoBuf).write(view) }
-    }
-
-    /// Takes the view out of the memory, which holds none then.
-    pub(crate) fn take(&mut self) -> IoBuf
-        requires { self.old.value ≡ None → ⊥ }
-        ensures { (self.new.at ≡ self.old.at) × (self.new.value ≡ None) × (self.old.value ≡ Some result) }
-    {
-        unsafe { (self.at as *mut IoBuf).read() }
-    }
-}
-
 /// Returns the address of bytes, also of none.
 pub(crate) fn address(bytes: &[u8]) -> *const u8
     ensures { result ≡ null_ptr → ⊥ }
 {
     bytes.as_ptr()
+}
+
+/// Writes a view that was made to `out`, and returns the status.
+pub(crate) fn hand(made: Result<IoBuf, BufError>, out: &mut ViewAt) -> u8
+    ensures at { out.new.at ≡ out.old.at }
+    ensures told { MatchResult made (λ view. (result ≡ 0) × (out.new.value ≡ view))
+        (λ cause. (result ≡ code_of (of_buf_error cause)) × (out.new.value ≡ out.old.value)) }
+{
+    match made {
+        Ok(view) => {
+            *out.get() = view;
+            Status::Done.code()
+        }
+        Err(cause) => refusal(cause),
+    }
 }
 
 fn empty() -> IoBuf
@@ -102,14 +80,6 @@ pub extern "C" fn iobuf_size() -> usize
     ensures value { result ≡ 48 }
 {
     mem::size_of::<IoBuf>()
-}
-
-/// Returns the alignment of a view.
-#[unsafe(no_mangle)]
-pub extern "C" fn iobuf_align() -> usize
-    ensures value { result ≡ 8 }
-{
-    mem::align_of::<IoBuf>()
 }
 
 /// Makes an empty view of memory.
@@ -130,16 +100,6 @@ pub extern "C" fn iobuf_drop(src: &mut ViewAt)
     *src.get() = IoBuf::default();
 }
 
-/// Drops the bytes, and the view: its memory holds none then.
-#[unsafe(no_mangle)]
-pub extern "C" fn iobuf_deinit(src: &mut ViewRoom)
-    requires { src.old.value ≡ None → ⊥ }
-    ensures at { src.new.at ≡ src.old.at }
-    ensures value { src.new.value ≡ None }
-{
-    src.take();
-}
-
 /// Returns the number of bytes.
 #[unsafe(no_mangle)]
 pub extern "C" fn iobuf_len(src: &mut ViewAt) -> usize
@@ -147,15 +107,6 @@ pub extern "C" fn iobuf_len(src: &mut ViewAt) -> usize
     ensures value { result ≡ length src.old.value.bytes }
 {
     src.get().len()
-}
-
-/// Returns whether there are no bytes.
-#[unsafe(no_mangle)]
-pub extern "C" fn iobuf_is_empty(src: &mut ViewAt) -> bool
-    ensures same { (src.new.at ≡ src.old.at) × (src.new.value ≡ src.old.value) }
-    ensures value { result ≡ (length src.old.value.bytes == 0) }
-{
-    src.get().is_empty()
 }
 
 /// Writes the address of the bytes, and returns how many there are.
@@ -168,20 +119,6 @@ pub extern "C" fn iobuf_chunk(src: &mut ViewAt, out: &mut *const u8) -> usize
     let chunk = src.get().as_ref();
     *out = address(chunk);
     chunk.len()
-}
-
-/// Writes the byte at an offset, and returns whether there is one.
-#[unsafe(no_mangle)]
-pub extern "C" fn iobuf_byte_at(src: &mut ViewAt, i: usize, out: &mut u8) -> bool
-    ensures same { (src.new.at ≡ src.old.at) × (src.new.value ≡ src.old.value) }
-    ensures found { result ≡ true → slice_get src.old.value.bytes i ≡ Some out.new }
-    ensures none { result ≡ false → (slice_get src.old.value.bytes i ≡ None) × (out.new ≡ out.old) }
-{
-    let Some(byte) = src.get().byte_at(i) else {
-        return false;
-    };
-    *out = byte;
-    true
 }
 
 /// Returns whether two views hold the same bytes.
@@ -214,23 +151,6 @@ pub extern "C" fn iobuf_clone(src: &mut ViewAt, out: &mut ViewAt) -> u8
     }
 }
 
-/// Clones a view into memory that holds none, as `iobuf_clone` does.
-#[unsafe(no_mangle)]
-pub extern "C" fn iobuf_clone_init(src: &mut ViewAt, out: &mut ViewRoom) -> u8
-    requires { out.old.value ≡ None }
-    ensures same { (src.new.at ≡ src.old.at) × (src.new.value ≡ src.old.value) }
-    ensures at { out.new.at ≡ out.old.at }
-    ensures value { out.new.value ≡ (if result == 0 then Some src.old.value else None) }
-    ensures memory { IsDoneUnless result Status.Memory }
-    ensures free { IsFreelyShared src.old.value → result ≡ 0 }
-{
-    let Ok(view) = src.get().clone() else {
-        return Status::Memory.code();
-    };
-    out.make(view);
-    Status::Done.code()
-}
-
 /// Drops the first bytes. Returns `Status::OutOfRange` if there are fewer; then nothing changes.
 #[unsafe(no_mangle)]
 pub extern "C" fn iobuf_advance(src: &mut ViewAt, n: usize) -> u8
@@ -239,17 +159,11 @@ pub extern "C" fn iobuf_advance(src: &mut ViewAt, n: usize) -> u8
         (length src.old.value.bytes) then view_advanced src.old.value n else src.old.value) }
     ensures result { result ≡ (if nat_le n (length src.old.value.bytes) then 0 else code_of Status.OutOfRange) }
 {
-    let view = src.get();
-    if n > view.len() {
-        return Status::OutOfRange.code();
-    }
-    view.advance(n);
-    Status::Done.code()
+    within(src.get().try_advance(n))
 }
 
 /// Splits the first bytes off, in the same storage. Returns `Status::OutOfRange` if there are fewer, or
-/// `Status::Memory`;
-/// then both are unchanged.
+/// `Status::Memory`; then both are unchanged.
 #[unsafe(no_mangle)]
 pub extern "C" fn iobuf_split_to(src: &mut ViewAt, at: usize, out: &mut ViewAt) -> u8
     ensures at { (src.new.at ≡ src.old.at) × (out.new.at ≡ out.old.at) }
@@ -261,68 +175,9 @@ pub extern "C" fn iobuf_split_to(src: &mut ViewAt, at: usize, out: &mut ViewAt) 
     ensures whole { at ≡ length src.old.value.bytes → result ≡ 0 }
     ensures static_text { at ≤ length src.old.value.bytes → src.old.value.mark ≡ static_mark → result ≡ 0 }
 {
-    let view = src.get();
-    if at > view.len() {
-        return Status::OutOfRange.code();
-    }
-    match view.split_to(at) {
-        Ok(front) => {
-            *out.get() = front;
-            Status::Done.code()
-        }
-        Err(_) => Status::Memory.code(),
-    }
-}
-
-/// Splits the first bytes off into memory that holds no view, as `iobuf_split_to` does.
-#[unsafe(no_mangle)]
-pub extern "C" fn iobuf_split_to_init(src: &mut ViewAt, at: usize, out: &mut ViewRoom) -> u8
-    requires { out.old.value ≡ None }
-    ensures at { (src.new.at ≡ src.old.at) × (out.new.at ≡ out.old.at) }
-    ensures src { src.new.value ≡ (if result == 0 then view_rest src.old.value at else src.old.value) }
-    ensures out { out.new.value ≡ (if result == 0 then Some (view_split_front src.old.value at) else None) }
-    ensures outside { length src.old.value.bytes < at → result ≡ code_of Status.OutOfRange }
-    ensures inside { at ≤ length src.old.value.bytes → IsDoneUnless result Status.Memory }
-    ensures nothing { at ≡ 0 → result ≡ 0 }
-    ensures whole { at ≡ length src.old.value.bytes → result ≡ 0 }
-    ensures static_text { at ≤ length src.old.value.bytes → src.old.value.mark ≡ static_mark → result ≡ 0 }
-{
-    let view = src.get();
-    if at > view.len() {
-        return Status::OutOfRange.code();
-    }
-    let Ok(front) = view.split_to(at) else {
-        return Status::Memory.code();
-    };
-    out.make(front);
-    Status::Done.code()
-}
-
-/// Takes the first bytes as a view of its own. Returns `Status::EndOfBuffer` if there are fewer, or `Status::Memory`;
-/// then
-/// both are unchanged.
-#[unsafe(no_mangle)]
-pub extern "C" fn iobuf_take(alloc: Global, src: &mut ViewAt, n: usize, out: &mut ViewAt) -> u8
-    ensures at { (src.new.at ≡ src.old.at) × (out.new.at ≡ out.old.at) }
-    ensures src { src.new.value ≡ (if result == 0 then view_rest src.old.value n else src.old.value) }
-    ensures out { out.new.value ≡ (if result == 0 then taken_view (of_view src.old.value) 0 n else out.old.value) }
-    ensures outside { length src.old.value.bytes < n → result ≡ code_of Status.EndOfBuffer }
-    ensures inside { n ≤ length src.old.value.bytes → IsDoneUnless result Status.Memory }
-    ensures nothing { n ≡ 0 → result ≡ 0 }
-    ensures whole { n ≡ length src.old.value.bytes → result ≡ 0 }
-    ensures static_text { n ≤ length src.old.value.bytes → (taken_view (of_view src.old.value) 0 n).mark ≡ static_mark
-        → result ≡ 0 }
-{
-    let view = src.get();
-    if n > view.len() {
-        return Status::EndOfBuffer.code();
-    }
-    match view.take_owned::<IoBuf>(alloc, n) {
-        Ok(front) => {
-            *out.get() = front;
-            Status::Done.code()
-        }
-        Err(_) => Status::Memory.code(),
+    match src.get().try_split_to(at) {
+        Some(front) => hand(front, out),
+        None => Status::OutOfRange.code(),
     }
 }
 
@@ -338,12 +193,7 @@ pub extern "C" fn iobuf_copy_to_slice(src: &mut ViewAt, dst: &mut [u8]) -> u8
     ensures result { result ≡ (if nat_le (length dst.old)
         (length src.old.value.bytes) then 0 else code_of Status.EndOfBuffer) }
 {
-    let view = src.get();
-    if dst.len() > view.len() {
-        return Status::EndOfBuffer.code();
-    }
-    view.copy_to_slice(dst);
-    Status::Done.code()
+    enough(src.get().try_copy_to_slice(dst).is_ok())
 }
 
 // The bound, if its kind is known.
@@ -378,7 +228,8 @@ pub extern "C" fn iobuf_slice(
     ensures inside { IfSome (bound_from_c lo_kind lo) (λ from. IfSome (bound_from_c hi_kind hi) (λ to.
         range_fits from to (length src.old.value.bytes) ≡ true → IsDoneUnless result Status.Memory)) }
     ensures nothing { IfSome (bound_from_c lo_kind lo) (λ from. IfSome (bound_from_c hi_kind hi) (λ to.
-        range_fits from to (length src.old.value.bytes) ≡ true → start_place from ≡ end_place to (length src.old.value.bytes) → result ≡ 0)) }
+        range_fits from to (length src.old.value.bytes) ≡ true
+        → start_place from ≡ end_place to (length src.old.value.bytes) → result ≡ 0)) }
     ensures static_text { IfSome (bound_from_c lo_kind lo) (λ from. IfSome (bound_from_c hi_kind hi) (λ to.
         range_fits from to (length src.old.value.bytes) ≡ true → src.old.value.mark ≡ static_mark → result ≡ 0)) }
     ensures bad_start { IfNone (bound_from_c lo_kind lo)
@@ -389,49 +240,14 @@ pub extern "C" fn iobuf_slice(
     let (Some(from), Some(to)) = (bound(lo_kind, lo), bound(hi_kind, hi)) else {
         return Status::BadKind.code();
     };
-    let view = src.get();
-    if !view.fits_range(from, to) {
-        return Status::OutOfRange.code();
+    match src.get().try_slice(from, to) {
+        Some(slice) => hand(slice, out),
+        None => Status::OutOfRange.code(),
     }
-    match view.slice(from, to) {
-        Ok(slice) => {
-            *out.get() = slice;
-            Status::Done.code()
-        }
-        Err(_) => Status::Memory.code(),
-    }
-}
-
-/// Makes a view of the bytes from `lo` to `hi`, in the same storage, of memory that holds none. Returns
-/// `Status::OutOfRange`
-/// if they aren't within the bytes, or `Status::Memory`; then there is none.
-#[unsafe(no_mangle)]
-pub extern "C" fn iobuf_slice_init(src: &mut ViewAt, lo: usize, hi: usize, out: &mut ViewRoom) -> u8
-    requires { out.old.value ≡ None }
-    ensures at { (src.new.at ≡ src.old.at) × (out.new.at ≡ out.old.at) }
-    ensures same { src.new.value ≡ src.old.value }
-    ensures out { out.new.value ≡ (if result == 0 then Some
-        (view_slice src.old.value (Included lo) (Excluded hi)) else None) }
-    ensures backwards { hi < lo → result ≡ code_of Status.OutOfRange }
-    ensures outside { length src.old.value.bytes < hi → result ≡ code_of Status.OutOfRange }
-    ensures inside { lo ≤ hi → hi ≤ length src.old.value.bytes → IsDoneUnless result Status.Memory }
-    ensures nothing { lo ≡ hi → hi ≤ length src.old.value.bytes → result ≡ 0 }
-    ensures static_text { lo ≤ hi → hi ≤ length src.old.value.bytes → src.old.value.mark ≡ static_mark → result ≡ 0 }
-{
-    let view = src.get();
-    if lo > hi || hi > view.len() {
-        return Status::OutOfRange.code();
-    }
-    let Ok(slice) = view.slice(Bound::Included(lo), Bound::Excluded(hi)) else {
-        return Status::Memory.code();
-    };
-    out.make(slice);
-    Status::Done.code()
 }
 
 /// Makes a view of bytes that live, unchanged, until the last buffer made of them is dropped. The contract takes them
-/// for
-/// static: only buffers made of them have their address, so nothing reads them after that.
+/// for static: only buffers made of them have their address, so nothing reads them after that.
 #[unsafe(no_mangle)]
 pub extern "C" fn iobuf_from_static(text: &'static [u8], out: &mut ViewAt)
     ensures at { out.new.at ≡ out.old.at }
@@ -449,11 +265,5 @@ pub extern "C" fn iobuf_copy_from_slice(alloc: Global, src: &[u8], out: &mut Vie
     ensures nothing { length src.now ≡ 0 → result ≡ 0 }
     ensures memory { IsDoneUnless result Status.Memory }
 {
-    match IoBuf::copy_from_slice(alloc, src) {
-        Ok(view) => {
-            *out.get() = view;
-            Status::Done.code()
-        }
-        Err(_) => Status::Memory.code(),
-    }
+    hand(IoBuf::copy_from_slice(alloc, src), out)
 }

@@ -12,3 +12,11 @@ use ::kit;
 mod proved {
     include!(concat!(env!("OUT_DIR"), "/proved.rs"));
 }
+
+// The header's memory is aligned to eight bytes.
+const _: () = {
+    use proved::iobufs::{bufs::IoBufs, bufs_mut::IoBufsMut, builder::Builder};
+    use proved::iobufs_core::buf::{IoBuf, IoBufMut};
+    use proved::iobufs_frames::{Frames, Received};
+    assert!(align_of::<(IoBuf, IoBufMut, IoBufs, IoBufsMut, Builder, Frames, Received)>() <= 8)
+};
