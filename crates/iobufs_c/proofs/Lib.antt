@@ -1,4 +1,3 @@
 mod Chunks
-mod Makes
 mod Places
 mod Rooms
