@@ -9,8 +9,8 @@
 #include "test.h"
 #include <time.h>
 
-/* MOST bytes in a buffer, PIECES in a text, ROW_PARTS in a row; VIEWS, TEXTS and ROWS of each kind of buffer; BLOCKS of
- * storage; BODY bytes in a frame. */
+/* At most MOST bytes in a buffer, PIECES views in a text, ROW_PARTS buffers in a row, BLOCKS of storage, and BODY bytes
+ * in a frame. There are VIEWS views and as many writable buffers, TEXTS texts, and ROWS rows. */
 enum { MOST = 240, PIECES = 40, ROW_PARTS = 8, VIEWS = 6, TEXTS = 4, ROWS = 3, BLOCKS = 8192, BODY = 40 };
 
 /* ---- the model ---- */
