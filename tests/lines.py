@@ -92,7 +92,8 @@ class Buffers(Session):
             return
         line = command.format(**self.words(self.random.choice(fits)))
         if self.ask(line).startswith(("ok", "bytes", "refused N9")):
-            # An item of `build` is a name after p. Lengths are among them: those names are looked at in vain.
+            # A command that is refused with N9, Memory, may have consumed its names. An item of `build` is a name after
+            # p. Other numbers of the line are among them: those names are looked at in vain.
             numbers = {int(it.removeprefix("p")) for it in line.split()[1:] if it.removeprefix("p").isdigit()}
             for name in sorted(numbers & set(range(NAMES))):
                 self.look(name)

@@ -59,7 +59,9 @@ static iobufs_status from_view(struct made *m) { return iobufmut_from_view(&m->s
 static iobufs_status freeze(struct made *m) { return iobufmut_freeze(&m->part, &m->out_view); }
 static iobufs_status clone(struct made *m) { return iobuf_clone(&m->view, &m->out_view); }
 static iobufs_status split(struct made *m) { return iobuf_split_to(&m->view, 1, &m->out_view); }
-static iobufs_status slice(struct made *m) { return iobuf_slice(&m->view, 0, 1, 2, 0, &m->out_view); }
+static iobufs_status slice(struct made *m) {
+    return iobuf_slice(&m->view, IOBUFS_INCLUDED, 1, IOBUFS_UNBOUNDED, 0, &m->out_view);
+}
 static iobufs_status text_clone(struct made *m) { return iobufs_clone(&m->text, &m->out_text); }
 static iobufs_status append(struct made *m) { return iobufs_append(&m->text, &m->view); }
 static iobufs_status prepend(struct made *m) { return iobufs_prepend(&m->text, &m->view); }
