@@ -1,8 +1,14 @@
 """Random lines for the program iobuf, of which most can be carried out, since the replies tell what each name holds."""
 import subprocess
 from random import Random
+from typing import NamedTuple
 
-# Commands, by the kinds of which {name} is one. The other words in braces are those of `Buffers.words`.
+# The names of the program are the numbers below NAMES; that of NAMES itself is refused. If more than FULL hold
+# something, one is dropped.
+NAMES, FULL = 16, 12
+KINDS = ("part", "parts", "view", "text")
+# Commands, separated by commas, by the kinds of which {name} is one, or "" if it isn't in them. A command that is there
+# twice is asked twice as often. The other words in braces are those of `Buffers.words`.
 COMMANDS = {
     "": """new {free} {size} {align}, new {free} {size} 1, zeroed {free} {size} {align}, adopt {free} {bytes},
         bytes {free} {bytes}, static {free} {lo} {hi}, gather {free}{views}, gathermut {free}{buffers},
@@ -19,13 +25,22 @@ COMMANDS = {
     "part parts view text": "advance {name} {at}, take {name} {at}, drop {name}",
 }
 CHOICES = [(kinds, command.strip()) for kinds, text in COMMANDS.items() for command in text.split(",")]
+# What a thread of the machine asks: calls on a handle, new blocks, and questions on a handle or a record.
 CALLS = "put {n},advance {n},split {n},slice {lo} {hi},freeze,recover,unique,demote,clone,clone,drop".split(",")
 BLOCKS = ["new {base} 16 {align}", "new {base} 16 1", "external {base} 16", "static {n}"]
 QUESTIONS = ["handle {old}", "record {old}", "handle {new}", "record {new}"]
 
 
+class Held(NamedTuple):
+    """What a name holds: its kind, how many bytes, and how much space; no kind if nothing is known of it."""
+
+    kind: str = ""
+    size: int = 0
+    space: int = 0
+
+
 class Session:
-    """A program that answers line by line, the lines, and the replies."""
+    """A program that answers line by line, the lines, and the replies. `half` is its argument: buf or owner."""
 
     def __init__(self, program, half, seed):
         self.half, self.random, self.lines, self.replies = half, Random(seed), [], []
@@ -52,47 +67,55 @@ class Session:
         return self.random.choice([0, most, most, *within, most + (self.random.random() < 0.3)])
 
     def range(self, most):
+        """Two such numbers, the lower first."""
         return sorted((self.number(most), self.number(most)))
 
 
 class Buffers(Session):
-    """Lines of `iobuf buf`. `held` has the kind of each name, how many bytes it has, and how much space."""
+    """Lines of `iobuf buf`. `held` has what each name holds."""
 
     def __init__(self, program, seed):
         super().__init__(program, "buf", seed)
         self.held = {}
 
     def names_of(self, kinds):
-        return [name for name, (kind, *_) in self.held.items() if kind in kinds.split()]
+        """The names that hold one of these kinds."""
+        return [name for name, held in self.held.items() if held.kind in kinds.split()]
 
     def step(self):
-        """Asks a random command, and what the names in it hold then."""
+        """Asks a random command, and what the names in it hold then. Now and then its name is of another kind."""
         kinds, command = self.random.choice(CHOICES)
-        fits = self.names_of(kinds) if kinds and self.random.random() < 0.98 else [self.random.randrange(17)]
-        if len(self.held) > 12:
+        fits = self.names_of(kinds) if kinds and self.random.random() < 0.98 else [self.random.randrange(NAMES + 1)]
+        if len(self.held) > FULL:
             fits, command = list(self.held), "drop {name}"
         if not fits or "{view}" in command and not self.names_of("view"):
             return
         line = command.format(**self.words(self.random.choice(fits)))
         if self.ask(line).startswith(("ok", "bytes", "refused N9")):
-            names = {int(it.removeprefix("p")) for it in line.split()[1:] if it.removeprefix("p").isdigit()}
-            for name in sorted(names & set(range(16))):
+            # A command that is refused with N9, Memory, may have consumed its names. An item of `build` is a name after
+            # p. Other numbers of the line are among them: those names are looked at in vain.
+            numbers = {int(it.removeprefix("p")) for it in line.split()[1:] if it.removeprefix("p").isdigit()}
+            for name in sorted(numbers & set(range(NAMES))):
                 self.look(name)
 
     def look(self, name):
-        """Asks what a name holds."""
+        """Asks what a name holds: as in `part 6162+6` each chunk is its bytes, in hex, or -, and its space."""
         kind, *chunks = self.ask(f"show {name}").split()
         self.held.pop(name, None)
-        if kind in ("part", "parts", "view", "text"):
-            sizes = [it.replace("-", "").partition("+") for it in chunks]
-            self.held[name] = kind, sum(len(it[0]) for it in sizes) // 2, sum(int(it[2] or 0) for it in sizes)
+        if kind in KINDS:
+            parted = [it.replace("-", "").partition("+") for it in chunks]
+            size = sum(len(digits) for digits, _, _ in parted) // 2
+            self.held[name] = Held(kind, size, sum(int(space or 0) for _, _, space in parted))
 
     def words(self, name):
-        """What stands for each word in braces in a command on this name; most of it can be carried out."""
-        draw, (_, size, space) = self.random, self.held.get(name, ("", 0, 0))
+        """What stands for each word in braces in a command on this name; most of it can be carried out. The range from
+        `lower` to `upper` is of its bytes, that from `lo` to `hi` of the alphabet's 26."""
+        draw, (_, size, space) = self.random, self.held.get(name, Held())
         is_rare = draw.random() < 0.03
-        free = draw.choice([it for it in range(17) if is_rare or it < 16 and it not in self.held])
-        views, (lower, upper), (lo, hi) = self.some("view"), self.range(size), sorted(draw.choices(range(27), k=2))
+        free = draw.choice([it for it in range(NAMES + 1) if is_rare or it < NAMES and it not in self.held])
+        views = self.some("view")
+        lower, upper = self.range(size)
+        lo, hi = sorted(draw.choices(range(27), k=2))
         return {
             "name": name,
             "free": free,
@@ -106,7 +129,10 @@ class Buffers(Session):
             "at": self.number(size),
             "space": self.number(space),
             "capacity": self.number(size + space),
-            **{"lo": lo, "hi": hi, "lower": lower, "upper": upper},
+            "lo": lo,
+            "hi": hi,
+            "lower": lower,
+            "upper": upper,
             "byte": draw.randrange(256),
             "bytes": self.digits(draw.choice([0, 1, 20, 20, 300])),
             "fitting": self.digits(self.number(min(space, 300))),
@@ -114,6 +140,7 @@ class Buffers(Session):
         }
 
     def digits(self, n):
+        """So many random bytes in hex, or - if there are none."""
         return self.random.randbytes(n).hex() or "-"
 
     def some(self, kind):
@@ -123,7 +150,8 @@ class Buffers(Session):
 
 
 class Machine(Session):
-    """Lines of `iobuf owner`, with three threads."""
+    """Lines of `iobuf owner`, with three threads: the handles that were made, the address of the last block, and which
+    threads have a call that isn't done."""
 
     def __init__(self, program, seed):
         super().__init__(program, "owner", seed)

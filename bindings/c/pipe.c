@@ -1,13 +1,14 @@
 /*
- * A sender and a reader over a socketpair: frames of views, written by writev from the chunks of a text, with short writes (a
- * small socket buffer that isn't waited for), read in pieces and taken out as frames. Sums at both ends have to be equal.
+ * A sender and a reader over a socketpair: frames of views, written by writev from the chunks of a text, with short
+ * writes (a small socket buffer that isn't waited for), read in pieces and taken out as frames. Sums at both ends have
+ * to be equal.
  *
  *     pipe [MEBIBYTES [BODY [plain]]]
  *
- * BODY is the bytes of a frame. The bodies of a batch lie one behind the other in a block of the sender's. By the buffers a frame
- * is its length and a slice of that block, or, of a short body, a copy of it; the reader's frames are slices of what was read,
- * and only those that came in two pieces are copied. With `plain`, the same frames and writes by plain copies: each body into
- * another block, behind its length, and out of what was read into memory of its own.
+ * BODY is the bytes of a frame. The bodies of a batch lie one behind the other in a block of the sender's. By the
+ * buffers a frame is its length and a slice of that block, or, of a short body, a copy of it; the reader's frames are
+ * slices of what was read, and only those that came in two pieces are copied. With `plain`, the same frames and writes
+ * by plain copies: each body into another block, behind its length, and out of what was read into memory of its own.
  */
 #include "test.h"
 #include <errno.h>
@@ -20,6 +21,8 @@
 #include <time.h>
 #include <unistd.h>
 
+/* The longest body, the bytes of a batch, the most chunks of a write, the bytes of a read, and the length from which
+ * a body isn't copied. */
 enum { MOST = 1 << 20, BATCH = 1 << 17, LIST = 64, PIECE = 32768, SHORT = 2048 };
 
 /* What the sender tells the reader's process. */
@@ -43,8 +46,12 @@ static uint8_t filler(size_t i) { return (uint8_t)(i * 31 % 251); }
 /* Frames that are sent at a time. */
 static size_t batch(void) { return body < BATCH ? BATCH / body : 1; }
 
-/* Pieces that are listed at a time: those of twice the bytes that the socket takes, since what isn't written is listed anew. */
-static size_t listed(void) { return 2 * (2 * PIECE / body) + 2 < LIST ? 2 * (2 * PIECE / body) + 2 : LIST; }
+/* Chunks that are listed at a time: of each frame two, of twice the bytes that the socket takes, since what isn't
+ * written is listed again. */
+static size_t listed(void) {
+    size_t chunks = 2 * (2 * PIECE / body) + 2;
+    return chunks < LIST ? chunks : LIST;
+}
 
 /* Writes some of a list, and waits where nothing can be written. */
 static size_t write_some(int to, struct iovec *list, size_t n, size_t len) {
@@ -69,11 +76,13 @@ static size_t read_some(int from, uint8_t *room) {
 
 /* ---- by the buffers ---- */
 
-/* The bodies of n frames from i on, as a view of one block, and where they lie; `block` holds the block of the batch before it,
- * which nobody shares any more. */
+/* The bodies of n frames from i on, as a view of one block, and where they lie; `block` holds the block of the batch
+ * before it, which nobody shares any more. */
 static const uint8_t *make_bodies(struct iobuf_at *block, struct iobufmut_at *part, size_t i, size_t n) {
     const uint8_t *at;
-    if (iobuf_try_into_mut(block, part) != IOBUFS_OK || iobufmut_capacity(part) < batch() * body) OK(iobufmut_with_capacity(batch() * body, part));
+    if (iobuf_try_into_mut(block, part) != IOBUFS_OK || iobufmut_capacity(part) < batch() * body) {
+        OK(iobufmut_with_capacity(batch() * body, part));
+    }
     iobufmut_truncate(part, 0);
     for (size_t k = 0; k < n; k++, i++) {
         OK(iobufmut_put_slice(part, (const uint8_t *)&i, sizeof i));
@@ -86,7 +95,8 @@ static const uint8_t *make_bodies(struct iobuf_at *block, struct iobufmut_at *pa
 }
 
 /* A length and a body: a slice of the front of `bodies`, or, of a short one, a copy. */
-static void put_frame(struct iobufs_builder_at *builder, struct iobuf_at *bodies, const uint8_t *at, struct iobuf_at *first) {
+static void put_frame(struct iobufs_builder_at *builder, struct iobuf_at *bodies, const uint8_t *at,
+                      struct iobuf_at *first) {
     OK(iobufs_builder_put_length(builder, body));
     if (body < SHORT) {
         OK(iobufs_builder_put_slice(builder, at, body));
@@ -106,22 +116,23 @@ static void send_text(int to, struct iobufs_at *text) {
 }
 
 static void send_frames(int to, size_t count) {
-    BUILDER(b); PART(p); VIEW(block); VIEW(bodies); VIEW(first); TEXT(t);
+    BUILDER(builder); PART(part); VIEW(block); VIEW(bodies); VIEW(first); TEXT(text);
+    const size_t copied = 10 + (body < SHORT ? body : 0); /* of a frame, at most: its length, and a short body */
     for (size_t i = 0, n; i < count; i += n) {
         n = count - i < batch() ? count - i : batch();
-        const uint8_t *at = make_bodies(&block, &p, i, n);
+        const uint8_t *at = make_bodies(&block, &part, i, n);
         OK(iobuf_clone(&block, &bodies));
-        OK(iobufs_builder_new(n * (10 + (body < SHORT ? body : 0)), &b));
-        for (size_t k = 0; k < n; k++) put_frame(&b, &bodies, at + k * body, &first);
-        OK(iobufs_builder_finish(&b, &t));
+        OK(iobufs_builder_new(n * copied, &builder));
+        for (size_t k = 0; k < n; k++) put_frame(&builder, &bodies, at + k * body, &first);
+        OK(iobufs_builder_finish(&builder, &text));
         iobuf_drop(&bodies);
-        send_text(to, &t);
+        send_text(to, &text);
     }
-    iobufs_builder_drop(&b); iobufs_drop(&t); iobuf_drop(&block); iobuf_drop(&bodies); iobuf_drop(&first);
+    iobufs_builder_drop(&builder); iobufs_drop(&text); iobuf_drop(&block); iobuf_drop(&bodies); iobuf_drop(&first);
 }
 
 /* Reads into the memory of an earlier piece, if no frame holds that any more, or else into new memory, which stays with
- * `earlier`; what was read is a slice of it. */
+ * `earlier`; what was read, `out`, is a slice of it. */
 static void read_piece(int from, struct iobuf_at *earlier, struct iobufmut_at *part, struct iobuf_at *out) {
     uint8_t *at;
     if (iobuf_try_into_mut(earlier, part) != IOBUFS_OK || iobufmut_len(part) < PIECE) OK(iobufmut_zeroed(PIECE, part));
@@ -131,26 +142,28 @@ static void read_piece(int from, struct iobuf_at *earlier, struct iobufmut_at *p
     OK(iobuf_slice(earlier, IOBUFS_INCLUDED, 0, IOBUFS_EXCLUDED, n, out));
 }
 
+/* Reads into two blocks in turn: a frame that has begun and not ended keeps the last one. */
 static uint64_t read_frames(int from, size_t count) {
-    FRAMES(f); PART(p); VIEW(v); VIEW(a); VIEW(b);
-    struct iobuf_at *earlier = &a, *later = &b;
+    FRAMES(frames); PART(part); VIEW(view); VIEW(one); VIEW(other);
+    struct iobuf_at *earlier = &one, *later = &other;
     uint64_t sum = 0;
     const uint8_t *at;
     for (size_t seen = 0; seen < count;) {
-        read_piece(from, earlier, &p, &v);
+        read_piece(from, earlier, &part, &view);
         struct iobuf_at *last = earlier;
-        earlier = later; later = last;
-        OK(iobufs_frames_feed(&f, &v));
+        earlier = later;
+        later = last;
+        OK(iobufs_frames_feed(&frames, &view));
         iobufs_status status;
         size_t wrong;
-        while ((status = iobufs_frames_next(&f, 0, MOST, &v, &wrong)) == IOBUFS_OK) {
-            CHECK(iobuf_chunk(&v, &at) == body);
+        while ((status = iobufs_frames_next(&frames, 0, MOST, &view, &wrong)) == IOBUFS_OK) {
+            CHECK(iobuf_chunk(&view, &at) == body);
             sum = sum_of(sum, at, body);
             seen++;
         }
         CHECK(status == IOBUFS_END_OF_BUFFER);
     }
-    iobufs_frames_drop(&f); iobuf_drop(&v); iobuf_drop(&a); iobuf_drop(&b);
+    iobufs_frames_drop(&frames); iobuf_drop(&view); iobuf_drop(&one); iobuf_drop(&other);
     return sum;
 }
 
@@ -241,7 +254,7 @@ int main(int argc, char **argv) {
     /* A list of short frames is no more than the socket takes. */
     CHECK(sum == told->sum && (body < 4096 || told->short_writes > 0));
     double seconds = (double)(ended.tv_sec - began.tv_sec) + (double)(ended.tv_nsec - began.tv_nsec) / 1e9;
-    printf("%zu MiB in %zu frames of %zu bytes%s: %.2f s, %zu writes, %zu of them short\n", mebibytes, count, body, plain ? " by plain copies" : "",
-           seconds, told->writes, told->short_writes);
+    printf("%zu MiB in %zu frames of %zu bytes%s: %.2f s, %zu writes, %zu of them short\n", mebibytes, count, body,
+           plain ? " by plain copies" : "", seconds, told->writes, told->short_writes);
     return 0;
 }

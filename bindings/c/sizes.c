@@ -1,15 +1,20 @@
 /*
- * Calls at size and at their edges: chunks of up to 5 MiB, read through the pointer that is returned; empty ranges; lengths
- * and limits above 2^32; fronts that are no length. The bytes are those of `model`, and a chunk is a range of it.
+ * Calls at size and at their edges: chunks of up to 5 MiB, read through the pointer that is returned; empty ranges;
+ * lengths and limits above 2^32; fronts that are no length. The bytes are those of `model`, and a chunk is a range of
+ * it.
  */
 #include "test.h"
 
-#define LONG ((size_t)5 << 20)
-#define FAR ((size_t)1 << 33)
+#define LONG ((size_t)5 << 20) /* the most bytes of a buffer */
+#define FAR ((size_t)1 << 33)  /* a length that 32 bits don't hold, and no buffer has */
 
-static uint8_t model[LONG], room[LONG];
+static uint8_t model[LONG], room[LONG]; /* `room`: what a call copies out */
 
-static int is_range(const uint8_t *at, size_t n, size_t lo, size_t hi) { return n == hi - lo && !memcmp(at, model + lo, n); }
+/* Whether n bytes are those of the model from `lo` to `hi`. */
+static int is_range(const uint8_t *at, size_t n, size_t lo, size_t hi) {
+    return n == hi - lo && !memcmp(at, model + lo, n);
+}
+/* Whether a buffer holds these bytes of the model, in one chunk. */
 static int view_shows(struct iobuf_at *view, size_t lo, size_t hi) {
     const uint8_t *at = model;
     size_t n = iobuf_chunk(view, &at);
@@ -21,7 +26,8 @@ static int part_shows(struct iobufmut_at *part, size_t lo, size_t hi) {
     return n == iobufmut_len(part) && is_range(at, n, lo, hi);
 }
 
-/* Whether the chunks of a text show a range, cut at multiples of n: by the list, one by one, in threes and by locate. */
+/* Whether the chunks of a text show a range of the model, cut at multiples of n: by the list, one by one, in threes and
+ * by locate. */
 static int text_shows(struct iobufs_at *text, size_t n, size_t lo, size_t hi) {
     size_t count = iobufs_chunk_count(text), at = lo;
     struct iobufs_iovec *list = calloc(count + 1, sizeof *list);
@@ -59,6 +65,7 @@ static void recovered(size_t n) {
     iobuf_drop(&view), iobufmut_drop(&part), iobufmut_drop(&other);
 }
 
+/* A view of n bytes is sliced, split, copied out, and becomes a writable buffer. */
 static void views(size_t n) {
     VIEW(view); VIEW(other);
     PART(part);
@@ -92,7 +99,8 @@ static void received(size_t n, size_t step) {
         OK(iobufs_frames_head(IOBUFS_U32_LE, n, head, sizeof head, &len));
         receive(&block, (const char *)head, len);
         for (size_t at = 0; at < n; at += step) {
-            CHECK(iobufs_received_next(&block, 0, n, &body, &wrong) == IOBUFS_END_OF_BUFFER && iobufs_received_len(&block) == len + at);
+            CHECK(iobufs_received_next(&block, 0, n, &body, &wrong) == IOBUFS_END_OF_BUFFER);
+            CHECK(iobufs_received_len(&block) == len + at);
             receive(&block, (const char *)model + at, n - at < step ? n - at : step);
         }
         OK(iobufs_received_next(&block, 0, n, &body, &wrong));
@@ -101,6 +109,7 @@ static void received(size_t n, size_t step) {
     iobufs_received_drop(&block); iobuf_drop(&first); iobuf_drop(&body);
 }
 
+/* Three writable buffers of n bytes, each by itself and in a row. */
 static void parts(size_t n) {
     PART(part); PART(whole);
     PARTS(row);
@@ -130,6 +139,7 @@ static void parts(size_t n) {
     iobufmut_drop(&part), iobufmut_drop(&whole), iobufs_drop(&text);
 }
 
+/* A text of so many chunks of n bytes is cut, sliced, copied out and coalesced. */
 static void texts(size_t count, size_t n) {
     size_t all = count * n;
     TEXT(text); TEXT(front);
@@ -155,48 +165,65 @@ static void texts(size_t count, size_t n) {
     iobuf_drop(&view), iobufs_drop(&front);
 }
 
-/* Ranges without bytes, and those that don't fit. */
-static void ranges(void) {
-    const size_t n = 5000;
-    VIEW(view); VIEW(out);
-    TEXT(text); TEXT(front);
-    OK(iobuf_copy_from_slice(model, n, &view));
+/* Of a view of n bytes: ranges without bytes, and those that don't fit. */
+static void ranges_of_view(struct iobuf_at *view, size_t n) {
+    VIEW(out);
     for (size_t at = 0; at <= n; at += n / 2) {
-        OK(iobuf_slice(&view, IOBUFS_INCLUDED, at, IOBUFS_EXCLUDED, at, &out));
+        OK(iobuf_slice(view, IOBUFS_INCLUDED, at, IOBUFS_EXCLUDED, at, &out));
         CHECK(iobuf_len(&out) == 0);
-        CHECK(iobuf_slice(&view, IOBUFS_EXCLUDED, at, IOBUFS_INCLUDED, at, &out) == (at < n ? IOBUFS_OK : IOBUFS_OUT_OF_RANGE));
-        CHECK(iobuf_slice(&view, IOBUFS_EXCLUDED, at, IOBUFS_EXCLUDED, at, &out) == IOBUFS_OUT_OF_RANGE);
+        /* No bytes, from at + 1 on. */
+        const iobufs_status status = at < n ? IOBUFS_OK : IOBUFS_OUT_OF_RANGE;
+        CHECK(iobuf_slice(view, IOBUFS_EXCLUDED, at, IOBUFS_INCLUDED, at, &out) == status);
+        CHECK(iobuf_slice(view, IOBUFS_EXCLUDED, at, IOBUFS_EXCLUDED, at, &out) == IOBUFS_OUT_OF_RANGE);
     }
-    OK(iobuf_slice(&view, IOBUFS_INCLUDED, n, IOBUFS_UNBOUNDED, 0, &out));
-    OK(iobuf_slice(&view, IOBUFS_UNBOUNDED, 0, IOBUFS_EXCLUDED, 0, &out));
+    OK(iobuf_slice(view, IOBUFS_INCLUDED, n, IOBUFS_UNBOUNDED, 0, &out));
+    OK(iobuf_slice(view, IOBUFS_UNBOUNDED, 0, IOBUFS_EXCLUDED, 0, &out));
     CHECK(iobuf_len(&out) == 0);
     const size_t beyond[] = { n + 1, FAR + n, SIZE_MAX };
     for (size_t i = 0; i < 3; i++) {
         const size_t far = beyond[i];
-        CHECK(iobuf_slice(&view, IOBUFS_INCLUDED, 0, IOBUFS_EXCLUDED, far, &out) == IOBUFS_OUT_OF_RANGE);
-        CHECK(iobuf_slice(&view, IOBUFS_INCLUDED, far, IOBUFS_UNBOUNDED, 0, &out) == IOBUFS_OUT_OF_RANGE);
-        CHECK(iobuf_slice(&view, IOBUFS_EXCLUDED, far, IOBUFS_INCLUDED, far, &out) == IOBUFS_OUT_OF_RANGE);
-        CHECK(iobuf_split_to(&view, far, &out) == IOBUFS_OUT_OF_RANGE && iobuf_advance(&view, far) == IOBUFS_OUT_OF_RANGE);
+        CHECK(iobuf_slice(view, IOBUFS_INCLUDED, 0, IOBUFS_EXCLUDED, far, &out) == IOBUFS_OUT_OF_RANGE);
+        CHECK(iobuf_slice(view, IOBUFS_INCLUDED, far, IOBUFS_UNBOUNDED, 0, &out) == IOBUFS_OUT_OF_RANGE);
+        CHECK(iobuf_slice(view, IOBUFS_EXCLUDED, far, IOBUFS_INCLUDED, far, &out) == IOBUFS_OUT_OF_RANGE);
+        CHECK(iobuf_split_to(view, far, &out) == IOBUFS_OUT_OF_RANGE);
+        CHECK(iobuf_advance(view, far) == IOBUFS_OUT_OF_RANGE);
     }
-    OK(iobuf_split_to(&view, 0, &out));
-    OK(iobuf_advance(&view, 0));
-    OK(iobuf_copy_to_slice(&view, room, 0));
-    CHECK(view_shows(&view, 0, n) && iobuf_len(&out) == 0);
+    OK(iobuf_split_to(view, 0, &out));
+    OK(iobuf_advance(view, 0));
+    OK(iobuf_copy_to_slice(view, room, 0));
+    CHECK(view_shows(view, 0, n) && iobuf_len(&out) == 0);
     OK(iobuf_copy_from_slice(model, 0, &out));
     CHECK(iobuf_len(&out) == 0);
-    iobufs_from_view(&view, &text);
-    OK(iobufs_split_to(&text, 0, &front));
-    OK(iobufs_take_after(&text, 0, 0, &out));
-    CHECK(iobufs_len(&front) == 0 && iobuf_len(&out) == 0 && text_shows(&text, n, 0, n));
-    CHECK(iobufs_take_after(&text, SIZE_MAX, 1, &out) == IOBUFS_END_OF_BUFFER);
-    CHECK(iobufs_take_after(&text, FAR, SIZE_MAX - FAR, &out) == IOBUFS_END_OF_BUFFER);
-    CHECK(iobufs_slice(&text, 0, FAR, &front) == IOBUFS_OUT_OF_RANGE && iobufs_slice(&text, SIZE_MAX, n, &front) == IOBUFS_OUT_OF_RANGE);
-    CHECK(iobufs_split_to(&text, FAR, &front) == IOBUFS_OUT_OF_RANGE && iobufs_advance(&text, SIZE_MAX) == IOBUFS_OUT_OF_RANGE);
+    iobuf_drop(&out);
+}
+
+/* Of a text of n bytes in one chunk: ranges without bytes, and those that don't fit. */
+static void ranges_of_text(struct iobufs_at *text, size_t n) {
+    TEXT(front); VIEW(out);
+    OK(iobufs_split_to(text, 0, &front));
+    OK(iobufs_take_after(text, 0, 0, &out));
+    CHECK(iobufs_len(&front) == 0 && iobuf_len(&out) == 0 && text_shows(text, n, 0, n));
+    CHECK(iobufs_take_after(text, SIZE_MAX, 1, &out) == IOBUFS_END_OF_BUFFER);
+    CHECK(iobufs_take_after(text, FAR, SIZE_MAX - FAR, &out) == IOBUFS_END_OF_BUFFER);
+    CHECK(iobufs_slice(text, 0, FAR, &front) == IOBUFS_OUT_OF_RANGE);
+    CHECK(iobufs_slice(text, SIZE_MAX, n, &front) == IOBUFS_OUT_OF_RANGE);
+    CHECK(iobufs_split_to(text, FAR, &front) == IOBUFS_OUT_OF_RANGE);
+    CHECK(iobufs_advance(text, SIZE_MAX) == IOBUFS_OUT_OF_RANGE);
     size_t index, offset;
-    CHECK(iobufs_locate(&text, n, &index, &offset) == IOBUFS_OUT_OF_RANGE && iobufs_locate(&text, FAR, &index, &offset) == IOBUFS_OUT_OF_RANGE);
-    OK(iobufs_split_to(&text, n, &front));
-    CHECK(iobufs_len(&text) == 0 && text_shows(&front, n, 0, n));
+    CHECK(iobufs_locate(text, n, &index, &offset) == IOBUFS_OUT_OF_RANGE);
+    CHECK(iobufs_locate(text, FAR, &index, &offset) == IOBUFS_OUT_OF_RANGE);
+    OK(iobufs_split_to(text, n, &front));
+    CHECK(iobufs_len(text) == 0 && text_shows(&front, n, 0, n));
     iobufs_drop(&front);
+}
+
+static void ranges(void) {
+    const size_t n = 5000;
+    VIEW(view); TEXT(text);
+    OK(iobuf_copy_from_slice(model, n, &view));
+    ranges_of_view(&view, n);
+    iobufs_from_view(&view, &text);
+    ranges_of_text(&text, n);
 }
 
 /* Lengths and limits above 2^32. */
@@ -221,13 +248,15 @@ static void limits(void) {
     OK(iobuf_copy_from_slice(bytes("\3abc"), 4, &view));
     CHECK(iobuf_read_view(&view, FAR, SIZE_MAX, &out) == IOBUFS_INVALID_LENGTH && iobuf_len(&view) == 4);
     OK(iobufs_frames_feed(&frames, &view));
-    CHECK(iobufs_frames_next(&frames, FAR, SIZE_MAX, &out, &n) == IOBUFS_INVALID_LENGTH && iobufs_frames_len(&frames) == 4);
+    CHECK(iobufs_frames_next(&frames, FAR, SIZE_MAX, &out, &n) == IOBUFS_INVALID_LENGTH);
+    CHECK(iobufs_frames_len(&frames) == 4);
     OK(iobufs_frames_next(&frames, 3, FAR, &out, &n));
     CHECK(view_is(&out, "abc"));
     OK(iobufs_received_new(IOBUFS_U64_BE, &block));
     receive(&block, "\0\0\0\2\0\0\0\5", 8);
     CHECK(iobufs_received_next(&block, 0, FAR + 4, &out, &n) == IOBUFS_INVALID_LENGTH && n == FAR + 5);
-    CHECK(iobufs_received_next(&block, FAR + 5, SIZE_MAX, &out, &n) == IOBUFS_END_OF_BUFFER && iobufs_received_len(&block) == 8);
+    CHECK(iobufs_received_next(&block, FAR + 5, SIZE_MAX, &out, &n) == IOBUFS_END_OF_BUFFER);
+    CHECK(iobufs_received_len(&block) == 8);
     iobufs_received_drop(&block);
     CHECK(iobufmut_with_capacity((size_t)1 << 63, &part) == IOBUFS_BAD_LAYOUT);
     CHECK(iobufmut_zeroed((size_t)1 << 63, &part) == IOBUFS_BAD_LAYOUT);
@@ -253,7 +282,8 @@ static void fronts(void) {
         CHECK(len == 2 || (iobuf_get_u16(&view, &two) == IOBUFS_END_OF_BUFFER && two == 1));
         OK(iobuf_clone(&view, &out));
         iobufs_from_view(&out, &text);
-        CHECK(iobufs_read_length(&text, 0, SIZE_MAX, &n) == why && iobufs_read_view(&text, 0, SIZE_MAX, &out) == why && n == 1);
+        CHECK(iobufs_read_length(&text, 0, SIZE_MAX, &n) == why && n == 1);
+        CHECK(iobufs_read_view(&text, 0, SIZE_MAX, &out) == why);
         CHECK(len == 2 || (iobufs_get_u16(&text, &two) == IOBUFS_END_OF_BUFFER && two == 1));
         CHECK(iobufs_get_u32(&text, &four) == IOBUFS_END_OF_BUFFER && four == 1 && iobufs_len(&text) == len);
         CHECK(iobuf_len(&view) == len && iobuf_len(&out) == 0);

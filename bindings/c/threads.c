@@ -1,6 +1,7 @@
 /*
  * Views of one block, cloned, read, sliced and dropped by eight threads at once, and recovered by the last. Blocks are
- * counted (as in refused.c): each is given back once. Run under valgrind's helgrind too. The argument is the number of turns.
+ * counted (as in refused.c): each is given back once. Run under valgrind's helgrind too. The argument is the number of
+ * turns.
  */
 #include "test.h"
 #include <pthread.h>

@@ -37,15 +37,18 @@ def words():
 
 @cache
 def paths():
-    """Each path of the tree and each end of one, with and without the ending of its file."""
+    """What a page may call each file and folder of the tree: each end of its path. A file also goes without its ending,
+    and a folder with a slash: checks.py, pages/checks and pages/."""
     git = ["git", "ls-files", "-co", "--exclude-standard"]
     found = set()
     for line in subprocess.run(git, cwd=ROOT, capture_output=True, text=True, check=True).stdout.splitlines():
-        parts = line.split("/")
-        for end in range(1, len(parts) + 1):
+        *folders, file = line.split("/")
+        for file_or_stem in (file, file.rsplit(".", 1)[0]):
+            found.update("/".join([*folders[begin:], file_or_stem]) for begin in range(len(folders) + 1))
+        for end in range(1, len(folders) + 1):
             for begin in range(end):
-                path = "/".join(parts[begin:end])
-                found.update((path, path.rsplit(".", 1)[0]) if end == len(parts) else (path + "/", path))
+                folder = "/".join(folders[begin:end])
+                found.update((folder, folder + "/"))
     return found
 
 
@@ -121,6 +124,7 @@ def faults_of_head(text, files):
 
 
 def faults_of_heads():
+    """What `faults_of_head` finds in all files of specs/."""
     for path, text in texts().items():
         if "/specs/" in path:
             yield from (f"{fault} at the head of crates/{path}" for fault in faults_of_head(text, naming()))

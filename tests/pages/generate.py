@@ -137,6 +137,7 @@ def own():
 
 
 def edits(crate):
+    """The mutants of a crate, a block each."""
     file = ROOT / "tests/mutants" / f"{crate}.edits"
     return file.read_text().split("\n\n") if file.is_file() else []
 
@@ -159,11 +160,14 @@ def matrix():
     yield "|all||" + "|".join(map(str, totals)) + "|"
     named = sum("\nnamed: yes" in edit for crate in uses() for edit in edits(crate))
     rows = [it.split() for it in (ROOT / "tests/requests").read_text().splitlines() if not it.endswith(" cargo")]
-    swept = f"{sum(int(number) for it in rows for number in it[:3])} of {len(rows)} stored sessions"
-    yield f"\n{totals[4]} mutants, {named} of them named. Allocations that `tests/refuse` fails in turn: {swept}."
+    # A row of tests/requests: how many were answered, ended the program, and changed nothing, and the session.
+    refused = sum(int(number) for it in rows for number in it[:3])
+    failed = f"Allocations that `tests/refuse` fails in turn: {refused} of {len(rows)} stored sessions."
+    yield f"\n{totals[4]} mutants, {named} of them named. {failed}"
 
 
 def crates():
+    """The table of crates, the lowest first: what each is for, and which it uses."""
     yield "|crate|what|over|\n|---|---|---|"
     for crate in by_layer():
         yield f"|`{crate}`|{purpose(crate)}|" + ", ".join(f"`{dep}`" for dep in direct(crate)) + "|"
@@ -187,15 +191,17 @@ def corners(crate, dep):
 
 
 def places(step, high):
-    """The place of each box and corner, each near those that it leads to, and the size of the picture."""
+    """The place of each box and corner, and the size of the picture. Boxes are `step` apart, and lines `high`. From the
+    lowest line on, each line is sorted by the mean place of what its boxes and corners lead to."""
     lines = [[crate for crate in shown() if line(crate) == n] for n in range(1 + max(map(line, shown())))]
-    leads = {}
-    for ways in (corners(crate, dep) for crate in shown() for dep in direct(crate)):
-        for corner, below in zip(ways, ways[1:]):
-            leads.setdefault(corner, []).append(below)
-        for corner in ways[1:-1]:
-            lines[corner[2]].append(corner)
-    width, height, at = step * max(map(len, lines)) + 20, high * len(lines) + 20, {}
+    leads = {}  # A box or a corner, and those below to which a line leads from it.
+    for way in (corners(crate, dep) for crate in shown() for dep in direct(crate)):
+        for above, below in zip(way, way[1:]):
+            leads.setdefault(above, []).append(below)
+        for crate, dep, n in way[1:-1]:
+            lines[n].append((crate, dep, n))
+    width, height = step * max(map(len, lines)) + 20, high * len(lines) + 20
+    at = {}
     for n, row in enumerate(lines):
         row.sort(key=lambda it: (mean(at[below][0] for below in leads[it]) if n else 0, str(it)))
         for i, it in enumerate(row):

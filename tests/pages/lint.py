@@ -5,6 +5,7 @@ from pages.tree import MARKED, PAGES, ROOT, prose, texts
 
 
 def any_of(words):
+    """What finds each of these words or phrases, whether in capitals or not."""
     return re.compile(rf"\b(?:{words})\b", re.I)
 
 
@@ -42,6 +43,7 @@ FIRST_MOST, PLACE_MOST = 0, 5
 
 
 def sentences(text):
+    """The sentences of a text without its headings and tables."""
     for part in PART.split(text):
         if not part.lstrip().startswith(("|", "#")):
             yield from filter(None, STOP.split(" ".join(part.split())))

@@ -57,6 +57,7 @@ def direct(crate):
 
 
 def by_layer():
+    """The crates, the lowest first."""
     return sorted(uses(), key=lambda crate: (layer(crate), crate))
 
 

@@ -1,6 +1,7 @@
 """The definitions that a contract rests on: those that it names, and those that they name in turn, over all crates."""
 import re
 from functools import cache
+from typing import NamedTuple
 
 from pages.tree import CRATES
 
@@ -23,18 +24,25 @@ CONTRACTS = [
 ]
 
 
+class There(NamedTuple):
+    """Where a name comes from: a module, and the name there, or None if it is the module's own."""
+
+    module: str
+    name: str | None
+
+
 def imported(lines):
-    """The names that lines of imports bring in: each with its module, and its name there, or None for a module."""
+    """The names that lines of imports bring in, each with where it comes from."""
     found = {}
     for line in lines:
         if not (m := IMPORT.match(line.strip())):
             continue
         module, names, alias = m.groups()
         if names is None:
-            found[alias or module.split(".")[-1]] = (module, None)
+            found[alias or module.split(".")[-1]] = There(module, None)
         for name in filter(None, map(str.strip, (names or "").split(","))):
             there, _, here = name.partition(" as ")
-            found[here or there] = (module, there)
+            found[here or there] = There(module, there)
     return found
 
 
@@ -69,26 +77,27 @@ def module(path):
 
 
 def find(path, name):
-    """The declaration of a name that a module has or passes on: its module and its name."""
+    """Where a name is declared that a module has or passes on; None if nowhere in the crates."""
     own, brought = module(path)
     if name in own:
-        return path, name
+        return There(path, name)
     there = brought.get(name)
-    return find(*there) if there and there[1] else None
+    return find(there.module, there.name) if there and there.name else None
 
 
 def named(text, brought, path=None):
-    """The declarations that a text names, by the imports of its file."""
+    """Where each name of a text is declared: in its module, whose path may be given, or by the imports of its file."""
     tokens = TOKEN.findall(text)
     for i, token in enumerate(tokens):
         there = brought.get(token)
         if path and token in module(path)[0]:
-            yield path, token
-        elif there and there[1] is None:
+            yield There(path, token)
+        elif there and there.name is None:
+            # A name of an imported module: R.rest is the tokens R, . and rest
             if tokens[i + 1 : i + 2] == ["."] and i + 2 < len(tokens):
-                yield find(there[0], tokens[i + 2])
+                yield find(there.module, tokens[i + 2])
         elif there:
-            yield find(*there)
+            yield find(there.module, there.name)
 
 
 def contract(source, function, without):
@@ -104,10 +113,10 @@ def trusted(source, function, without=()):
     """The definitions that a contract rests on, each with its lines."""
     found, left = {}, list(named(*contract(source, function, without)))
     while left:
-        if (it := left.pop()) and it not in found:
-            own, brought = module(it[0])
-            found[it] = own[it[1]]
-            left += named("\n".join(own[it[1]]), brought, it[0])
+        if (there := left.pop()) and there not in found:
+            own, brought = module(there.module)
+            found[there] = own[there.name]
+            left += named("\n".join(found[there]), brought, there.module)
     return found
 
 
