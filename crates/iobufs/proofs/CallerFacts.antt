@@ -283,7 +283,7 @@ visited-each call P h f last (turn ∷ turns) each p (mid, called, more) =
     (λ i. made i ++ visited-each call P h mid last turns each stays more i)
     ∙ sym (map-append h turn.0 (flat_map (λ (t : List ℕ × List ℕ). t.0) turns))
 
--- a function that makes the same of each byte, as long as its state keeps P, does so to the bytes of all buffers
+-- a function that maps each byte by h, if its state keeps P, maps the bytes of all buffers by h
 pub visited-bytes : {F : Type 0} (call : F → List ℕ → F → List ℕ → Type 0) (P : F → Type 0) (h : ℕ → ℕ) (f last : F) (old new : List Part)
     → ((g k : F) (x y : List ℕ) → P g → call g x k y → P k × (y ≡ map h x)) → P f → IsVisited call f old last new
     → new ≡ parts_overwritten old (map h (parts_filled old))

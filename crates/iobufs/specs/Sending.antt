@@ -1,8 +1,8 @@
 -- Bytes on their way to a writer, and from a reader.
 --     IsSent      a writer took a prefix of the bytes, after what it held, and the rest is left
 --     IsStored    bytes that a reader gave fill the spare capacity
---     text_after  what several advances leave
---     IsRestOf    what some advances left
+--     text_after  the `IoBufs` that several advances leave
+--     IsRestOf    some advances lead from the old `IoBufs` to the new one
 use Rattle.std.specs.Prelude.{◌≡◌, ℕ, Option, List, [], ◌∷◌, ◌++◌}
 use Rattle.std.specs.Io.KnownBytes.{Appends, Consumes}
 use Rattle.iobufs_core.specs.MarkedText.{MarkedText, text_advanced}
@@ -26,7 +26,7 @@ abbrev pub text_after : MarkedText → List ℕ → MarkedText
 text_after text [] = text
 text_after text (n ∷ before) = text_advanced (text_after text before) n
 
--- what is left after some advances
+-- some advances lead from the old `IoBufs` to the new one
 pub record IsRestOf (old new : MarkedText) : Type 0 where
   pub counts : List ℕ
   pub left : new ≡ text_after old counts

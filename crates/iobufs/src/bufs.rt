@@ -549,9 +549,9 @@ impl IoBufs {
         }
     }
 
-    /// Writes all bytes, chunk by chunk, and drops them as the writer takes them (own). Nothing is allocated. An error
-    /// is the writer's, never `ErrorKind::Interrupted`, or `ErrorKind::WriteZero` if it takes none. After it the bytes
-    /// that the writer didn't take are left, and `write_to` may be called again.
+    /// Writes all bytes, chunk by chunk, and drops those that the writer takes (own). Nothing is allocated. An error is
+    /// the writer's, or `ErrorKind::WriteZero` if it takes none. The other bytes are left, and `write_to` may be called
+    /// again. An interrupted write is tried again; after 2^64 - 1 tries the error is `ErrorKind::TimedOut`.
     #[tactic(auto, using(crate::proofs::CallerFacts::sending, crate::proofs::CallerFacts::resting))]
     pub fn write_to<W: Write>(&mut self, to: &mut W) -> io::Result<()>
         ensures sent { IsSent (W.contents to.old) (W.contents to.new) self.old.bytes self.new.bytes }

@@ -1,5 +1,5 @@
-// Each call on each kind of storage, at each size. A test prints what the call was made on, and whether its value and
-// what it leaves are those of the model: a list of bytes, cut at multiples of a length.
+// Each call on each kind of storage, at each size. A test prints the buffers of the call, and whether value and rest
+// are those of the model: a list of bytes, cut at multiples of a length.
 use crate::costs::calls::{Args, Costed, Counted, Given};
 use crate::costs::shape::{Place, Shape, Span};
 use crate::word::{Ended, mark};

@@ -24,8 +24,8 @@ impl Pool {
         Pool { given: 0 }
     }
 
-    /// The memory of the next freed block, if there is one that isn't handed out. Nobody holds it, and none of those
-    /// that were handed out before is the same.
+    /// Returns the memory of the next freed block, if there is one that isn't handed out. No handle holds it, and it
+    /// differs from each that was handed out before.
     pub fn take(&mut self, machine: &Machine) -> Option<Freed>
         requires { Promises machine.now.state }
         ensures next { result ≡ slice_get machine.now.state.freed_blocks self.old.given }

@@ -6,6 +6,7 @@ use iobufs_core::buf::{IoBuf, IoBufMut};
 use iobufs_core::codec::{Buf, BufError, BufMut};
 use std::alloc::Global;
 
+/// Where the bytes of a view are stored.
 #[derive(Clone, Copy, Debug)]
 pub enum Store {
     Static,
@@ -108,7 +109,7 @@ pub fn stored(
     }
 }
 
-// How a writable buffer is made.
+/// How a writable buffer is made.
 #[derive(Clone, Copy, Debug)]
 pub enum Origin {
     Roomy,
@@ -121,6 +122,7 @@ pub enum Origin {
     BytesMut,
 }
 
+/// All of them.
 pub const ORIGINS: [Origin; 7] = [
     Origin::Roomy,
     Origin::Advanced,
@@ -142,6 +144,7 @@ pub fn block(alloc: Global, bytes: &[u8]) -> Result<(BytesMut, BytesMut), BufErr
     Ok((both, rest))
 }
 
+/// Makes a writable buffer of the bytes, in this way.
 pub fn stored_part(alloc: Global, origin: Origin, bytes: &[u8]) -> Result<IoBufMut, BufError> {
     match origin {
         Origin::Roomy => part(alloc, bytes, bytes.len()),

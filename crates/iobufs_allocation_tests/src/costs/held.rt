@@ -1,5 +1,5 @@
-// How much memory is held for bytes that are received, and for buffers that are coalesced. A test prints the most bytes
-// that it held since its last line. `tests/costs` compares the memory that was allocated and not freed meanwhile.
+// How much memory is held for bytes that are received, and for buffers that are coalesced. A test prints the most
+// bytes held since its last line. `tests/costs` compares the memory that was allocated and not freed meanwhile.
 use crate::costs::calls::ANY;
 use crate::word::mark;
 use iobufs_core::buf::IoBuf;
