@@ -1,8 +1,11 @@
-// Loaded before a benchmark's program: counts its requests for memory, and their bytes, between the first and the second of
-// each pair of readings of the monotonic clock, and has callgrind count instructions there and nowhere else.
+// Loaded before a benchmark's program: counts allocations, their bytes, the bytes that are still allocated at the end and
+// page faults between the first and the second of each pair of readings of the monotonic clock, and has callgrind count
+// instructions there alone.
 #define _GNU_SOURCE
+#include <malloc.h>
 #include <stdio.h>
 #include <stdlib.h>
+#include <sys/resource.h>
 #include <sys/syscall.h>
 #include <time.h>
 #include <unistd.h>
@@ -15,24 +18,36 @@
 #endif
 
 static int inside = 0;
-static unsigned long requests = 0, bytes = 0;
+static long allocations = 0, bytes = 0, kept = 0, faults = 0;
 extern void *__libc_malloc(size_t);
 extern void *__libc_calloc(size_t, size_t);
 extern void *__libc_realloc(void *, size_t);
 extern void *__libc_memalign(size_t, size_t);
+extern void __libc_free(void *);
 
-static void count(size_t n) {
-    requests += inside;
-    bytes += inside ? n : 0;
+// An allocation of n bytes, by this block.
+static void *count(size_t n, void *made) {
+    allocations += inside;
+    bytes += inside ? (long)n : 0;
+    kept += inside ? (long)malloc_usable_size(made) : 0;
+    return made;
 }
 
-void *malloc(size_t n) { count(n); return __libc_malloc(n); }
-void *calloc(size_t a, size_t b) { count(a * b); return __libc_calloc(a, b); }
-void *realloc(void *p, size_t n) { count(n); return __libc_realloc(p, n); }
-void *aligned_alloc(size_t a, size_t n) { count(n); return __libc_memalign(a, n); }
+static void give_back(void *p) { kept -= inside ? (long)malloc_usable_size(p) : 0; }
+
+static long page_faults(void) {
+    struct rusage usage;
+    getrusage(RUSAGE_SELF, &usage);
+    return usage.ru_minflt;
+}
+
+void *malloc(size_t n) { return count(n, __libc_malloc(n)); }
+void *calloc(size_t a, size_t b) { return count(a * b, __libc_calloc(a, b)); }
+void *realloc(void *p, size_t n) { give_back(p); return count(n, __libc_realloc(p, n)); }
+void *aligned_alloc(size_t a, size_t n) { return count(n, __libc_memalign(a, n)); }
+void free(void *p) { give_back(p); __libc_free(p); }
 int posix_memalign(void **p, size_t a, size_t n) {
-    count(n);
-    *p = __libc_memalign(a, n);
+    *p = count(n, __libc_memalign(a, n));
     return *p ? 0 : 12;
 }
 
@@ -50,15 +65,17 @@ int clock_gettime(clockid_t id, struct timespec *time) {
     if (id != CLOCK_MONOTONIC || skipped()) return answer;
     inside = !inside;
     if (inside) {
-        requests = bytes = 0;
+        allocations = bytes = kept = 0;
+        faults = page_faults();
         CALLGRIND_ZERO_STATS;
         CALLGRIND_TOGGLE_COLLECT;
         return answer;
     }
     CALLGRIND_TOGGLE_COLLECT;
     CALLGRIND_DUMP_STATS;
-    char line[64];
-    int n = snprintf(line, sizeof line, "REQUESTS %lu %lu\n", requests, bytes);
+    faults = page_faults() - faults;
+    char line[128];
+    int n = snprintf(line, sizeof line, "COUNTED %ld %ld %ld %ld\n", allocations, bytes, kept, faults);
     if (write(2, line, n) != n) return -1;
     return answer;
 }

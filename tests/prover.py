@@ -171,7 +171,8 @@ def is_unread(line):
 def read_verdicts(output):
     """The verdict on each function, and the first line by which it read nothing, if there is one."""
     found, waiting, broken = defaultdict(Verdict), {}, ""
-    for line in output.splitlines():
+    # A long message goes on in lines that begin with two blanks.
+    for line in output.replace("\n  ", " ").splitlines():
         placed, told = PLACED.match(line), TOLD.match(line)
         is_error = placed and ": error" in line
         if placed and (goal := OPEN.search(placed[2])):

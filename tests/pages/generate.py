@@ -1,9 +1,6 @@
 """The generated parts of the pages: `PARTS[NAME]` makes what is between `<!-- generated: NAME -->` and its end."""
 import re
-from functools import cache
-from statistics import mean
 
-import svg
 from pages.tree import CRATES, MARKED, ROOT, STOP, by_layer, declarations, direct, layer, purpose, uses
 from pages.trusted import contracts
 
@@ -173,57 +170,12 @@ def crates():
         yield f"|`{crate}`|{purpose(crate)}|" + ", ".join(f"`{dep}`" for dep in direct(crate)) + "|"
 
 
-@cache
-def shown():
-    """The crates of the picture: what serves the tests and workloads alone is left out."""
-    return [crate for crate in by_layer() if not crate.endswith(("_tests", "_made", "_bench"))]
-
-
-@cache
-def line(crate):
-    """The line of a crate's box, counted from the lowest: the one below its lowest user."""
-    return min((line(user) for user in shown() if crate in direct(user)), default=layer(crate) + 1) - 1
-
-
-def corners(crate, dep):
-    """Where the line from a crate to one that it uses turns: between the boxes of each line on its way."""
-    return [crate, *((crate, dep, n) for n in range(line(crate) - 1, line(dep), -1)), dep]
-
-
-def places(step, high):
-    """The place of each box and corner, and the size of the picture. Boxes are `step` apart, and lines `high`. From the
-    lowest line on, each line is sorted by the mean place of what its boxes and corners lead to."""
-    lines = [[crate for crate in shown() if line(crate) == n] for n in range(1 + max(map(line, shown())))]
-    leads = {}  # A box or a corner, and those below to which a line leads from it.
-    for way in (corners(crate, dep) for crate in shown() for dep in direct(crate)):
-        for above, below in zip(way, way[1:]):
-            leads.setdefault(above, []).append(below)
-        for crate, dep, n in way[1:-1]:
-            lines[n].append((crate, dep, n))
-    width, height = step * max(map(len, lines)) + 20, high * len(lines) + 20
-    at = {}
-    for n, row in enumerate(lines):
-        row.sort(key=lambda it: (mean(at[below][0] for below in leads[it]) if n else 0, str(it)))
-        for i, it in enumerate(row):
-            at[it] = (width / 2 + step * (i - (len(row) - 1) / 2), height - 40 - high * n)
-    return at, width, height
-
-
-def crates_picture():
-    """The crates as boxes, each a line below its lowest user."""
-    (at, width, height), wide, tall = places(170, 74), 150, 30
-    out = [svg.element("title", "The crates: each uses those that its lines lead down to")]
-    for ways in (corners(crate, dep) for crate in shown() for dep in direct(crate)):
-        ends = [f"{at[it][0]:.0f},{at[it][1] + side * tall / 2:.0f}" for it in ways for side in (-1, 1)][1:-1]
-        out.append(svg.element("polyline", points=" ".join(ends), fill="none", stroke="#999"))
-    for crate in shown():
-        x, y = at[crate]
-        is_program = (CRATES / crate / "src/main.rt").exists()
-        fill = "#fbe3cf" if is_program else "#e3e8f8" if crate.endswith("_c") else "#dff0ec"
-        box = {"x": x - wide / 2, "y": y - tall / 2, "width": wide, "height": tall}
-        out.append(svg.element("rect", **box, rx=5, fill=fill, stroke="#555"))
-        out.append(svg.text(crate, x=x, y=y + 4))
-    return svg.picture(width, height, out, font_size=12, text_anchor="middle")
+def graph():
+    """The crates as a graph, without those that serve the tests and workloads alone."""
+    shown = [crate for crate in by_layer() if not crate.endswith(("_tests", "_made", "_bench"))]
+    yield "```mermaid\ngraph TD"
+    yield from (f"    {crate} --> {dep}" for crate in reversed(shown) for dep in direct(crate))
+    yield "```"
 
 
 # ---- specifications and code
@@ -265,7 +217,10 @@ def trusted():
     yield from (f"|{name}|{number}|{lines}|" for name, number, lines in contracts())
 
 
-PARTS = {"trusted": trusted, "api": api, "own calls": own, "matrix": matrix, "crates": crates, "promises": promises}
+PARTS = {
+    "trusted": trusted, "api": api, "own calls": own, "matrix": matrix, "crates": crates, "graph": graph,
+    "promises": promises,
+}
 
 
 def generated(page, text):

@@ -24,7 +24,7 @@ RULES = [
 ]
 # Words that a sentence may have, and words of README and of all pages, without what is generated.
 LONGEST, MOST = 40, {"README.md": 1100, "all": 15000}
-SCRIPTS = "bindings costs docs program quick refuse rust trusted try_mutants *.py pages/*.py ../bench/compare"
+SCRIPTS = "bindings costs docs program refuse rust trusted try_mutants *.py pages/*.py ../bench/compare"
 # How many columns a line may have, and how many have more.
 LONG = {
     "crates/*/src/**/*.rt": (120, 37),
