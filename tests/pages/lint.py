@@ -27,8 +27,8 @@ LONGEST, MOST = 40, {"README.md": 1100, "all": 15000}
 SCRIPTS = "bindings costs docs program refuse rust trusted try_mutants *.py pages/*.py ../bench/compare"
 # How many columns a line may have, and how many have more.
 LONG = {
-    "crates/*/src/**/*.rt": (120, 37),
-    "crates/*/[ps]*/**/*.antt": (140, 37),
+    "crates/*/src/**/*.rt": (120, 1),
+    "crates/*/[ps]*/**/*.antt": (140, 0),
     **{f"tests/{name}": (120, 0) for name in SCRIPTS.split()},
 }
 USE = re.compile(r"\s*(?:pub |ghost |unfoldable )*use ")  # pub use Rattle.std.specs.Prelude.{List}
