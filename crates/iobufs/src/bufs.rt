@@ -44,6 +44,7 @@ use std::io::{self, ErrorKind, Write};
 use std::marker::Model;
 use std::ops::Range;
 use std::{fmt, mem};
+pub use writing::write_again;
 
 /// A read-only buffer of several chunks (`IoBufs`). Two or more chunks are never empty, and are in a deque, each with
 /// the offset of its end:

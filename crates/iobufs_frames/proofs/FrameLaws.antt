@@ -211,8 +211,8 @@ first_of_read prefix range bytes left more (Err (Frame error)) h frames end rest
       subst (λ (w : List ℕ). IsFramed prefix range w frames end rest)
           (sym (error_leaves prefix range (bytes ++ more) (left ++ more) error later)) is,
     )
-first_of_read prefix range bytes left more (Err (Io error)) same frames end rest is =
-    subst (λ (w : List ℕ). IsFramed prefix range w frames end rest) (ap (λ w. w ++ more) (sym same)) is
+first_of_read prefix range bytes left more (Err (Io error)) (same, cause) frames end rest is =
+    (subst (λ (w : List ℕ). IsFramed prefix range w frames end rest) (ap (λ w. w ++ more) (sym same)) is, cause)
 
 -- ---- bytes put after
 

@@ -1,7 +1,6 @@
--- Writes that are made again, and the frames that a reader waits for.
+-- The frames that a reader waits for.
 use Rattle.std.specs.Prelude.{◌≡◌, Option, None, Some, IfSome, Result, List, ℕ, ◌++◌}
-use Rattle.std.specs.Io.KnownBytes.{Appends, Consumes, IsAtEnd, Keeps}
-use Rattle.std.proofs.KnownBytes.{Keeps-refl, Keeps-trans}
+use Rattle.std.specs.Io.KnownBytes.{Consumes, IsAtEnd}
 use Rattle.std.proofs.Common.{ap, sym, subst, ◌∙◌, append_assoc}
 use Rattle.iobufs_core.specs.View.{View}
 use Rattle.iobufs_core.specs.declared.codec.base.RangeCfg.{RangeCfg}
@@ -12,15 +11,6 @@ use Rattle.iobufs_frames.specs.declared.End.{End}
 use Rattle.iobufs_frames.specs.declared.error.FrameError.{FrameError}
 use Rattle.iobufs_frames.specs.declared.lengths.Prefix.{Prefix}
 use Rattle.iobufs_frames.specs.declared.reader.FrameReader.{FrameReader}
-
--- bytes are written after a call that wrote none
-pub appends_after : (a b c : Option (List ℕ)) (u : List ℕ) → Keeps a b → Appends b c u → Appends a c u
-appends_after None b c u p q = tt
-appends_after (Some xs) None c u p q = absurd p
-appends_after (Some xs) (Some ys) None u p q = absurd q
-appends_after (Some xs) (Some ys) (Some zs) u p q = q ∙ ap (λ w. w ++ u) p
-
-pub ruleset again = (Keeps-refl, Keeps-trans, appends_after)
 
 -- Bytes were read that are held, and no frame was taken: as in `TakesFrame`, before it has a result.
 pub record Waits {R : Type 0} (remaining : R → Option (List ℕ)) (old now : FrameReader R) : Type 0 where

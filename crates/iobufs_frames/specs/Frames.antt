@@ -6,6 +6,7 @@
 --     LacksLength, PrependsLength  a body gets its length, or why it doesn't
 --     LacksFrame                   no whole frame is at the front, and why: more bytes may complete it, or none can
 --     HasFrame, HasBodyBytes       a whole frame is at the front; and one with bytes
+--     HasStaticBody                the bytes after the length at the front, as many as it says, are static
 --     IsFramed, HasFrames          bytes are these frames and a rest that no whole frame begins; and they have such
 --                                  frames
 --     bodies, joined_bytes         the bytes of bodies that are views: each by itself, and all in one
@@ -21,10 +22,12 @@
 --     AreSameFrames, HaveOneReading     two readings of some bytes are equal; and so are any two
 --     BeginningsAreOpen,           a prefix of a frame may go on; what can't be a frame stays so whatever follows
 --     BadStaysBad
-use Rattle.std.specs.Prelude.{◌≡◌, ◌⊎◌, ℕ, ◌+◌, ◌^◌, ◌<◌, ◌≤◌, true, false, Option, None, Some, Result, Ok, Err, List, [], ◌∷◌, ◌++◌, map, flat_map, length}
+use Rattle.std.specs.Prelude.{◌≡◌, ◌≢◌, ◌⊎◌, ℕ, ◌+◌, ◌^◌, ◌<◌, ◌≤◌, true, false, Option, None, Some, Result, Ok, Err, List, [], ◌∷◌, ◌++◌, map, flat_map, length}
+use Rattle.std.specs.IoError.{error_kind}
+use Rattle.std.specs.declared.io.ErrorKind.TheVariants.{Interrupted}
 use Rattle.iobufs_core.specs.Ranges.{in_range}
 use Rattle.iobufs_core.specs.MarkedText.{MarkedText, taken_view, text_len, text_prepend, text_rest}
-use Rattle.iobufs_core.specs.View.{View}
+use Rattle.iobufs_core.specs.View.{View, static_mark}
 use Rattle.iobufs_core.specs.declared.codec.base.BufError.{BufError}
 use Rattle.iobufs_core.specs.declared.codec.base.BufError.TheVariants as too
 use Rattle.iobufs_core.specs.declared.codec.base.Error.{Error}
@@ -107,6 +110,11 @@ pub record HasBodyBytes (prefix : Prefix) (range : RangeCfg) (bytes : List ℕ) 
   pub whole : bytes ≡ frame_written prefix body ++ more
   pub some : 0 < length body
 
+-- the bytes after the length at the front, as many as it says, are static
+abbrev pub HasStaticBody : Prefix → MarkedText → Type 0
+HasStaticBody prefix text =
+    (n : ℕ) × IsLengthAt prefix text.bytes n × ((taken_view text (length (prefix_written prefix n)) n).mark ≡ static_mark)
+
 -- the frames of a text, why no further one follows them, and what is after them
 pub record IsFramed (prefix : Prefix) (range : RangeCfg) (text : List ℕ) (frames : List (List ℕ)) (end : End) (rest : List ℕ) : Type 0 where
   pub whole : text ≡ all_written prefix frames ++ rest
@@ -150,7 +158,7 @@ ReadsFirst prefix range ended bytes (Ok (Some body)) left = TakesFirst prefix ra
 ReadsFirst prefix range ended bytes (Ok None) left = (bytes ≡ []) × (left ≡ []) × ended
 ReadsFirst prefix range ended bytes (Err Cut) left = TakesFirst prefix range bytes (Ok None) left × (0 < length bytes) × ended
 ReadsFirst prefix range ended bytes (Err (Frame error)) left = TakesFirst prefix range bytes (Err error) left
-ReadsFirst prefix range ended bytes (Err (Io error)) left = left ≡ bytes
+ReadsFirst prefix range ended bytes (Err (Io error)) left = (left ≡ bytes) × (error_kind error ≢ Interrupted)
 
 -- the first frame of a text is taken, and what is left are the others
 pub record FirstTaken (prefix : Prefix) (range : RangeCfg) (frames : List (List ℕ)) (end : End) (rest body new : List ℕ) : Type 0 where
@@ -187,7 +195,8 @@ IsFirstOf prefix range frames end rest (Ok None) left = (frames ≡ []) × (rest
 IsFirstOf prefix range frames end rest (Err Cut) left = (frames ≡ []) × (end ≡ Open) × (0 < length rest) × (left ≡ rest)
 IsFirstOf prefix range frames end rest (Err (Frame error)) left =
     IsFirst prefix range frames end rest (Err error) left × IsFramed prefix range left frames end rest
-IsFirstOf prefix range frames end rest (Err (Io error)) left = IsFramed prefix range left frames end rest
+IsFirstOf prefix range frames end rest (Err (Io error)) left =
+    IsFramed prefix range left frames end rest × (error_kind error ≢ Interrupted)
 
 -- whatever bytes follow, and none after the end, what is read is the first of the frames of all of them
 abbrev pub FirstIsRead : Prefix → Type 0

@@ -20,6 +20,7 @@ use Rattle.iobufs_core.specs.declared.codec.base.Error.{Error}
 use Rattle.iobufs_core.specs.declared.codec.base.RangeCfg.{RangeCfg}
 use Rattle.iobufs_core.specs.declared.codec.base.Refused.{Refused}
 use Rattle.iobufs_frames.specs.Frames.{CanBeSent, IsFirstOf, IsFramed, LacksFrame, ReadsFirst, TakesFirst}
+use Rattle.iobufs_frames.specs.Receiving.{KeepsReceived}
 use Rattle.iobufs_frames.specs.Unsent.{IsAdvanced, unsent_frame}
 use Rattle.iobufs_frames.specs.declared.End.{End}
 use Rattle.iobufs_frames.specs.declared.End.TheVariants.{Open}
@@ -68,9 +69,8 @@ IsFirstOfAll remaining old result new =
 -- `try_next`: the frame at the front of the held bytes was taken, without a read
 pub record TakesHeld {R : Type 0} (old : FrameReader R) (result : Result (Option View) Error) (new : FrameReader R) : Type 0 where
   pub first : TakesFirst old.held.prefix old.range old.held.bytes result new.held.bytes
-  pub shares : IfOk result (λ found. IfSome found (λ body. body ≡ view_of_bytes body.bytes))
+  pub held : KeepsReceived old.held result new.held
   pub from : new.from ≡ old.from
-  pub prefix : new.held.prefix ≡ old.held.prefix
   pub range : new.range ≡ old.range
 
 -- one read, which came to these bytes, or none at the end of the input, or failed and was no interruption

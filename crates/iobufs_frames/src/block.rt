@@ -3,9 +3,9 @@ ghost use Rattle.std.specs.Prelude.{◌≡◌, ◌↔◌, ℕ, ◌+◌, ◌^◌,
 ghost use Rattle.std.specs.Borrow.{Lends, sem};
 ghost use Rattle.std.specs.Io.KnownBytes.{Consumes, IsAtEnd, Keeps};
 ghost use Rattle.iobufs_core.specs.View.{view_of_bytes};
-ghost use Rattle.iobufs_frames.specs.Frames.{MatchTaken, TakesFirst};
+ghost use Rattle.iobufs_frames.specs.Frames.{TakesFirst};
 ghost use Rattle.iobufs_frames.specs.Prefixes.{HasNoLengthAt, IsOpenAt, IsSeenAt};
-ghost use Rattle.iobufs_frames.specs.Receiving.{HasReceived, KeepsSpace, block_row, none_received};
+ghost use Rattle.iobufs_frames.specs.Receiving.{HasReceived, KeepsReceived, KeepsSpace, block_row, none_received};
 ghost use Rattle.iobufs_frames.specs.contracts.block.Received.{the_row};
 
 use crate::lengths::{Length, Prefix, frame_size};
@@ -149,9 +149,7 @@ impl Received {
     #[inline(always)]
     pub fn next(&mut self, range: &RangeCfg) -> Result<Option<IoBuf>, Error>
         ensures next { TakesFirst self.old.prefix range.now self.old.bytes result self.new.bytes }
-        ensures left { MatchTaken result (λ body. (self.new.prefix ≡ self.old.prefix) × KeepsSpace self.old self.new
-            × (body ≡ view_of_bytes body.bytes))
-            (self.new ≡ self.old) }
+        ensures left { KeepsReceived self.old result self.new }
     {
         let Some(found) = self.length()? else {
             return Ok(None);

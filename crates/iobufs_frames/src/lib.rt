@@ -2,9 +2,9 @@
 // `reader` takes whole frames out of whatever reads give. `writer` sends frames chunk by chunk, whatever writes take.
 #![tactic(auto)]
 
-ghost use Rattle.std.specs.Prelude.{◌≡◌, ◌⊎◌, ℕ, ◌+◌, ◌^◌, ◌<◌, ◌≤◌, List, ◌++◌, length, OnOk, OnErr, IfOk, IfErr, IsOk, IsErrAnd, IsOkUnless, IfNone, IfSome};
+ghost use Rattle.std.specs.Prelude.{◌≡◌, ◌≢◌, ◌⊎◌, ℕ, ◌+◌, ◌^◌, ◌<◌, ◌≤◌, List, ◌++◌, length, OnOk, OnErr, IfOk, IfErr, IsOk, IsErrAnd, IsOkUnless, IfNone, IfSome};
 ghost use Rattle.iobufs_core.specs.MarkedText.{default_text, text_append};
-ghost use Rattle.iobufs_frames.specs.Frames.{AreMoved, IsCutFrom, IsFramed, LacksFrame, MatchTaken, TakesFirst, bodies, joined_bytes};
+ghost use Rattle.iobufs_frames.specs.Frames.{AreMoved, HasStaticBody, IsCutFrom, IsFramed, LacksFrame, MatchTaken, TakesFirst, bodies, joined_bytes};
 ghost use Rattle.iobufs_frames.specs.declared.lengths.Prefix.TheVariants.{Spelled};
 
 pub mod adapters;
@@ -101,12 +101,13 @@ impl Frames {
     }
 
     /// Takes the first frame; `None` if it is not whole yet. Fails with `Error::InvalidVarint` (of varints alone) or
-    /// `Error::InvalidLength` if no further bytes can make it whole, or with `Error::Memory`. Unless a frame is taken,
-    /// the rest is unchanged.
+    /// `Error::InvalidLength` if no further bytes can make it whole, or with `Error::Memory`, unless its body is static.
+    /// Unless a frame is taken, the rest is unchanged.
     pub fn next(&mut self, alloc: Global, range: &RangeCfg) -> Result<Option<IoBuf>, Error>
         ensures next { TakesFirst self.old.prefix range.now self.old.rest.bytes result self.new.rest.bytes }
         ensures left { MatchTaken result (λ body. (self.new.prefix ≡ self.old.prefix)
             × IsCutFrom self.old.prefix self.old.rest self.new.rest body) (self.new ≡ self.old) }
+        ensures static_text { HasStaticBody self.old.prefix self.old.rest → IfErr result (λ error. error ≢ Error.Memory) }
     {
         let Some(found) = self.prefix.length_in(&self.rest)? else {
             return Ok(None);

@@ -2,8 +2,6 @@
 ghost use Rattle.std.specs.Prelude.{◌≡◌, ◌≢◌, ◌+◌, [], length, true, IfErr, IfOk, OnErr};
 ghost use Rattle.std.specs.IoError.{error_kind};
 ghost use Rattle.std.specs.declared.io.ErrorKind.TheVariants.{Interrupted};
-ghost use Rattle.std.specs.Io.KnownBytes.{WriteAppends};
-ghost use Rattle.std.specs.Io.{WritesAtMost};
 ghost use Rattle.iobufs.specs.Sending.{IsSent};
 ghost use Rattle.iobufs_frames.specs.Streams.{PutsFrame, SendsRest};
 ghost use Rattle.iobufs_frames.specs.Unsent.{unsent_nothing, unsent_rest};
@@ -12,25 +10,9 @@ ghost use Rattle.iobufs_frames.specs.declared.lengths.Prefix.TheVariants.{Spelle
 use crate::unsent::Unsent;
 use crate::{Head, Prefix};
 use bytes::Buf;
-use iobufs::bufs::IoBufs;
+use iobufs::bufs::{IoBufs, write_again};
 use iobufs_core::codec::{BufError, RangeCfg, Refused};
 use std::io::{self, ErrorKind, Write};
-
-// Writes once, and again if a signal interrupts it.
-#[tactic(auto, using(crate::proofs::StreamLaws::again))]
-fn write_again<W: Write>(to: &mut W, bytes: &[u8]) -> io::Result<usize>
-    ensures bound { WritesAtMost result bytes.now }
-    ensures bytes { WriteAppends (W.contents to.old) (W.contents to.new) result bytes.now }
-    ensures retried { IfErr result (λ error. error_kind error ≢ Interrupted) }
-{
-    for _ in 0..u64::MAX {
-        match to.write(bytes) {
-            Err(error) if error.kind() == ErrorKind::Interrupted => {}
-            answer => return answer,
-        }
-    }
-    Err(io::Error::from(ErrorKind::TimedOut))
-}
 
 // Writes the first chunk, and drops from the front what was taken.
 #[tactic(auto, using(iobufs::proofs::CallerFacts::sending))]

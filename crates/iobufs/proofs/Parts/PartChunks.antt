@@ -1,5 +1,5 @@
 -- The bytes of parts, as a reader sees them chunk by chunk.
-use Rattle.iobufs.proofs.Text.{IsChunkOf, List, Part, [], ap, append-nil, append_assoc, arith, by_lt, first_chunk, full_chunks, length, length-append, length-take, map, min, nil_from_length, parts_chunks, parts_filled, refl, slice_get, suc, sym, take, take-append-le, take-nil, take_all, take_both, zero, ℕ, ◌++◌, ◌+◌, ◌-◌, ◌<◌, ◌∙◌, ◌∷◌, ◌≡◌, ◌≤◌}
+use Rattle.iobufs.proofs.Text.{IsChunkOf, List, Part, [], ap, append-nil, append_assoc, arith, by_lt, first_chunk, full_chunks, length, length-append, length-take, map, nil_from_length, parts_chunks, parts_filled, refl, slice_get, suc, sym, take, take-append-le, take-nil, take_all, take_both, zero, ℕ, ◌++◌, ◌+◌, ◌-◌, ◌<◌, ◌∙◌, ◌∷◌, ◌≡◌, ◌≤◌}
 
 -- one part holds its bytes
 pub filled-one : (p : Part) → parts_filled (p ∷ []) ≡ p.filled
@@ -62,23 +62,11 @@ byte_behind (byte ∷ bytes) rest (suc at) h =
     let same : at - length bytes ≡ suc at - length (byte ∷ bytes) = omega arith in byte_behind bytes rest at (omega arith)
     ∙ ap (slice_get rest) same
 
--- one part's share of the first k bytes
-pub share-turn : (all before bytes rest : List ℕ) (k n : ℕ) → n ≡ min k (length bytes) → all ≡ before ++ take k (bytes ++ rest)
-    → all ≡ (before ++ take n bytes) ++ take (k - n) rest
-share-turn all before bytes rest k n e h =
-    let less : k - length bytes ≡ k - n = omega arith in
-    let share : take k bytes ≡ take n bytes =
-    by_lt k (length bytes) (λ l. let same : k ≡ n = omega arith in ap (λ m. take m bytes) same)
-    (λ l. take_all k bytes l ∙ sym (take_all n bytes (omega arith))) in
-    cc (take_both k bytes rest, append_assoc before (take n bytes) (take (k - n) rest))
-
--- a turn of reading into a destination of length len
-pub read-turn : (all dst new bytes rest : List ℕ) (len at n : ℕ) → at ≤ len → n ≡ min (length bytes) (len - at)
-    → take (at + n) new ≡ take at dst ++ take n bytes
-    → take len all ≡ take at dst ++ take (len - at) (bytes ++ rest) → take len all ≡ take (at + n) new ++ take (len - (at + n)) rest
-read-turn all dst new bytes rest len at n within e written h =
-    let left : len - at - n ≡ len - (at + n) = omega arith in
-    share-turn (take len all) (take at dst) bytes rest (len - at) n (omega arith) h ∙ (λ i. sym written i ++ take (left i) rest)
+-- one part's share of the first k bytes, after which `left` of them are to come
+pub share-turn : (all before now bytes rest : List ℕ) (k left : ℕ) → now ≡ before ++ take k bytes → left ≡ k - length bytes
+    → all ≡ before ++ take k (bytes ++ rest) → all ≡ now ++ take left rest
+share-turn all before now bytes rest k left put less h =
+    cc (take_both k bytes rest, append_assoc before (take k bytes) (take (k - length bytes) rest))
 
 -- at the end the destination is full
 pub read-done : (all dst : List ℕ) (at : ℕ) → at ≤ length dst → length dst ≤ length all

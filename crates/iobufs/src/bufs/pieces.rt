@@ -7,7 +7,7 @@ ghost use Rattle.std.specs.Option.{option_copied};
 ghost use Rattle.std.specs.Prelude.{◌≡◌, List, ◌+◌, ◌*◌, ◌<◌, ◌≤◌, ◌^◌, ◌++◌, [], ◌∷◌, OnOk, OnErr, IfOk, IfErr, IsOk, IsOkUnless, MatchResult, IsTrue, IsFalse, nat_le, length, slice_get, take, drop, map, Err, ℕ, MatchOption};
 
 use super::reserved::put_reserved;
-use super::row::{Row, split_inside};
+use super::row::Row;
 use super::search::Located;
 use iobufs_core::buf::{IoBuf, IoBufMut};
 use iobufs_core::codec::{Buf, BufError, BufMut, OwnedBytes};
@@ -404,7 +404,7 @@ impl Pieces {
         ensures pieces { IsPieces self.old }
     {
         match &mut self.form {
-            Form::One(piece) => Ok(Pieces::one(split_inside(piece, at)?)),
+            Form::One(piece) => Ok(Pieces::one(piece.split_to(at)?)),
             Form::Many(row) => {
                 if at <= row.piece(0).len() {
                     let front = row.split_first(at)?;

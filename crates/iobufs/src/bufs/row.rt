@@ -576,19 +576,6 @@ impl NewRow {
     }
 }
 
-/// Takes the first `at` bytes off, some but not all.
-pub(super) fn split_inside(piece: &mut IoBuf, at: usize) -> Result<IoBuf, BufError>
-    requires some { 0 < at }
-    requires inside { at < length piece.old.bytes }
-    ensures front { IfOk result (λ front. front ≡ view_front piece.old at) }
-    ensures rest { OnOk result (piece.new ≡ view_advanced piece.old at) }
-    ensures unchanged { OnErr result (piece.new ≡ piece.old) }
-    ensures memory { IsOkUnless result BufError.Memory }
-    ensures static_text { piece.old.mark ≡ static_mark → IsOk result }
-{
-    piece.split_to(at)
-}
-
 // The bytes before a place in its chunk.
 fn front_of(row: &VecDeque<Entry>, index: usize, offset: usize) -> Result<IoBuf, BufError>
     requires { offset < view_len (piece_at (views_in row.now.items) index) }
@@ -657,7 +644,7 @@ fn split_first_inside(row: &mut VecDeque<Entry>, at: usize) -> Result<IoBuf, Buf
     ensures static_text { (piece_at (views_in row.old.items) 0).mark ≡ static_mark → IsOk result }
 {
     match row.front_mut() {
-        Some(first) => split_inside(&mut first.view, at),
+        Some(first) => first.view.split_to(at),
         None => unreachable!(),
     }
 }

@@ -1,4 +1,4 @@
-// Writing an `IoBufs` to a writer.
+// Writing bytes, and the first chunk of an `IoBufs`, to a writer.
 ghost use Rattle.std.specs.Prelude.{◌≡◌, ◌≢◌, ◌+◌, length, IfErr, IfOk, OnErr};
 ghost use Rattle.std.specs.Io.{WritesAtMost};
 ghost use Rattle.std.specs.Io.KnownBytes.{WriteAppends};
@@ -11,9 +11,10 @@ use super::IoBufs;
 use iobufs_core::codec::Buf;
 use std::io::{self, ErrorKind, Write};
 
-// Writes once, and again if a signal interrupts it.
+/// Writes once, and again if a signal interrupts it (own, for layers). An error is the writer's, never
+/// `ErrorKind::Interrupted`.
 #[tactic(auto, using(crate::proofs::CallerFacts::again))]
-fn write_again<W: Write>(to: &mut W, bytes: &[u8]) -> io::Result<usize>
+pub fn write_again<W: Write>(to: &mut W, bytes: &[u8]) -> io::Result<usize>
     ensures bound { WritesAtMost result bytes.now }
     ensures bytes { WriteAppends (W.contents to.old) (W.contents to.new) result bytes.now }
     ensures retried { IfErr result (λ error. error_kind error ≢ Interrupted) }

@@ -1,17 +1,18 @@
 // Up to three parts in place.
 ghost use Rattle.std.specs.Option.{option_copied};
-ghost use Rattle.std.specs.Prelude.{◌≡◌, ◌+◌, ◌-◌, ◌^◌, ◌<◌, ◌≤◌, ◌++◌, [], ◌∷◌, drop, false, length, map, min, replicate, slice_get, take, ◌==◌, if◌then◌else◌, Err, IfOk, OnOk, IfNone, IfSome, IsOk, IsOkUnless, IsTrue, vec_capacity, vec_len};
+ghost use Rattle.std.specs.Prelude.{◌≡◌, ◌+◌, ◌-◌, ◌^◌, ◌<◌, ◌≤◌, ◌++◌, [], ◌∷◌, drop, false, length, map, replicate, slice_get, take, ◌==◌, if◌then◌else◌, Err, IfOk, OnOk, IfNone, IfSome, IsOk, IsOkUnless, IsTrue};
 ghost use Rattle.iobufs_core.specs.Chunks.{first_chunk};
 ghost use Rattle.iobufs_core.specs.MarkedText.{of_view};
-ghost use Rattle.iobufs_core.specs.Part.{empty_part, part_capacity, part_drained, part_frozen, part_overwritten, part_put, part_with_len};
+ghost use Rattle.iobufs_core.specs.Part.{empty_part, part_capacity, part_drained, part_frozen, part_put};
 ghost use Rattle.iobufs.specs.Inside.Pieces.{pieces_bytes};
 ghost use Rattle.iobufs.specs.Visiting.{IsVisited};
 ghost use Rattle.std.specs.Fn.{CalledAtMut};
 ghost use Rattle.iobufs.specs.Parts.{HaveCapacity, IsParts, kept_parts, parts_capacity, parts_chunks, parts_fill, parts_filled, parts_frozen, parts_overwritten, parts_shared_out, parts_spare, parts_with_len, single_part, with_capacity};
 
-use super::several::{Several, visit_part};
+use super::several::{
+    Several, copy_share, extend_share, len_share, put_bytes_share, read_share, visit_part,
+};
 use crate::bufs::IoBufs;
-use crate::bufs::reserved::put_reserved;
 use crate::bufs::row::NewRow;
 use iobufs_core::buf::IoBufMut;
 use iobufs_core::codec::{Buf, BufError, BufMut};
@@ -56,37 +57,6 @@ fn put_share<'a>(part: &mut IoBufMut, src: &'a [u8]) -> &'a [u8]
     &src[n..]
 }
 
-// Puts one byte up to `n` times, and returns how often it remains.
-fn put_bytes_share(part: &mut IoBufMut, value: u8, n: usize) -> usize
-    ensures put { part.new ≡ part_put part.old (take part.old.spare (replicate n value)) }
-    ensures left { result ≡ n - part.old.spare }
-{
-    let share = n.min(part.remaining_mut());
-    part.put_bytes(value, share);
-    n - share
-}
-
-// Makes `n` bytes readable as far as the capacity goes, and returns how many are left.
-fn len_share(part: &mut IoBufMut, n: usize) -> usize
-    ensures set { part.new ≡ part_with_len part.old (min n (part_capacity part.old)) }
-    ensures left { result ≡ n - part_capacity part.old }
-{
-    let share = n.min(part.capacity());
-    part.set_len(share);
-    n - share
-}
-
-// Writes over the readable bytes of a part, and returns the bytes that are left.
-fn copy_share<'a>(part: &mut IoBufMut, src: &'a [u8]) -> &'a [u8]
-    requires { length part.old.filled ≤ length src.now }
-    ensures written { part.new ≡ part_overwritten part.old (take (length part.old.filled) src.now) }
-    ensures left { result.now ≡ drop (length part.old.filled) src.now }
-{
-    let (share, rest) = src.split_at(part.len());
-    part.as_mut().copy_from_slice(share);
-    rest
-}
-
 // Drops the first `n` bytes of a part, at most all, and returns how many are left to drop.
 #[inline(always)]
 fn drain_share(part: &mut IoBufMut, n: usize) -> usize
@@ -116,32 +86,6 @@ fn count_of(part: &IoBufMut) -> usize
         return 1;
     }
     0
-}
-
-// Copies the bytes of a part to a place of `dst`, as many as fit, and returns the place after them.
-#[inline(always)]
-fn read_share(part: &IoBufMut, dst: &mut [u8], at: usize) -> usize
-    requires { at ≤ length dst.old }
-    ensures behind { result ≡ at + min (length part.now.filled) (length dst.old - at) }
-    ensures long { length dst.new ≡ length dst.old }
-    ensures read { take result dst.new ≡ take at dst.old ++ take (length dst.old - at) part.now.filled }
-{
-    let n = part.len().min(dst.len() - at);
-    dst[at..at + n].copy_from_slice(&part.as_ref()[..n]);
-    at + n
-}
-
-// Puts the first `n` bytes of a part after others that have space for them, and returns how many are left.
-#[inline(always)]
-fn extend_share(bytes: &mut Vec<u8>, part: &IoBufMut, n: usize) -> usize
-    requires { vec_len bytes.old + n ≤ vec_capacity bytes.old }
-    ensures put { bytes.new.items ≡ bytes.old.items ++ take n part.now.filled }
-    ensures left { result ≡ n - length part.now.filled }
-    ensures room { vec_len bytes.new + result ≤ vec_capacity bytes.new }
-{
-    let share = n.min(part.len());
-    put_reserved(bytes, &part.as_ref()[..share]);
-    n - share
 }
 
 // Chunks, and after them that of a part, if it holds bytes and `max` isn't reached.

@@ -1,9 +1,9 @@
 // A row of parts with their sums.
 ghost use Rattle.std.specs.Option.{option_copied};
-ghost use Rattle.std.specs.Prelude.{◌≡◌, ◌+◌, ◌^◌, ◌<◌, ◌≤◌, ◌++◌, [], ◌∷◌, false, fold, length, map, nat_lt, replicate, slice_get, slice_index_or, take, Err, IfNone, IfOk, IfSome, IsOk, IsOkUnless, IsTrue, OnOk};
+ghost use Rattle.std.specs.Prelude.{◌≡◌, ◌+◌, ◌-◌, ◌^◌, ◌<◌, ◌≤◌, ◌++◌, [], ◌∷◌, drop, false, fold, length, map, min, nat_lt, replicate, slice_get, slice_index_or, take, Err, IfNone, IfOk, IfSome, IsOk, IsOkUnless, IsTrue, OnOk, vec_capacity, vec_len};
 ghost use Rattle.iobufs_core.specs.Chunks.{first_chunk};
 ghost use Rattle.iobufs_core.specs.MarkedText.{of_view, text_append};
-ghost use Rattle.iobufs_core.specs.Part.{empty_part, part_capacity, part_frozen};
+ghost use Rattle.iobufs_core.specs.Part.{empty_part, part_capacity, part_frozen, part_overwritten, part_put, part_with_len};
 ghost use Rattle.iobufs.specs.Inside.PartOrder.{AreBehind, HaveNoSpare, first_drained, in_order};
 ghost use Rattle.iobufs.specs.Visiting.{IsVisited};
 ghost use Rattle.std.specs.Fn.{CalledAtMut};
@@ -274,9 +274,7 @@ impl Several {
             if at == dst.len() {
                 return;
             }
-            let n = part.len().min(dst.len() - at);
-            dst[at..at + n].copy_from_slice(&part.as_ref()[..n]);
-            at += n;
+            at = read_share(part, dst, at);
         }
     }
 
@@ -292,9 +290,7 @@ impl Several {
             if rest == 0 {
                 break;
             }
-            let share = rest.min(part.len());
-            put_reserved(&mut bytes, &part.as_ref()[..share]);
-            rest -= share;
+            rest = extend_share(&mut bytes, part, rest);
         }
         Ok(bytes)
     }
@@ -360,6 +356,32 @@ impl Several {
     }
 }
 
+// Copies the bytes of a part to a place of `dst`, as many as fit, and returns the place after them.
+#[inline(always)]
+pub(super) fn read_share(part: &IoBufMut, dst: &mut [u8], at: usize) -> usize
+    requires { at ≤ length dst.old }
+    ensures behind { result ≡ at + min (length part.now.filled) (length dst.old - at) }
+    ensures long { length dst.new ≡ length dst.old }
+    ensures read { take result dst.new ≡ take at dst.old ++ take (length dst.old - at) part.now.filled }
+{
+    let n = part.len().min(dst.len() - at);
+    dst[at..at + n].copy_from_slice(&part.as_ref()[..n]);
+    at + n
+}
+
+// Puts the first `n` bytes of a part after others that have space for them, and returns how many are left.
+#[inline(always)]
+pub(super) fn extend_share(bytes: &mut Vec<u8>, part: &IoBufMut, n: usize) -> usize
+    requires { vec_len bytes.old + n ≤ vec_capacity bytes.old }
+    ensures put { bytes.new.items ≡ bytes.old.items ++ take n part.now.filled }
+    ensures left { result ≡ n - length part.now.filled }
+    ensures room { vec_len bytes.new + result ≤ vec_capacity bytes.new }
+{
+    let share = n.min(part.len());
+    put_reserved(bytes, &part.as_ref()[..share]);
+    n - share
+}
+
 // Counts the buffers before the first one with spare capacity. The first `known` have none.
 fn count_full(parts: &VecDeque<IoBufMut>, known: usize) -> usize
     requires { HaveNoSpare known parts.now.items }
@@ -391,6 +413,16 @@ fn put(parts: &mut VecDeque<IoBufMut>, full: usize, src: &[u8])
     }
 }
 
+// Puts one byte up to `n` times, and returns how often it remains.
+pub(super) fn put_bytes_share(part: &mut IoBufMut, value: u8, n: usize) -> usize
+    ensures put { part.new ≡ part_put part.old (take part.old.spare (replicate n value)) }
+    ensures left { result ≡ n - part.old.spare }
+{
+    let share = n.min(part.remaining_mut());
+    part.put_bytes(value, share);
+    n - share
+}
+
 // Puts one byte `n` times into the buffers in order. The first `full` have no spare capacity.
 #[tactic(auto, using(crate::proofs::Parts::FullLaws::filling))]
 fn put_bytes(parts: &mut VecDeque<IoBufMut>, full: usize, value: u8, n: usize)
@@ -403,11 +435,18 @@ fn put_bytes(parts: &mut VecDeque<IoBufMut>, full: usize, value: u8, n: usize)
         if rest == 0 {
             return;
         }
-        let part = &mut parts[i];
-        let n = rest.min(part.remaining_mut());
-        part.put_bytes(value, n);
-        rest -= n;
+        rest = put_bytes_share(&mut parts[i], value, rest);
     }
+}
+
+// Makes `n` bytes readable as far as the capacity goes, and returns how many are left.
+pub(super) fn len_share(part: &mut IoBufMut, n: usize) -> usize
+    ensures set { part.new ≡ part_with_len part.old (min n (part_capacity part.old)) }
+    ensures left { result ≡ n - part_capacity part.old }
+{
+    let share = n.min(part.capacity());
+    part.set_len(share);
+    n - share
 }
 
 // Makes `n` bytes readable, each part as far as its capacity goes.
@@ -416,11 +455,19 @@ fn set_len(parts: &mut VecDeque<IoBufMut>, n: usize)
 {
     let mut rest = n;
     for i in 0..parts.len() {
-        let part = &mut parts[i];
-        let share = rest.min(part.capacity());
-        part.set_len(share);
-        rest -= share;
+        rest = len_share(&mut parts[i], rest);
     }
+}
+
+// Writes over the readable bytes of a part, and returns the bytes that are left.
+pub(super) fn copy_share<'a>(part: &mut IoBufMut, src: &'a [u8]) -> &'a [u8]
+    requires { length part.old.filled ≤ length src.now }
+    ensures written { part.new ≡ part_overwritten part.old (take (length part.old.filled) src.now) }
+    ensures left { result.now ≡ drop (length part.old.filled) src.now }
+{
+    let (share, rest) = src.split_at(part.len());
+    part.as_mut().copy_from_slice(share);
+    rest
 }
 
 // Writes over the readable bytes of the parts in order.
@@ -430,10 +477,7 @@ fn copy_from_slice(parts: &mut VecDeque<IoBufMut>, src: &[u8])
 {
     let mut rest = src;
     for i in 0..parts.len() {
-        let part = &mut parts[i];
-        let (share, behind) = rest.split_at(part.len());
-        part.as_mut().copy_from_slice(share);
-        rest = behind;
+        rest = copy_share(&mut parts[i], rest);
     }
 }
 

@@ -111,24 +111,7 @@ impl Gapped {
     }
 }
 
-// Fills a gap by the next bytes of a buffer. A chunk that stands stays.
-fn fill_gap(piece: &mut Entry, rest: &mut IoBuf) -> Result<(), BufError>
-    requires { gap_len (segment_of piece.old) ≤ length rest.old.bytes }
-    ensures filled { OnOk result ((segments : List Segment)
-        → filled rest.old (segment_of piece.old ∷ segments) ≡ piece.new.view ∷ filled rest.new segments) }
-    ensures len { OnOk result (view_len piece.new.view ≡ segment_len (segment_of piece.old)) }
-    ensures left { OnOk result (length rest.new.bytes + gap_len (segment_of piece.old) ≡ length rest.old.bytes) }
-    ensures memory { IsOkUnless result BufError.Memory }
-    ensures no_bytes { length rest.old.bytes ≡ 0 → IsOk result }
-{
-    if !piece.view.is_empty() {
-        return Ok(());
-    }
-    piece.view = rest.split_to(piece.end as usize)?;
-    Ok(())
-}
-
-// Fills a gap, and returns the end of the chunk after `start` bytes.
+// Fills a gap by the next bytes of a buffer; a chunk stays. Returns the end of the chunk after `start` bytes.
 fn fill_piece(piece: &mut Entry, rest: &mut IoBuf, start: u64) -> Result<u64, BufError>
     requires within { gap_len (segment_of piece.old) ≤ length rest.old.bytes }
     requires fits { start + segment_len (segment_of piece.old) < 2 ^ 64 }
@@ -141,7 +124,9 @@ fn fill_piece(piece: &mut Entry, rest: &mut IoBuf, start: u64) -> Result<u64, Bu
     ensures memory { IsOkUnless result BufError.Memory }
     ensures no_bytes { length rest.old.bytes ≡ 0 → IsOk result }
 {
-    fill_gap(piece, rest)?;
+    if piece.view.is_empty() {
+        piece.view = rest.split_to(piece.end as usize)?;
+    }
     let end = start + piece.view.len() as u64;
     piece.end = end;
     Ok(end)

@@ -1,8 +1,11 @@
-use Rattle.std.proofs.Common.{ap, arith, inl, inr, ◌≤◌, ◌≡◌, ◌+◌, ◌++◌, length, refl}
+use Rattle.std.proofs.Common.{ap, arith, inl, inr, sym, ◌∙◌, ◌≤◌, ◌≡◌, ◌+◌, ◌++◌, length, refl}
 use Rattle.std.proofs.lemmas.Bool.{false≢true}
 use Rattle.iobufs_core.proofs.LengthFacts.{less}
-use Rattle.iobufs_core.specs.MarkedText.{MarkedText}
+use Rattle.iobufs_core.specs.MarkedText.{MarkedText, taken_view}
+use Rattle.iobufs_core.specs.View.{static_mark}
 use Rattle.iobufs_frames.specs.Frames.{CanFollow, IsCutFrom, frame_written}
+use Rattle.iobufs_frames.specs.Prefixes.{prefix_written}
+use Rattle.iobufs_frames.proofs.PrefixFacts.{one_length}
 use Rattle.iobufs_frames.proofs.PrefixLaws.{taken-with, wanted-with}
 use Rattle.iobufs_frames.proofs.Frames.next.Goals as goal
 
@@ -39,3 +42,15 @@ returns-in-Err-clause-next c =
       )
       | inr none ↦ absurd (false≢true (c.in-Err.ensures.nothing (omega (arith, none))))
     ]
+
+pub returns-in-Err-clause-static_text : goal.returns-in-Err-clause-static_text
+returns-in-Err-clause-static_text c (n, at, static) =
+    let l = c.in-Some.found in
+    let text = c.args.self.now.rest in
+    let prefix = c.args.self.now.prefix in
+    let (there, long, within) = rw c.in-Some.is at c.in_ok-found.ensures.found in
+    let same : n ≡ l.value = one_length prefix text.bytes n l.value at there in
+    let mark : (taken_view text l.len l.value).mark ≡ static_mark =
+    ap (λ k. (taken_view text k l.value).mark) (long ∙ ap (λ m. length (prefix_written prefix m)) (sym same))
+    ∙ ap (λ m. (taken_view text (length (prefix_written prefix n)) m).mark) (sym same) ∙ static in
+    λ _. absurd (false≢true (c.in-Err.ensures.static_text mark tt))

@@ -1,4 +1,4 @@
-use Rattle.iobufs.proofs.Text.{List, Part, [], ap, append-nil, arith, deque_iter_rest, length-take, min, nil_from_length, parts_filled, sym, take, take-nil, ℕ, ◌++◌, ◌-◌, ◌∙◌, ◌≡◌}
+use Rattle.iobufs.proofs.Text.{List, Part, [], ap, append-nil, arith, deque_iter_rest, nil_from_length, parts_filled, sym, take, take-nil, ℕ, ◌++◌, ◌∙◌, ◌≡◌}
 use Rattle.iobufs.proofs.Parts.{filled-order, share-turn}
 use Rattle.iobufs.proofs.bufs_mut.several.Several.copy_front.Goals as goal
 use Rattle.iobufs.proofs.bufs_mut.several.Several.copy_front.Goals.{in-None, in-Some+then-rest-eq0}
@@ -17,28 +17,13 @@ loop-part-init c =
 pub loop-part-preserved : goal.loop-part-preserved
 loop-part-preserved c =
     let l = c.loop-part in
-    let part = c.in-Some.part.now in
-    let rest = parts_filled (deque_iter_rest c.next.new.self) in
-    let bytes : take c.min-share.result c.as_ref.result.now ≡ take c.min-share.result part.filled = ap
-    (take c.min-share.result) c.as_ref.ensures in
+    let share = c.extend_share-rest.ensures in
     record {
-      some = omega (arith, l.invariant.some);
-      room = omega (
-        arith,
-        l.invariant.room,
-        c.put_reserved.ensures.len,
-        c.put_reserved.ensures.capacity,
-        length-take c.min-share.result c.as_ref.result.now,
-        c.min-share.ensures,
-      );
-      so_far = share-turn _ l.bytes.items part.filled rest l.rest c.min-share.result (c.min-share.ensures ∙ ap (min l.rest) c.len.ensures)
-          (l.invariant.so_far ∙ ap (λ ps. l.bytes.items ++ take l.rest (parts_filled ps)) c.in-Some.ensures.steps)
-          ∙ ap (λ w. w ++ take (l.rest - c.min-share.result) rest)
-          (ap (λ w. l.bytes.items ++ w) (sym bytes) ∙ sym c.put_reserved.ensures.items);
+      some = omega (arith, l.invariant.some, share.left);
+      room = share.room;
+      so_far = share-turn _ l.bytes.items _ c.in-Some.part.now.filled (parts_filled (deque_iter_rest c.next.new.self)) l.rest _ share.put
+          share.left (l.invariant.so_far ∙ ap (λ ps. l.bytes.items ++ take l.rest (parts_filled ps)) c.in-Some.ensures.steps);
     }
-
-pub put_reserved-requires : goal.put_reserved-requires
-put_reserved-requires c = omega (arith, c.loop-part.invariant.room, length-take c.min-share.result c.as_ref.result.now, c.min-share.ensures)
 
 pub returns-clause-bytes : goal.returns-clause-bytes
 returns-clause-bytes c =

@@ -1,5 +1,5 @@
-use Rattle.iobufs.proofs.Text.{List, ap, arith, deque_iter_rest, length, length-take, min, nil_from_length, parts_filled, same_len_mid, sym, take, take-put_mid, ℕ, ◌++◌, ◌+◌, ◌-◌, ◌∙◌, ◌≡◌}
-use Rattle.iobufs.proofs.Parts.{filled-order, read-done, read-turn}
+use Rattle.iobufs.proofs.Text.{ap, arith, deque_iter_rest, length, nil_from_length, parts_filled, sym, take, ◌++◌, ◌-◌, ◌∙◌}
+use Rattle.iobufs.proofs.Parts.{filled-order, read-done, share-turn}
 use Rattle.iobufs.proofs.bufs_mut.several.Several.read.Goals as goal
 
 pub loop-part-init : goal.loop-part-init
@@ -16,19 +16,12 @@ loop-part-init c =
 pub loop-part-preserved : goal.loop-part-preserved
 loop-part-preserved c =
     let l = c.loop-part in
-    let part = c.in-Some.part.now in
-    let n = c.min-n.result in
-    let k = l.at + n - l.at in
-    let here = c.copy_from_slice.new.self in
     let len = length l.dst in
-    let share : n ≡ min (length part.filled) (len - l.at) = c.min-n.ensures ∙ ap (λ m. min m (len - l.at)) c.len.ensures in
-    let bytes : here ≡ take n part.filled = c.copy_from_slice.ensures.after ∙ ap (take n) c.as_ref.ensures in
-    let long : l.at + n ≡ l.at + length here = omega (arith, ap (λ (w : List ℕ). length w) bytes, length-take n part.filled) in
-    let written = take-put_mid l.at k l.dst here (l.at + n) long l.invariant.within ∙ ap (λ w. take l.at l.dst ++ w) bytes in
-    let so_far = read-turn _ l.dst _ part.filled (parts_filled
-    (deque_iter_rest c.next.new.self)) len l.at n l.invariant.within share written
+    let share = c.read_share-at.ensures in
+    let so_far = share-turn _ (take l.at l.dst) _ c.in-Some.part.now.filled (parts_filled (deque_iter_rest c.next.new.self)) (len - l.at)
+    (len - c.read_share-at.result) share.read (omega (arith, l.invariant.within, share.behind))
     (l.invariant.so_far ∙ ap (λ ps. take l.at l.dst ++ take (len - l.at) (parts_filled ps)) c.in-Some.ensures.steps) in
-    rw (same_len_mid l.at k l.dst here c.copy_from_slice.ensures.len) (record { within = omega arith; so_far = so_far })
+    rw share.long (record { within = omega (arith, l.invariant.within, share.behind); so_far = so_far })
 
 pub returns : goal.returns
 returns c =
