@@ -17,7 +17,7 @@ pub use Rattle.std.proofs.lemmas.Fn.{called_at}
 pub use Rattle.std.proofs.lemmas.Grind.{common_steps}
 pub use Rattle.std.proofs.lemmas.List.{append_cancel_left, drop-append-le, drop-drop, drop-replicate, drop-set-lt, drop-take, drop_all}
 pub use Rattle.std.proofs.lemmas.List.{drop_at, drop_more, get_or-drop, get_or_read, length-map, length-replicate, map-append, map_more}
-pub use Rattle.std.proofs.lemmas.List.{nil_from_length, take-append-le, take-replicate, take_at, take_more, take_more_set}
+pub use Rattle.std.proofs.lemmas.List.{nil_from_length, take-append-le, take_at, take_more, take_more_set}
 pub use Rattle.std.proofs.lemmas.List.Concat.{flat_map-append}
 pub use Rattle.std.proofs.lemmas.List.Elements.{filter-append}
 pub use Rattle.std.proofs.lemmas.List.Folds.{flat_map-map}

@@ -5,7 +5,7 @@ ghost use Rattle.std.specs.Option.{option_copied};
 ghost use Rattle.std.specs.Prelude.{◌≡◌, ◌+◌, ◌-◌, ◌*◌, ◌^◌, ◌<◌, ◌≤◌, ◌++◌, [], ◌∷◌, ◌==◌, if◌then◌else◌, nat_lt, length, map, take, drop, slice_get, IfOk, IfErr, IsOk, OnOk, OnErr, IsOkUnless, IsTrue, IsFalse, vec_capacity, vec_len};
 ghost use Rattle.std.specs.VecDeque.{deque_len, deque_capacity};
 ghost use Rattle.iobufs_core.specs.Part.{part_put};
-ghost use Rattle.iobufs_core.specs.View.{IsView, static_mark, view_advanced, view_front};
+ghost use Rattle.iobufs_core.specs.View.{IsView, static_mark, view_front};
 ghost use Rattle.iobufs.specs.Inside.Ends.{cut_piece, shortened, views_in};
 ghost use Rattle.iobufs.specs.Inside.Pieces.{AreFull, IsChunkPlace, left_pieces, piece_at, piece_start, pieces_bytes, right_pieces, view_len};
 
@@ -418,7 +418,10 @@ impl Row {
         if at == self.piece(0).len() {
             return Ok(self.pop_front());
         }
-        let front = split_first_inside(&mut self.entries, at)?;
+        let Some(first) = self.entries.front_mut() else {
+            unreachable!()
+        };
+        let front = first.view.split_to(at)?;
         self.base = self.base.wrapping_add(at as u64);
         Ok(front)
     }
@@ -629,22 +632,6 @@ fn drop_inside(row: &mut VecDeque<Entry>, n: usize) -> bool
             first.view.advance(n);
             true
         }
-        None => unreachable!(),
-    }
-}
-
-// Takes the first bytes off the first chunk, which has more.
-fn split_first_inside(row: &mut VecDeque<Entry>, at: usize) -> Result<IoBuf, BufError>
-    requires some { 0 < at }
-    requires inside { at < view_len (piece_at (views_in row.old.items) 0) }
-    ensures front { IfOk result (λ front. front ≡ view_front (piece_at (views_in row.old.items) 0) at) }
-    ensures rest { OnOk result (row.new.items ≡ shortened row.old.items at) }
-    ensures unchanged { OnErr result (row.new.items ≡ row.old.items) }
-    ensures memory { IsOkUnless result BufError.Memory }
-    ensures static_text { (piece_at (views_in row.old.items) 0).mark ≡ static_mark → IsOk result }
-{
-    match row.front_mut() {
-        Some(first) => first.view.split_to(at),
         None => unreachable!(),
     }
 }
