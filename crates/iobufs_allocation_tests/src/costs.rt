@@ -82,151 +82,170 @@ const BEFORE: Span = (Place::Before, Place::Start);
 
 const BEFORE_AND_ALL: Span = (Place::Before, Place::End);
 
-// A call, the bytes that it is given or gives, and those that it leaves.
+// Which storage a call shares. It copies other bytes.
+#[derive(Clone, Copy, Debug)]
+enum Sharing {
+    Shares,
+    Copies,
+    // The storage of a `Bytes`, static storage, and that of no bytes.
+    SharesBytes,
+    // Also native storage without spare capacity or other handle.
+    SharesWhole,
+    // Native storage without other handle.
+    SharesSole,
+}
+
+// A call, the bytes that it is given or gives, and those that it leaves; what it shares, and how often the original
+// allocates for it: one number, or none if that isn't known.
 #[derive(Clone, Copy)]
 struct Case {
     call: Costed,
     gives: Span,
     leaves: Span,
+    sharing: Sharing,
+    original: &'static [usize],
 }
 
 // The cases of a table, one a line.
 macro_rules! cases {
-    ($($call:ident: $gives:ident, leaves $leaves:ident;)+) => {
-        [$(Case { call: Costed::$call, gives: $gives, leaves: $leaves }),+]
+    ($($call:ident: $gives:ident, leaves $leaves:ident, $sharing:ident $(original $number:expr)?;)+) => {
+        [$(Case {
+            call: Costed::$call, gives: $gives, leaves: $leaves, sharing: Sharing::$sharing,
+            original: &[$($number)?]
+        }),+]
     };
 }
 
 const OF_VIEWS: [Case; 32] = cases! {
-    Clone: ALL, leaves ALL;
-    Slice: MIDDLE, leaves ALL;
-    Slice: REST, leaves ALL;
-    SplitTo: FRONT, leaves BACK;
-    SplitTo: MOST, leaves REST;
-    Advance: FRONT, leaves BACK;
-    CopyToSlice: FRONT, leaves BACK;
-    TryCopy: FRONT, leaves BACK;
-    CopyToBytes: FRONT, leaves BACK;
-    Chunks: ALL, leaves ALL;
-    TwoChunks: ALL, leaves ALL;
-    ManyChunks: ALL, leaves ALL;
-    TakeView: MIDDLE, leaves REST;
-    TakeBytes: MIDDLE, leaves REST;
-    TryTake: FRONT, leaves BACK;
-    TryTakeBytes: FRONT, leaves BACK;
-    PeekView: MIDDLE, leaves ALL;
-    PeekView: REST, leaves ALL;
-    PeekBytes: MIDDLE, leaves ALL;
-    PeekSlice: MIDDLE, leaves ALL;
-    TakeAllView: ALL, leaves NONE;
-    TakeAllBytes: ALL, leaves NONE;
-    ToVec: ALL, leaves ALL;
-    IntoBytes: ALL, leaves NONE;
-    IntoPart: ALL, leaves NONE;
-    Recover: ALL, leaves NONE;
-    FromView: ALL, leaves NONE;
-    ViewFromView: ALL, leaves NONE;
-    Encode: ALL, leaves ALL;
-    EncodeChunks: ALL, leaves ALL;
-    Read: ALL, leaves ALL;
-    CopyToBytes: ALL, leaves NONE;
+    Clone: ALL, leaves ALL, Shares original 0;
+    Slice: MIDDLE, leaves ALL, Shares original 0;
+    Slice: REST, leaves ALL, Shares original 0;
+    SplitTo: FRONT, leaves BACK, Shares original 0;
+    SplitTo: MOST, leaves REST, Shares original 0;
+    Advance: FRONT, leaves BACK, Shares;
+    CopyToSlice: FRONT, leaves BACK, Shares;
+    TryCopy: FRONT, leaves BACK, Shares;
+    CopyToBytes: FRONT, leaves BACK, SharesBytes;
+    Chunks: ALL, leaves ALL, Shares;
+    TwoChunks: ALL, leaves ALL, Shares;
+    ManyChunks: ALL, leaves ALL, Shares;
+    TakeView: MIDDLE, leaves REST, Shares original 0;
+    TakeBytes: MIDDLE, leaves REST, SharesBytes;
+    TryTake: FRONT, leaves BACK, Shares;
+    TryTakeBytes: FRONT, leaves BACK, SharesBytes;
+    PeekView: MIDDLE, leaves ALL, Shares;
+    PeekView: REST, leaves ALL, Shares;
+    PeekBytes: MIDDLE, leaves ALL, SharesBytes;
+    PeekSlice: MIDDLE, leaves ALL, Shares;
+    TakeAllView: ALL, leaves NONE, Shares;
+    TakeAllBytes: ALL, leaves NONE, SharesWhole;
+    ToVec: ALL, leaves ALL, Copies;
+    IntoBytes: ALL, leaves NONE, SharesWhole;
+    IntoPart: ALL, leaves NONE, SharesSole;
+    Recover: ALL, leaves NONE, Shares original 0;
+    FromView: ALL, leaves NONE, SharesWhole;
+    ViewFromView: ALL, leaves NONE, Shares;
+    Encode: ALL, leaves ALL, Copies;
+    EncodeChunks: ALL, leaves ALL, Shares;
+    Read: ALL, leaves ALL, Shares;
+    CopyToBytes: ALL, leaves NONE, SharesWhole;
 };
 
 // Calls that make a buffer of bytes that are given to them.
 const MAKERS: [Case; 18] = cases! {
-    Copy: ALL, leaves ALL;
-    CopyPart: ALL, leaves ALL;
-    OfList: ALL, leaves ALL;
-    PartOfList: ALL, leaves ALL;
-    TextOfList: ALL, leaves ALL;
-    OfBytes: ALL, leaves ALL;
-    BytesOfBytes: ALL, leaves ALL;
-    OfBytesMut: ALL, leaves ALL;
-    PartOfBytes: ALL, leaves ALL;
-    PartOfSharedBytes: ALL, leaves ALL;
-    PartOfBytesMut: ALL, leaves ALL;
-    OfSharedBytesMut: ALL, leaves ALL;
-    PartOfSharedBytesMut: ALL, leaves ALL;
-    Capacity: ALL, leaves ALL;
-    Aligned: ALL, leaves ALL;
-    Zeroed: ALL, leaves ALL;
-    ZeroedAligned: ALL, leaves ALL;
-    EncodeBytes: ALL, leaves ALL;
+    Copy: ALL, leaves ALL, Copies;
+    CopyPart: ALL, leaves ALL, Copies original 1;
+    OfList: ALL, leaves ALL, Shares;
+    PartOfList: ALL, leaves ALL, Shares;
+    TextOfList: ALL, leaves ALL, Shares;
+    OfBytes: ALL, leaves ALL, Shares;
+    BytesOfBytes: ALL, leaves ALL, Shares;
+    OfBytesMut: ALL, leaves ALL, Shares;
+    PartOfBytes: ALL, leaves ALL, Shares;
+    PartOfSharedBytes: ALL, leaves ALL, Copies;
+    PartOfBytesMut: ALL, leaves ALL, Shares;
+    OfSharedBytesMut: ALL, leaves ALL, Shares;
+    PartOfSharedBytesMut: ALL, leaves ALL, Copies;
+    Capacity: ALL, leaves ALL, Copies;
+    Aligned: ALL, leaves ALL, Copies;
+    Zeroed: ALL, leaves ALL, Copies;
+    ZeroedAligned: ALL, leaves ALL, Copies;
+    EncodeBytes: ALL, leaves ALL, Shares;
 };
 
 const OF_PARTS: [Case; 13] = cases! {
-    Advance: FRONT, leaves BACK;
-    CopyToSlice: FRONT, leaves BACK;
-    TryCopy: FRONT, leaves BACK;
-    CopyToBytes: FRONT, leaves BACK;
-    Chunks: ALL, leaves ALL;
-    TwoChunks: ALL, leaves ALL;
-    ManyChunks: ALL, leaves ALL;
-    Truncate: FRONT, leaves FRONT;
-    SetLen: FRONT, leaves FRONT;
-    Put: ALL, leaves ALL;
-    Freeze: ALL, leaves NONE;
-    IntoText: ALL, leaves NONE;
-    CopyToBytes: ALL, leaves NONE;
+    Advance: FRONT, leaves BACK, Shares;
+    CopyToSlice: FRONT, leaves BACK, Shares;
+    TryCopy: FRONT, leaves BACK, Shares;
+    CopyToBytes: FRONT, leaves BACK, Copies;
+    Chunks: ALL, leaves ALL, Shares;
+    TwoChunks: ALL, leaves ALL, Shares;
+    ManyChunks: ALL, leaves ALL, Shares;
+    Truncate: FRONT, leaves FRONT, Shares;
+    SetLen: FRONT, leaves FRONT, Shares;
+    Put: ALL, leaves ALL, Shares original 0;
+    Freeze: ALL, leaves NONE, Shares;
+    IntoText: ALL, leaves NONE, Shares;
+    CopyToBytes: ALL, leaves NONE, Copies;
 };
 
 const OF_TEXTS: [Case; 38] = cases! {
-    Clone: ALL, leaves ALL;
-    Slice: MIDDLE, leaves ALL;
-    Slice: ALL, leaves ALL;
-    Slice: REST, leaves ALL;
-    SplitTo: FRONT, leaves BACK;
-    SplitTo: FIRST_HALF, leaves SECOND_HALF;
-    Truncate: FRONT, leaves FRONT;
-    Advance: FRONT, leaves BACK;
-    CopyToSlice: FRONT, leaves BACK;
-    TryCopy: FRONT, leaves BACK;
-    CopyToBytes: FRONT, leaves BACK;
-    Chunks: ALL, leaves ALL;
-    TwoChunks: ALL, leaves ALL;
-    ManyChunks: ALL, leaves ALL;
-    TakeView: MIDDLE, leaves REST;
-    TakeBytes: MIDDLE, leaves REST;
-    TryTake: FRONT, leaves BACK;
-    TryTakeBytes: FRONT, leaves BACK;
-    PeekView: MIDDLE, leaves ALL;
-    PeekView: REST, leaves ALL;
-    PeekBytes: MIDDLE, leaves ALL;
-    PeekSlice: MIDDLE, leaves ALL;
-    ToVec: ALL, leaves ALL;
-    Coalesce: ALL, leaves NONE;
-    Single: ALL, leaves NONE;
-    Join: ALL, leaves ALL;
-    Build: ALL, leaves ALL;
-    Framed: ALL, leaves ALL;
-    Fed: ALL, leaves ALL;
-    Received: ALL, leaves ALL;
-    Append: AFTER, leaves ALL_AND_AFTER;
-    Prepend: BEFORE, leaves BEFORE_AND_ALL;
-    SplitTo: MOST, leaves REST;
-    SplitTo: FIRST, leaves AFTER_FIRST;
-    TakeView: FIRST, leaves AFTER_FIRST;
-    TakeView: FEW, leaves AFTER_FEW;
-    Slice: FEW, leaves ALL;
-    CopyToBytes: ALL, leaves NONE;
+    Clone: ALL, leaves ALL, Shares original 1;
+    Slice: MIDDLE, leaves ALL, Shares;
+    Slice: ALL, leaves ALL, Shares;
+    Slice: REST, leaves ALL, Shares;
+    SplitTo: FRONT, leaves BACK, Shares original 1;
+    SplitTo: FIRST_HALF, leaves SECOND_HALF, Shares original 1;
+    Truncate: FRONT, leaves FRONT, Shares;
+    Advance: FRONT, leaves BACK, Shares original 0;
+    CopyToSlice: FRONT, leaves BACK, Shares;
+    TryCopy: FRONT, leaves BACK, Shares;
+    CopyToBytes: FRONT, leaves BACK, Copies;
+    Chunks: ALL, leaves ALL, Shares;
+    TwoChunks: ALL, leaves ALL, Shares;
+    ManyChunks: ALL, leaves ALL, Shares;
+    TakeView: MIDDLE, leaves REST, Copies original 1;
+    TakeBytes: MIDDLE, leaves REST, Copies;
+    TryTake: FRONT, leaves BACK, Copies;
+    TryTakeBytes: FRONT, leaves BACK, Copies;
+    PeekView: MIDDLE, leaves ALL, Copies;
+    PeekView: REST, leaves ALL, Copies;
+    PeekBytes: MIDDLE, leaves ALL, Copies;
+    PeekSlice: MIDDLE, leaves ALL, Shares;
+    ToVec: ALL, leaves ALL, Copies;
+    Coalesce: ALL, leaves NONE, Copies original 1;
+    Single: ALL, leaves NONE, Shares;
+    Join: ALL, leaves ALL, Shares;
+    Build: ALL, leaves ALL, Copies;
+    Framed: ALL, leaves ALL, Shares;
+    Fed: ALL, leaves ALL, Copies;
+    Received: ALL, leaves ALL, Copies;
+    Append: AFTER, leaves ALL_AND_AFTER, Shares original 1;
+    Prepend: BEFORE, leaves BEFORE_AND_ALL, Shares original 1;
+    SplitTo: MOST, leaves REST, Shares original 1;
+    SplitTo: FIRST, leaves AFTER_FIRST, Shares original 1;
+    TakeView: FIRST, leaves AFTER_FIRST, Copies original 1;
+    TakeView: FEW, leaves AFTER_FEW, Copies original 1;
+    Slice: FEW, leaves ALL, Shares;
+    CopyToBytes: ALL, leaves NONE, Copies;
 };
 
 const OF_ROWS: [Case; 15] = cases! {
-    Advance: FRONT, leaves BACK;
-    CopyToSlice: FRONT, leaves BACK;
-    TryCopy: FRONT, leaves BACK;
-    CopyToBytes: FRONT, leaves BACK;
-    Chunks: ALL, leaves ALL;
-    TwoChunks: ALL, leaves ALL;
-    ManyChunks: ALL, leaves ALL;
-    SetLen: FRONT, leaves FRONT;
-    Put: ALL, leaves ALL;
-    Overwrite: ALL, leaves ALL;
-    Freeze: ALL, leaves NONE;
-    Coalesce: ALL, leaves NONE;
-    Single: ALL, leaves NONE;
-    FromParts: ALL, leaves ALL;
-    CopyToBytes: ALL, leaves NONE;
+    Advance: FRONT, leaves BACK, Shares original 0;
+    CopyToSlice: FRONT, leaves BACK, Shares;
+    TryCopy: FRONT, leaves BACK, Shares;
+    CopyToBytes: FRONT, leaves BACK, Copies original 1;
+    Chunks: ALL, leaves ALL, Shares;
+    TwoChunks: ALL, leaves ALL, Shares;
+    ManyChunks: ALL, leaves ALL, Shares;
+    SetLen: FRONT, leaves FRONT, Shares;
+    Put: ALL, leaves ALL, Shares original 0;
+    Overwrite: ALL, leaves ALL, Shares;
+    Freeze: ALL, leaves NONE, Shares;
+    Coalesce: ALL, leaves NONE, Copies;
+    Single: ALL, leaves NONE, Shares;
+    FromParts: ALL, leaves ALL, Shares;
+    CopyToBytes: ALL, leaves NONE, Copies original 1;
 };
 
 // Whether what a call gives has the bytes of a range, cut as they are.
@@ -295,7 +314,7 @@ fn repeated<B: Counted>(
     }
 }
 
-// Makes a call, and prints what it was made on, and how it ended.
+// Makes a call, and prints what it was made on, what it shares, how often the original allocates, and how it ended.
 fn count<B: Counted>(
     rt: &(impl Print + Abort + AllocGlobal),
     what: &impl Debug,
@@ -313,7 +332,11 @@ fn count<B: Counted>(
         Err(BufError::Memory) => repeated(alloc, shape, &mut buf, case)?,
         Err(_) => Ended::Failed,
     };
-    println!(rt; "{call:?} {what:?} {} {} {ended:?}", shape.count, shape.len).expect(rt, "printed");
+    let (count, len, sharing) = (shape.count, shape.len, case.sharing);
+    let original = case.original.first().copied().unwrap_or(usize::MAX);
+    println!(rt; "{call:?} {what:?} {count} {len} {sharing:?} {original} {ended:?}").expect(
+        rt, "a line",
+    );
     let is_right = !matches!(ended, Ended::Wrong | Ended::Failed | Ended::Changed);
     assert!(rt; is_right, "{call:?} of {what:?}: {ended:?}");
     Ok(())

@@ -1,5 +1,5 @@
 // Tests of what no contract says: worked examples, success, sharing, printed text.
-// `callers` tests the crates over the buffers, `owner` the owner machine, and `wire` encoded values.
+// `callers` tests the crates over the buffers, and `owner` the owner machine.
 #![tactic(auto)]
 
 // The cases of a table, one a line.
@@ -29,5 +29,3 @@ mod same;
 mod strung;
 #[cfg(test)]
 mod texts;
-#[cfg(test)]
-mod wire;

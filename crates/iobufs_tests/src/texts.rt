@@ -4,6 +4,7 @@ ghost use Rattle.std.specs.Prelude.{◌≤◌, length};
 use crate::same::assert_same;
 use bytes::Bytes;
 use iobufs::bufs::IoBufs;
+use iobufs::bufs_mut::IoBufsMut;
 use iobufs_core::buf::{IoBuf, IoBufMut};
 use iobufs_core::codec::{Buf, BufError, BufMut, OwnedBuf};
 use iobufs_made::{chunks, part, text};
@@ -86,17 +87,6 @@ fn bytes_are_taken_out(rt: HostRuntime) -> Result<(), Fail> {
     Ok(())
 }
 
-// The last eight bytes that `for_each_chunk` visits.
-fn visited(text: &IoBufs) -> [u8; 8] {
-    let mut seen = 0u64;
-    text.for_each_chunk(|chunk: &[u8]| {
-        for byte in chunk {
-            seen = seen.wrapping_mul(256).wrapping_add(u64::from(*byte));
-        }
-    });
-    seen.to_be_bytes()
-}
-
 #[test]
 fn four_chunks(rt: HostRuntime) -> Result<(), Fail> {
     let text = text(rt.alloc(), &[b"ab", b"cd", b"ef", b"gh"])?;
@@ -106,7 +96,6 @@ fn four_chunks(rt: HostRuntime) -> Result<(), Fail> {
     assert_same!(rt; first.as_slice(), [b"ab".as_slice(), b"cd"].as_slice());
     assert_same!(rt; text.chunks_vectored(rt.alloc(), 0)?.len(), 0);
     assert_same!(rt; (text.byte_at(5), text.byte_at(8)), (Some(b'f'), None));
-    assert_same!(rt; visited(&text), *b"abcdefgh");
     Ok(())
 }
 
@@ -116,6 +105,69 @@ fn chunks_come_in_order(rt: HostRuntime) -> Result<(), Fail> {
     let mut chunks = text.chunks();
     for wanted in [Some(b"ab".as_slice()), Some(b"cd"), Some(b"ef"), None, None] {
         assert_same!(rt; chunks.next(), wanted);
+    }
+    Ok(())
+}
+
+// The chunks that are left are counted before the walk, after each chunk, and after the last one.
+#[test]
+fn chunks_are_counted(rt: HostRuntime) -> Result<(), Fail> {
+    for count in [0usize, 1, 2, 3, 4, 5, 64, 1000] {
+        let mut text = IoBufs::default();
+        for _ in 0..count {
+            text.append(rt.alloc(), IoBuf::from(b"ab".as_slice()))?;
+        }
+        let mut chunks = text.chunks();
+        for taken in 0..1003usize {
+            let left = count.saturating_sub(taken);
+            let found = (chunks.len(), chunks.size_hint());
+            assert_same!(rt; found, (left, (left, Some(left))), "{taken} of {count} are taken");
+            assert_same!(rt; chunks.next().is_some(), left > 0, "{taken} of {count} are taken");
+        }
+    }
+    Ok(())
+}
+
+// Records a visited chunk, and `|` after it.
+fn record(visits: &mut Vec<u8>, chunk: &[u8]) {
+    visits.extend_from_slice(chunk).ok();
+    visits.push(b'|').ok();
+}
+
+// Chunks, and the visits of those that hold bytes: each once, and none after the last.
+const VISITS: [(&'static [&'static [u8]], &'static [u8]); 8] = rows! {
+    &[], b"";
+    &[b""], b"";
+    &[b"ab"], b"ab|";
+    &[b"ab", b"c"], b"ab|c|";
+    &[b"ab", b"", b"c"], b"ab|c|";
+    &[b"ab", b"c", b"de"], b"ab|c|de|";
+    &[b"ab", b"c", b"de", b"f"], b"ab|c|de|f|";
+    &[b"", b"ab", b"c", b"", b"de", b"f", b"gh", b""], b"ab|c|de|f|gh|";
+};
+
+#[test]
+fn each_chunk_is_visited_once(rt: HostRuntime) -> Result<(), Fail> {
+    for (chunks, wanted) in VISITS {
+        let mut visits = Vec::new(rt.alloc());
+        text(rt.alloc(), chunks)?.for_each_chunk(|chunk: &[u8]| record(&mut visits, chunk));
+        assert_same!(rt; visits.as_slice(), wanted);
+    }
+    Ok(())
+}
+
+// Writable buffers of these bytes and a spare byte each.
+#[test]
+fn each_writable_chunk_is_visited_once(rt: HostRuntime) -> Result<(), Fail> {
+    for (chunks, wanted) in VISITS {
+        let mut parts = Vec::new(rt.alloc());
+        for chunk in chunks {
+            parts.push(part(rt.alloc(), chunk, 1)?)?;
+        }
+        let mut bufs = IoBufsMut::from_parts(rt.alloc(), parts.into_iter())?;
+        let mut visits = Vec::new(rt.alloc());
+        bufs.for_each_chunk_mut(|chunk: &mut [u8]| record(&mut visits, chunk));
+        assert_same!(rt; visits.as_slice(), wanted);
     }
     Ok(())
 }

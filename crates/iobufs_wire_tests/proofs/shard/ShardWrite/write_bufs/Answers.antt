@@ -3,7 +3,7 @@ use Rattle.std.specs.Int.{w16, w32, to_be_bytes}
 use Rattle.iobufs_core.specs.Items.{put_item}
 use Rattle.iobufs_core.specs.Wire.{view_written}
 use Rattle.iobufs_core.proofs.CallerFacts.{begun_behind, on_err_always}
-use Rattle.iobufs_tests.proofs.wire.shard.ShardWrite.write_bufs.Goals as goal
+use Rattle.iobufs_wire_tests.proofs.shard.ShardWrite.write_bufs.Goals as goal
 
 pub returns-in_err-write_bufs-clause-begun : goal.returns-in_err-write_bufs-clause-begun
 returns-in_err-write_bufs-clause-begun g c =

@@ -1,6 +1,6 @@
 // Numbers and bytes that are read, and ranges of lengths.
+use crate::chunks::{copied_bytewise, view};
 use crate::same::assert_same;
-use crate::wire::chunks::{copied_bytewise, view};
 use bytes::Bytes;
 use iobufs::builder::EncodeExt;
 use iobufs_core::buf::IoBufMut;

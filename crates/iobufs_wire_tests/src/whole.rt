@@ -1,9 +1,9 @@
 // Values that are read whole, out of one chunk and out of a chunk for each byte. Each prefix of a value ends too early,
 // and a byte after it is too much.
+use crate::chunks::{ANY, UP_TO_9, chunks_of, concatenated, copied_bytewise, view};
+use crate::encode::assert_written;
+use crate::message::Message;
 use crate::same::assert_same;
-use crate::wire::chunks::{ANY, UP_TO_9, chunks_of, concatenated, copied_bytewise, view};
-use crate::wire::encode::assert_written;
-use crate::wire::message::Message;
 use bytes::Bytes;
 use iobufs::EncodeExt;
 use iobufs::bufs::IoBufs;
@@ -117,50 +117,27 @@ fn bytes_after_their_length(rt: HostRuntime) {
 // Yes; 258 after its byte; `xyz`; and 300, as a varint.
 const SOME: &[u8] = b"\x01\x01\x01\x02xyz\xac\x02";
 
+// Nothing, 9 and no.
+const NONE: &[u8] = b"\0\0\0\0\x09\0";
+
 // Six values: 1, yes, 2, 3 after its byte, two bytes, and 300 as a varint.
 const SIX: &[u8] = b"\x01\x01\0\x02\x01\x03\x09\x09\xac\x02";
 
 #[test]
 fn tuples(rt: HostRuntime) {
     let some = ((true, Some(0x0102u16)), (*b"xyz", 300usize));
-    let up_to_300 = RangeCfg { lo: 0, hi: 300 };
-    assert_whole(
-        &rt,
-        "two pairs",
-        &some,
-        &(((), ()), ((), up_to_300)),
-        9,
-        &[SOME],
-    );
+    let cfg = (((), ()), ((), RangeCfg { lo: 0, hi: 300 }));
+    assert_whole(&rt, "two pairs", &some, &cfg, 9, &[SOME]);
     let none = (None::<u64>, 9u32, false);
-    assert_whole(
-        &rt,
-        "nothing, 9 and no",
-        &none,
-        &((), (), ()),
-        6,
-        &[b"\0\0\0\0\x09\0"],
-    );
+    assert_whole(&rt, "three values", &none, &((), (), ()), 6, &[NONE]);
     let six = (1u8, true, 2u16, Some(3u8), [9u8; 2], 300usize);
-    assert_whole(
-        &rt,
-        "six values",
-        &six,
-        &((), (), (), (), (), ANY),
-        10,
-        &[SIX],
-    );
+    let cfg = ((), (), (), (), (), ANY);
+    assert_whole(&rt, "six values", &six, &cfg, 10, &[SIX]);
     let five = (1u8, true, 2u16, Some(3u8), [9u8; 2]);
     let cfg = ((), (), (), (), ());
     assert_whole(&rt, "five values", &five, &cfg, 8, &[&SIX[..8]]);
-    assert_front(
-        &rt,
-        "five of six",
-        &mut copied_bytewise(&rt, SIX),
-        &cfg,
-        &five,
-        2,
-    );
+    let mut all = copied_bytewise(&rt, SIX);
+    assert_front(&rt, "five of six", &mut all, &cfg, &five, 2);
 }
 
 // -1, -2, -3 and -4 in one, two, four and eight bytes.
@@ -185,24 +162,13 @@ fn signed_and_wide_numbers(rt: HostRuntime) {
     assert_whole(&rt, "four signs", &four, &((), (), (), ()), 15, &[NEGATIVE]);
     assert_whole(&rt, "sixteen bytes", &WIDE, &(), 16, &[WIDE_BYTES]);
     let both = (Signed { value: -2i128 }, Signed { value: i128::MIN });
-    assert_whole(
-        &rt,
-        "two signs of 128 bits",
-        &both,
-        &((), ()),
-        32,
-        &[WIDE_NEGATIVE],
-    );
+    let cfg = ((), ());
+    assert_whole(&rt, "two wide signs", &both, &cfg, 32, &[WIDE_NEGATIVE]);
     let largest = Signed { value: i128::MAX }.encode(rt.alloc());
     let encoded = largest.expect(&rt, "the largest number with a sign");
     let mut view = encoded.freeze().expect(&rt, "a view");
-    assert_read(
-        &rt,
-        "all bits below the sign",
-        &mut view,
-        &(),
-        &(u128::MAX / 2),
-    );
+    let bits = u128::MAX / 2;
+    assert_read(&rt, "all bits below the sign", &mut view, &(), &bits);
 }
 
 #[test]

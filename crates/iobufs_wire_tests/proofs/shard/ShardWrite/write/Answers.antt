@@ -1,4 +1,4 @@
-use Rattle.iobufs_tests.proofs.wire.shard.ShardWrite.write.Goals as goal
+use Rattle.iobufs_wire_tests.proofs.shard.ShardWrite.write.Goals as goal
 
 pub returns : goal.returns
 returns g c =

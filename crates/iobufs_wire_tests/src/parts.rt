@@ -1,9 +1,9 @@
 // Types that are read by their parts, out of a chunk for each byte: a letter of several fields, and a request of one
 // kind or another.
+use crate::chunks::{ANY, UP_TO_9, assert_chunks, concatenated, copied_bytewise, view};
+use crate::encode::assert_written;
 use crate::same::assert_same;
-use crate::wire::chunks::{ANY, UP_TO_9, assert_chunks, concatenated, copied_bytewise, view};
-use crate::wire::encode::assert_written;
-use crate::wire::whole::{END, assert_front, assert_prefixes, assert_refused, assert_whole};
+use crate::whole::{END, assert_front, assert_prefixes, assert_refused, assert_whole};
 use iobufs::bufs::IoBufs;
 use iobufs_core::buf::IoBuf;
 use iobufs_core::codec::{EncodeSize, Error, RangeCfg, Write};
@@ -197,14 +197,8 @@ fn kinds_with_one_byte(rt: HostRuntime) {
     let second: Alike = Either::Second(Kind { value: 0x0102 });
     assert_written(&rt, "the second kind", &second, 3, &[b"\x07\x01\x02"]);
     let first: Alike = Either::First(Kind { value: 1 });
-    assert_front(
-        &rt,
-        "the first kind",
-        &mut view(b"\x07\x01\x02"),
-        &((), ()),
-        &first,
-        1,
-    );
+    let mut bytes = view(b"\x07\x01\x02");
+    assert_front(&rt, "the first kind", &mut bytes, &((), ()), &first, 1);
     for (tag, is_one) in [(0, true), (3, true), (4, false)] {
         assert_same!(rt; RequestParts::is_tag(tag), is_one);
     }

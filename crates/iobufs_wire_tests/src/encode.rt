@@ -1,8 +1,8 @@
 // Values that are encoded, into one buffer and into chunks.
+use crate::chunks::{assert_chunks, concatenated, view};
 use crate::same::assert_same;
-use crate::wire::chunks::{assert_chunks, concatenated, view};
-use crate::wire::shard::Shard;
-use crate::wire::zeros::Zeros;
+use crate::shard::Shard;
+use crate::zeros::Zeros;
 use bytes::Bytes;
 use iobufs::bufs::IoBufs;
 use iobufs::builder::EncodeExt;
@@ -46,28 +46,13 @@ fn values_with_views(rt: HostRuntime) {
         body: view(b"S"),
         sum: 7,
     };
-    assert_written(
-        &rt,
-        "a shard",
-        &shard,
-        7,
-        &[b"\0\x63\x01", b"S", b"\0\0\0\x07"],
-    );
-    assert_written(
-        &rt,
-        "a view",
-        &view(b"hello world"),
-        1,
-        &[b"\x0b", b"hello world"],
-    );
+    let chunks: &[&[u8]] = &[b"\0\x63\x01", b"S", b"\0\0\0\x07"];
+    assert_written(&rt, "a shard", &shard, 7, chunks);
+    let hello = view(b"hello world");
+    assert_written(&rt, "a view", &hello, 1, &[b"\x0b", b"hello world"]);
     assert_written(&rt, "a view of no bytes", &IoBuf::default(), 1, &[b"\0"]);
-    assert_written(
-        &rt,
-        "bytes",
-        &Bytes::from_static(b"abc"),
-        1,
-        &[b"\x03", b"abc"],
-    );
+    let bytes = Bytes::from_static(b"abc");
+    assert_written(&rt, "bytes", &bytes, 1, &[b"\x03", b"abc"]);
     let long = IoBuf::copy_from_slice(rt.alloc(), &NINES).expect(&rt, "a long view");
     assert_written(&rt, "a long view", &long, 2, &[b"\x80\x01", &NINES]);
 }
@@ -116,13 +101,8 @@ fn inline_values(rt: HostRuntime) {
     assert_written(&rt, "four bytes", &0x04050607u32, 4, &[b"\x04\x05\x06\x07"]);
     let eight: &[u8] = b"\x08\x09\x0a\x0b\x0c\x0d\x0e\x0f";
     assert_written(&rt, "eight bytes", &0x08090a0b0c0d0e0fu64, 8, &[eight]);
-    assert_written(
-        &rt,
-        "two runs of zeros",
-        &Zeros { a: 2, b: 1 },
-        3,
-        &[b"\0\0\0"],
-    );
+    let zeros = Zeros { a: 2, b: 1 };
+    assert_written(&rt, "two runs of zeros", &zeros, 3, &[b"\0\0\0"]);
 }
 
 // Lengths, as varints.

@@ -1,4 +1,4 @@
-use Rattle.iobufs_tests.proofs.wire.zeros.ZerosWrite.write_bufs.Goals as goal
+use Rattle.iobufs_wire_tests.proofs.zeros.ZerosWrite.write_bufs.Goals as goal
 
 pub returns-clause-ok : goal.returns-clause-ok
 returns-clause-ok g c =

@@ -1,0 +1,30 @@
+// Worked examples of encoding, which no contract gives: lengths, views, and types of several fields.
+#![tactic(auto)]
+
+// The cases of a table, one a line.
+macro_rules! rows {
+    ($($($value:expr),+;)+) => {
+        [$(($($value),+)),+]
+    };
+}
+
+#[cfg(test)]
+mod chunks;
+#[cfg(test)]
+mod encode;
+#[cfg(test)]
+mod lengths;
+#[cfg(test)]
+mod message;
+#[cfg(test)]
+mod parts;
+#[cfg(test)]
+mod same;
+#[cfg(test)]
+mod shard;
+#[cfg(test)]
+mod values;
+#[cfg(test)]
+mod whole;
+#[cfg(test)]
+mod zeros;
