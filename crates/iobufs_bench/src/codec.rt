@@ -6,7 +6,7 @@ use iobufs_core::buf::IoBuf;
 use iobufs_core::codec::{Buf, BufMut, BufsMut, OwnedBuf, RangeCfg, Read};
 use std::alloc::Global;
 
-/// A place where no text is cut.
+/// A place where no `IoBufs` is cut.
 pub const NO_CUT: usize = 1_073_741_824;
 
 const RANGE: RangeCfg = RangeCfg {
@@ -173,7 +173,7 @@ fn append_frame(alloc: Global, body: &IoBuf, wire: &mut IoBufs) -> Result<(), Ru
     Ok(())
 }
 
-// Encodes views of many lengths, and appends each chunk to one text.
+// Encodes views of many lengths, and appends each chunk to one `IoBufs`.
 fn wired(alloc: Global, master: &IoBuf) -> Result<IoBufs, RunError> {
     let mut wire = IoBufs::default();
     for i in 0..1000usize {

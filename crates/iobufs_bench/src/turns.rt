@@ -3,7 +3,7 @@ use crate::run::{CHUNK, Run, RunError, Sum, begun};
 use iobufs_core::codec::{Buf, BufMut};
 use std::alloc::Global;
 
-/// Puts a piece so many times.
+/// Puts the same bytes so many times.
 pub fn put_turns<B: BufMut>(buf: &mut B, piece: &[u8], turns: usize) -> Result<(), RunError> {
     let mut room = buf.remaining_mut();
     'turns: for _ in 0..turns {

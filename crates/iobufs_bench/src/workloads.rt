@@ -32,7 +32,7 @@ pub fn run_named(rt: &HostRuntime, name: &str) -> Result<Run, RunError> {
     }
 }
 
-// The workloads that encode and decode. A frame's length, and where its text is cut, are in the name.
+// The workloads that encode and decode. A frame's length, and that of its chunks, are in the name.
 fn run_wire(rt: &HostRuntime, name: &str) -> Result<Run, RunError> {
     match name {
         "encode_view64" => codec::encode(rt),

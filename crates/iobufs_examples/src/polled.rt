@@ -1,4 +1,4 @@
-// A text in chunks, and a frame, handed to an async writer.
+// An `IoBufs`, and a frame, handed to an async writer.
 ghost use Rattle.std.specs.Prelude.{◌≡◌, ◌<◌, ◌≤◌, [], length, drop, map, take, IfOk};
 ghost use Rattle.std.specs.Io.Slices.{io_slice_bytes};
 ghost use Rattle.iobufs_core.specs.MarkedText.{text_chunks};
@@ -50,7 +50,7 @@ fn poll_batch<W: AsyncWrite>(
 }
 
 // [docs: poll_send]
-/// Writes the first chunks of a text, up to 64 of them in one call, and drops from the front what was taken.
+/// Writes the first chunks, up to 64 of them in one call, and drops from the front what was taken.
 pub fn poll_send<W: AsyncWrite>(
     alloc: Global,
     to: &mut W,

@@ -13,7 +13,7 @@ use iobufs_core::codec::{Buf, BufError};
 use std::alloc::Global;
 
 // [docs: body]
-/// Makes a body of a text: one frame of all its chunks, which aren't copied.
+/// Makes a body of an `IoBufs`: one frame of all its chunks, which aren't copied.
 pub fn body(text: IoBufs) -> Full<IoBufs>
     ensures { result.buf ≡ (if length text.bytes == 0 then None else Some text) }
 {
@@ -21,14 +21,14 @@ pub fn body(text: IoBufs) -> Full<IoBufs>
 }
 // [docs end]
 
-/// Returns how long the body of a text is.
+/// Returns how long the body of an `IoBufs` is.
 pub fn hint(text: IoBufs) -> SizeHint
     ensures { exact result ≡ Some (length text.bytes) }
 {
     body(text).size_hint()
 }
 
-/// A body of the chunks of a text, a `Bytes` each, as hyper asks for. A chunk that is a `Bytes` or static isn't copied.
+/// A body of the chunks of an `IoBufs`, a `Bytes` each, as hyper asks for. A chunk that is a `Bytes` or static isn't copied.
 #[derive(Drop)]
 pub struct ChunkBody {
     pub text: IoBufs,
@@ -36,7 +36,7 @@ pub struct ChunkBody {
 }
 
 impl ChunkBody {
-    /// Makes a body of the chunks of a text.
+    /// Makes a body of the chunks of an `IoBufs`.
     pub fn new(alloc: Global, text: IoBufs) -> ChunkBody
         ensures { result.text ≡ text }
     {
