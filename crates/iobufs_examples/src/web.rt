@@ -28,7 +28,7 @@ pub fn hint(text: IoBufs) -> SizeHint
     body(text).size_hint()
 }
 
-/// A body of the chunks of an `IoBufs`, a `Bytes` each, as hyper asks for. A chunk that is a `Bytes` or static isn't copied.
+/// A body of the chunks of an `IoBufs`, a `Bytes` each, as hyper requires. Only a chunk of native storage is copied.
 #[derive(Drop)]
 pub struct ChunkBody {
     pub text: IoBufs,

@@ -101,13 +101,14 @@ impl Frames {
     }
 
     /// Takes the first frame; `None` if it is not whole yet. Fails with `Error::InvalidVarint` (of varints alone) or
-    /// `Error::InvalidLength` if no further bytes can make it whole, or with `Error::Memory`, unless its body is static.
-    /// Unless a frame is taken, the rest is unchanged.
+    /// `Error::InvalidLength` if no further bytes can make it whole, or with `Error::Memory`, which a static body
+    /// doesn't need. Unless a frame is taken, the rest is unchanged.
     pub fn next(&mut self, alloc: Global, range: &RangeCfg) -> Result<Option<IoBuf>, Error>
         ensures next { TakesFirst self.old.prefix range.now self.old.rest.bytes result self.new.rest.bytes }
         ensures left { MatchTaken result (λ body. (self.new.prefix ≡ self.old.prefix)
             × IsCutFrom self.old.prefix self.old.rest self.new.rest body) (self.new ≡ self.old) }
-        ensures static_text { HasStaticBody self.old.prefix self.old.rest → IfErr result (λ error. error ≢ Error.Memory) }
+        ensures static_text { HasStaticBody self.old.prefix self.old.rest
+            → IfErr result (λ error. error ≢ Error.Memory) }
     {
         let Some(found) = self.prefix.length_in(&self.rest)? else {
             return Ok(None);
