@@ -9,7 +9,8 @@
 #include <sys/uio.h>
 #include <unistd.h>
 
-static unsigned long all = 0;
+static unsigned long interruptions = 0;
+static int is_ending = 0;
 
 static unsigned long number(const char *name, unsigned long otherwise) {
     const char *text = getenv(name);
@@ -23,9 +24,10 @@ static size_t at_most(size_t n) {
 
 // Whether this call is interrupted; each kind of call counts by itself.
 static int interrupted(unsigned long *left) {
+    if (is_ending) return 0;
     if (*left == 0) *left = number("INTERRUPT", 0) + 1;
     if (--*left == 0) return 0;
-    all++;
+    interruptions++;
     errno = EINTR;
     return 1;
 }
@@ -53,7 +55,7 @@ __attribute__((destructor)) static void tell(void) {
     const char *name = getenv("INTERRUPTED");
     FILE *file = name ? fopen(name, "w") : NULL;
     if (!file) return;
-    unsetenv("INTERRUPT");
-    fprintf(file, "%lu\n", all);
+    is_ending = 1;
+    fprintf(file, "%lu\n", interruptions);
     fclose(file);
 }

@@ -48,17 +48,22 @@ class Session:
         self.ran = subprocess.Popen([program, half], stdin=pipe, stdout=pipe, text=True, bufsize=1)
 
     def ask(self, line):
-        """The reply to a line; nothing if the program has ended."""
+        """The reply to a line. Raises EOFError if the program has ended."""
         self.lines.append(line)
         self.ran.stdin.write(f"{line}\n")
-        self.replies.append(self.ran.stdout.readline().rstrip("\n"))
+        if not (reply := self.ran.stdout.readline()):
+            raise EOFError
+        self.replies.append(reply.rstrip("\n"))
         return self.replies[-1]
 
     def make(self, count):
-        """Asks `count` lines or a few more, and returns the status."""
-        while len(self.lines) < count and self.ran.poll() is None:
-            self.step()
-        self.ran.stdin.close()
+        """Asks `count` lines or a few more, fewer if the program ends, and returns the status."""
+        try:
+            while len(self.lines) < count:
+                self.step()
+            self.ran.stdin.close()
+        except (EOFError, BrokenPipeError):
+            pass
         return self.ran.wait()
 
     def number(self, most):
@@ -108,11 +113,11 @@ class Buffers(Session):
             self.held[name] = Held(kind, size, sum(int(space or 0) for _, _, space in parted))
 
     def words(self, name):
-        """What stands for each word in braces in a command on this name; most of it can be carried out. The range from
+        """What replaces each word in braces in a command on this name; most of it can be carried out. The range from
         `lower` to `upper` is of its bytes, that from `lo` to `hi` of the alphabet's 26."""
         draw, (_, size, space) = self.random, self.held.get(name, Held())
         is_rare = draw.random() < 0.03
-        free = draw.choice([it for it in range(NAMES + 1) if is_rare or it < NAMES and it not in self.held])
+        free = draw.choice([it for it in range(NAMES + 1) if is_rare or (it < NAMES and it not in self.held)])
         views = self.some("view")
         lower, upper = self.range(size)
         lo, hi = sorted(draw.choices(range(27), k=2))
@@ -121,11 +126,11 @@ class Buffers(Session):
             "free": free,
             "onto": draw.choice([name, free]),
             "view": draw.choice(views or [0]),
-            "views": "".join(f" {it}" for it in views + views[:1] * is_rare),
+            "views": "".join(f" {it}" for it in views + views[:1] * is_rare),  # A name twice is refused.
             "buffers": "".join(f" {it}" for it in self.some("part")),
             "items": "".join(f" i{self.digits(draw.randint(1, 20))} p{it}" for it in views),
             "size": draw.choice([0, 1, 7, 24, 24, 100, 5000]),
-            "align": draw.choice([1, 1, 1, 2, 8, 64, 3, 0]),
+            "align": draw.choice([1, 1, 1, 2, 8, 64, 3, 0]),  # 3 and 0 are no alignments.
             "at": self.number(size),
             "space": self.number(space),
             "capacity": self.number(size + space),

@@ -28,17 +28,18 @@ OPEN = re.compile(r"it is not proved that .*\(`([^`]+)`\)")
 QUOTED = re.compile(r"`([^`]+)`")  # A name in backticks: `ends`
 
 
-def library(crate, file):
+def built_file(crate, file):
     """A file of a crate's library, as rt ci built it. A program and a static library have none."""
     return CRATES / crate / f"out/rlib/{crate}.rlib" / file
 
 
 def stale(crate):
     """Whether the built library of a crate is missing, or was put there before its sources."""
-    if not library(crate, "format").exists():
+    marker = built_file(crate, "format")  # Each library has this file.
+    if not marker.exists():
         return True
-    # By the time of its link: rt ci links here what an earlier run proved, which keeps the time of that run's build.
-    put = library(crate, "format").stat().st_ctime
+    # Its mtime may be that of an earlier run, whose build rt ci links here; its ctime is that of the link.
+    put = marker.stat().st_ctime
     files = (it for part in ("src", "specs", "proofs") for it in (CRATES / crate / part).rglob("*") if it.is_file())
     return any(it.stat().st_mtime > put for it in files)
 
@@ -48,8 +49,8 @@ def stale(crate):
 
 def functions(crate):
     """The names of a crate's functions: of a library's all, and else those at the roots of its files."""
-    if library(crate, "toolchain/mir.json").is_file():
-        names = [it[0].partition("::")[2] for it in json.loads(library(crate, "toolchain/mir.json").read_text())]
+    if (listed := built_file(crate, "toolchain/mir.json")).is_file():
+        names = [it[0].partition("::")[2] for it in json.loads(listed.read_text())]
         # Closures, and what is made for traits, have names of their own.
         return [it for it in names if "+" not in it and "fn" not in it.split("::")]
     names, sources = [], CRATES / crate / "src"
@@ -76,7 +77,7 @@ def body_of(text, head, stop):
 def put_loops(crate, kept, room):
     """Has an empty loop in place of the body of each function but those with these names, so that nothing it calls is
     read. Methods keep theirs where put_holes doesn't know them."""
-    has_methods = library(crate, "toolchain/mir.json").is_file()
+    has_methods = built_file(crate, "toolchain/mir.json").is_file()
     for file in (room / "src").rglob("*.rt"):
         text = file.read_text()
         stop = len(text)

@@ -170,16 +170,22 @@ def unfolded(tree):
     return [path.strip().split(" as ")[0] for path in tree.split(",")]
 
 
-def paths_used(file, name, modules, passed_on=False):
-    """The paths of a module's imports, from the crate's root on: of those that it passes on, or of the others."""
-    own = name.split("::") if name else []
-    begins = {"crate": [], "super": own[:-1], "self": own}
+def from_root(path, module, modules):
+    """An import's path from the crate's root on: in bufs::search that of super::row::Row is bufs::row::Row. None if it
+    leads to another crate."""
+    first, *rest = path.split("::")
+    own = module.split("::") if module else []
+    starts = {"crate": [], "super": own[:-1], "self": own}
+    if "::".join([*own, first]) in modules:
+        starts[first] = [*own, first]  # A module of its own: row::Row
+    return "::".join([*starts[first], *rest]) if first in starts else None
+
+
+def paths_used(file, module, modules, passed_on=False):
+    """The paths of a module's imports in its crate: of those that it passes on by `pub use`, or of the others."""
     trees = (tree for public, tree in USE.findall(file.read_text()) if bool(public) == passed_on)
-    for first, *rest in (path.split("::") for tree in trees for path in unfolded(tree)):
-        if first in begins:
-            yield "::".join([*begins[first], *rest])
-        elif "::".join([*own, first]) in modules:
-            yield "::".join([*own, first, *rest])
+    found = (from_root(path, module, modules) for tree in trees for path in unfolded(tree))
+    return [path for path in found if path]
 
 
 def imports(folder):

@@ -10,6 +10,7 @@ TOKEN = re.compile(r"[^\s(){}\[\],;.|λ:=]+|[(){}\[\],;.|λ:=]")  # A name or a 
 IMPORT = re.compile(r"(?:ghost |pub )?use (?:Rattle\.)?([\w.'\-]+?)(?:\.\{(.*)\})?(?: as (\w+))?;?$")
 # The head of a declaration: pub record Table, or abbrev pub first : ℕ
 HEAD = re.compile(r"(?:abbrev |unfoldable |pub )*(?:(?:record|data|ruleset) (\S+)|(\S+) : )")
+CONSTRUCTOR = re.compile(r"^ +(\S+) : ")  # A constructor of a data type: Number : (n : ℕ) → Bound
 FUNCTION = re.compile(r"\bpub fn (\w+)")  # A public function: pub fn run
 BRACE = re.compile(r"^ *\{$", re.M)  # The brace before a body, on a line of its own.
 CLAUSE = re.compile(r"^ *(?=(?:ensures|requires)\b)", re.M)  # What comes before a clause:     ensures moves { .. }
@@ -61,24 +62,26 @@ def declared(lines):
     return found
 
 
+def constructors(declarations):
+    """The constructors of the data types among these declarations, each with the lines of its type."""
+    types = [lines for lines in declarations.values() if lines[0].startswith(("data ", "pub data "))]
+    return {found[1]: lines for lines in types for line in lines if (found := CONSTRUCTOR.match(line))}
+
+
 @cache
-def module(path):
-    """A module's declarations and imports; a constructor stands for its type."""
+def read_module(path):
+    """A module's declarations and imports; a constructor counts as its type."""
     file = CRATES / (path.replace(".", "/") + ".antt")
     if not file.is_file():
         return {}, {}
     lines = file.read_text().splitlines()
     own = declared(lines)
-    for name, text in list(own.items()):
-        if text[0].startswith(("data ", "pub data ")):
-            made = (line.split()[0] for line in text if line[0] == " " and line.split()[1:2] == [":"])
-            own.update({it: text for it in made if it not in own})
-    return own, imported(it for it in lines if it.startswith(("use", "pub use")))
+    return constructors(own) | own, imported(it for it in lines if it.startswith(("use", "pub use")))
 
 
 def find(path, name):
     """Where a name is declared that a module has or passes on; None if nowhere in the crates."""
-    own, brought = module(path)
+    own, brought = read_module(path)
     if name in own:
         return There(path, name)
     there = brought.get(name)
@@ -90,7 +93,7 @@ def named(text, brought, path=None):
     tokens = TOKEN.findall(text)
     for i, token in enumerate(tokens):
         there = brought.get(token)
-        if path and token in module(path)[0]:
+        if path and token in read_module(path)[0]:
             yield There(path, token)
         elif there and there.name is None:
             # A name of an imported module: R.rest is the tokens R, . and rest
@@ -114,7 +117,7 @@ def trusted(source, function, without=()):
     found, left = {}, list(named(*contract(source, function, without)))
     while left:
         if (there := left.pop()) and there not in found:
-            own, brought = module(there.module)
+            own, brought = read_module(there.module)
             found[there] = own[there.name]
             left += named("\n".join(found[there]), brought, there.module)
     return found
