@@ -20,7 +20,7 @@ pub const ANY: RangeCfg = RangeCfg {
     hi: usize::MAX,
 };
 
-// The result of a call: one of several types.
+// The result of a call, by its type.
 #[derive(Drop)]
 pub enum Given {
     Nothing,
@@ -38,14 +38,14 @@ pub enum Given {
 
 #[derive(Clone, Copy, Debug)]
 pub enum Costed {
-    // Of every reader.
+    // Of each reader.
     Advance,
     CopyToSlice,
     TryCopy,
     CopyToBytes,
     Chunks,
     TwoChunks,
-    // All but one.
+    // All chunks but one.
     ManyChunks,
     // Of readers whose bytes can be taken or peeked at.
     TakeView,
@@ -81,10 +81,10 @@ pub enum Costed {
     BytesOfBytes,
     OfBytesMut,
     PartOfBytes,
-    // Of one that another handle shares.
+    // Of a `Bytes` that another handle shares.
     PartOfSharedBytes,
     PartOfBytesMut,
-    // Of the front of one whose rest is another.
+    // Of a `BytesMut` that another one shares, the rest of its block.
     OfSharedBytesMut,
     PartOfSharedBytesMut,
     Capacity,
@@ -123,15 +123,16 @@ impl Costed {
     }
 }
 
-// The arguments of a call: a range from the start, zeros, its bytes, how they are cut, and they as writable buffers, or
-// as two halves of a block.
+// The arguments of a call.
 #[derive(Drop)]
 pub struct Args {
+    // The bounds of a range, its bytes, and the length of their chunks.
     lo: usize,
     hi: usize,
-    room: Vec<u8>,
     bytes: &'static [u8],
     len: usize,
+    // A list of zeros for these bytes, writable buffers of them, and two halves of a block that each hold them.
+    room: Vec<u8>,
     parts: Vec<IoBufMut>,
     halves: Option<(BytesMut, BytesMut)>,
 }
@@ -281,10 +282,10 @@ fn recovered(alloc: Global, view: &mut IoBuf) -> Given {
     }
 }
 
-// A view is made into `Bytes`, and handed back where that fails.
-fn into_bytes(alloc: Global, view: &mut IoBuf) -> Result<Given, BufError> {
-    match mem::take(view).into_bytes(alloc) {
-        Ok(bytes) => Ok(Given::Bytes(bytes)),
+// The result of a call that takes the view, and hands it back if an allocation fails.
+fn handed_back<T: Drop>(view: &mut IoBuf, made: Result<T, IoBuf>) -> Result<T, BufError> {
+    match made {
+        Ok(made) => Ok(made),
         Err(back) => {
             *view = back;
             Err(BufError::Memory)
@@ -292,14 +293,14 @@ fn into_bytes(alloc: Global, view: &mut IoBuf) -> Result<Given, BufError> {
     }
 }
 
+fn into_bytes(alloc: Global, view: &mut IoBuf) -> Result<Given, BufError> {
+    let made = mem::take(view).into_bytes(alloc);
+    Ok(Given::Bytes(handed_back(view, made)?))
+}
+
 fn into_part(alloc: Global, view: &mut IoBuf) -> Result<Given, BufError> {
-    match IoBufMut::from_view(alloc, mem::take(view)) {
-        Ok(part) => Ok(Given::Part(part)),
-        Err(back) => {
-            *view = back;
-            Err(BufError::Memory)
-        }
-    }
+    let made = IoBufMut::from_view(alloc, mem::take(view));
+    Ok(Given::Part(handed_back(view, made)?))
 }
 
 fn from_view(alloc: Global, call: Costed, view: IoBuf) -> Result<Given, BufError> {
@@ -587,17 +588,15 @@ impl Counted for IoBufs {
     }
 }
 
+fn take_part(alloc: Global, part: &mut IoBufMut) -> IoBufMut {
+    mem::replace(part, IoBufMut::default(alloc))
+}
+
 impl Counted for IoBufMut {
     fn make(&mut self, alloc: Global, call: Costed, args: &mut Args) -> Result<Given, BufError> {
         match call {
-            Costed::Freeze => {
-                let part = mem::replace(self, IoBufMut::default(alloc));
-                Ok(Given::View(part.freeze()?))
-            }
-            Costed::IntoText => {
-                let part = mem::replace(self, IoBufMut::default(alloc));
-                Ok(Given::Text(IoBufs::from_mut(part)?))
-            }
+            Costed::Freeze => Ok(Given::View(take_part(alloc, self).freeze()?)),
+            Costed::IntoText => Ok(Given::Text(IoBufs::from_mut(take_part(alloc, self))?)),
             Costed::Truncate => {
                 self.truncate(args.hi);
                 Ok(Given::Nothing)
@@ -623,8 +622,12 @@ fn put<B: BufMut>(into: &mut B, bytes: &[u8]) -> Result<Given, BufError> {
     Ok(Given::Nothing)
 }
 
+fn take_parts(alloc: Global, parts: &mut IoBufsMut) -> IoBufsMut {
+    mem::replace(parts, IoBufsMut::default(alloc))
+}
+
 fn single_part(alloc: Global, parts: &mut IoBufsMut) -> Given {
-    match mem::replace(parts, IoBufsMut::default(alloc)).try_into_single() {
+    match take_parts(alloc, parts).try_into_single() {
         Ok(part) => Given::Part(part),
         Err(back) => Given::Parts(back),
     }
@@ -633,14 +636,8 @@ fn single_part(alloc: Global, parts: &mut IoBufsMut) -> Given {
 impl Counted for IoBufsMut {
     fn make(&mut self, alloc: Global, call: Costed, args: &mut Args) -> Result<Given, BufError> {
         match call {
-            Costed::Freeze => {
-                let parts = mem::replace(self, IoBufsMut::default(alloc));
-                Ok(Given::Text(parts.freeze(alloc)?))
-            }
-            Costed::Coalesce => {
-                let parts = mem::replace(self, IoBufsMut::default(alloc));
-                Ok(Given::Part(parts.coalesce(alloc)?))
-            }
+            Costed::Freeze => Ok(Given::Text(take_parts(alloc, self).freeze(alloc)?)),
+            Costed::Coalesce => Ok(Given::Part(take_parts(alloc, self).coalesce(alloc)?)),
             Costed::Single => Ok(single_part(alloc, self)),
             Costed::FromParts => {
                 let parts = mem::replace(&mut args.parts, Vec::new(alloc));
