@@ -4,7 +4,6 @@
 --     AskAnswered
 --     MachineAnsweredFirst    the first n lines of the input were answered, whatever is in the others
 --     ServesMachine           what a session has read and written when it ends, by how it ends
---     HasMachineStatus        how it ends, by the program's status
 use Rattle.std.specs.Prelude.{◌≡◌, ◌⊎◌, ℕ, ◌+◌, List, Option, Some, None, Result, Ok, Err, ⊤}
 use Rattle.iobufs_owner.specs.Promises.{Promises}
 use Rattle.iobufs_owner.specs.State.{Seen}
@@ -15,7 +14,6 @@ use Rattle.iobuf.specs.Owner.Session.{AllStepsAnswered, StepsAnswered, StepsAnsw
 use Rattle.iobuf.specs.declared.words.LineError.{LineError}
 use Rattle.iobuf.specs.declared.words.LineError.TheVariants.{NoCommand, Memory}
 use Rattle.iobuf.specs.Faults.{Halts, IsTextAt}
-use Rattle.iobuf.specs.Stops.{stop_status}
 use Rattle.iobuf.specs.declared.fault.Stop.{Stop}
 use Rattle.iobuf.specs.declared.fault.Stop.TheVariants.{BadCommand, CannotContinue, OtherWords}
 
@@ -60,8 +58,3 @@ ServesMachine input before written (Err (BadCommand number)) = (count : ℕ) × 
     × IsTextAt input count
 ServesMachine input before written (Err (CannotContinue fault)) = Halts (MachineAnsweredFirst input before) input written fault
 ServesMachine input before written (Err OtherWords) = ⊥
-
--- how a session with the machine ends, by its status
-abbrev pub HasMachineStatus : (input before : List ℕ) → (written : Option (List ℕ)) → (status : ℕ) → Type 0
-HasMachineStatus input before written status =
-    (ended : Result (Unit {0}) Stop) × (status ≡ stop_status ended) × ServesMachine input before written ended

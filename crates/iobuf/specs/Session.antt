@@ -4,8 +4,7 @@
 --                                                 replies are written
 --     AllAnswered, AnsweredUpTo, AnsweredFirst    all lines, those up to the first that says no command, and the
 --                                                 first n
---     Serves, HasStatus                           what a session has read and written when it ends, by how it ends
---                                                 and by the program's status
+--     Serves                                      what a session has read and written when it ends, by how it ends
 --     AnswersLine, CommandAnswered                what one line makes of the names, and the line that it prints
 use Rattle.std.specs.Prelude.{◌≡◌, ℕ, ◌+◌, length, List, [], ◌∷◌, ◌++◌, map, flat_map, replicate, Option, Some, None, Result, Ok, Err, ⊤}
 use Rattle.std.specs.Borrow.{Bor}
@@ -21,7 +20,6 @@ use Rattle.iobuf.specs.Buffers.Said.{command_of}
 use Rattle.iobuf.specs.declared.words.LineError.{LineError}
 use Rattle.iobuf.specs.declared.words.LineError.TheVariants.{NoCommand, Memory}
 use Rattle.iobuf.specs.Faults.{Halts, IsTextAt}
-use Rattle.iobuf.specs.Stops.{stop_status}
 use Rattle.iobuf.specs.declared.fault.Stop.{Stop}
 use Rattle.iobuf.specs.declared.fault.Stop.TheVariants.{BadCommand, CannotContinue, OtherWords}
 
@@ -62,11 +60,6 @@ Serves input before written (Err (BadCommand number)) = (count : ℕ) × (number
     × IsTextAt input count
 Serves input before written (Err (CannotContinue fault)) = Halts (AnsweredFirst input before) input written fault
 Serves input before written (Err OtherWords) = ⊥
-
--- how a session ends, by its status
-abbrev pub HasStatus : List ℕ → List ℕ → Option (List ℕ) → ℕ → Type 0
-HasStatus input before written status =
-    (ended : Result (Unit {0}) Stop) × (status ≡ stop_status ended) × Serves input before written ended
 
 -- a line says a command, which is answered by one step, and its reply is printed
 pub record CommandAnswered (line : List ℕ) (old new : List Slot) (text : List ℕ) : Type 0 where
