@@ -1,72 +1,50 @@
 -- How a session of either half ends, once its replies are flushed.
-use Rattle.iobuf.proofs.Known.{refl, Bool, Err, IfSome, List, None, Ok, Option, Result, Some, [], inl, inr, replicate, ℕ, ◌∷◌, Keeps, Free, Halts, IsStopAt, MayEnd, ServesHalf, MachineAnsweredFirst, AnsweredFirst, commands_of, Obstacle, Memory, TooManyLines, Writing, Stop, BadCommand, CannotContinue, OtherWords, Half, Buffers, Machine}
+use Rattle.iobuf.proofs.Known.{refl, Bool, Err, IfSome, List, Ok, Option, Result, Some, [], inl, inr, lines, replicate, ℕ, ◌∷◌, Keeps, Free, Halts, IsStopAt, MayEnd, ServesBy, ServesHalf, most_lines, Memory, NotText, TooManyLines, Writing, Stop, BadCommand, CannotContinue, OtherWords, Half, Buffers, Machine}
 use Rattle.iobuf.proofs.Contents.{stays}
-use Rattle.iobuf.proofs.Going.{halted, where_known}
-use Rattle.iobuf.proofs.Sessions.{none_answered}
+use Rattle.iobuf.proofs.Going.{Ended, Laws, halted, where_known}
+use Rattle.iobuf.proofs.MachineLaws.{machine}
+use Rattle.iobuf.proofs.Sessions.{buffers, none_answered}
 
--- the first lines of an input were answered by a half
-abbrev FirstOf : Half → (input before : List ℕ) → ℕ → Option (List ℕ) → Type 0
-FirstOf Buffers = AnsweredFirst
-FirstOf Machine = MachineAnsweredFirst
-
--- all of their answers are written
-first_told : (half : Half) (input before : List ℕ) (written : Option (List ℕ)) (count : ℕ) → FirstOf half input before count written
-    → Halts (FirstOf half input before) input written Writing
-first_told Buffers input before written count (names, left, a) = halted (AnsweredFirst input before) input count _ written Writing a.prints
-    (names, left, a) tt
-first_told Machine input before written count (inl (start, e)) =
-    halted (MachineAnsweredFirst input before) input count before written Writing e (inl (start, e)) tt
-first_told Machine input before written count (inr (left, a)) =
-    halted (MachineAnsweredFirst input before) input count _ written Writing a.prints (inr (left, a)) tt
-
-halts_told : (half : Half) (input before : List ℕ) (written : Option (List ℕ)) (fault : Obstacle)
-    → Halts (FirstOf half input before) input written fault
-    → Halts (FirstOf half input before) input written Writing
-halts_told half input before written Writing s = s
-halts_told half input before written TooManyLines s = first_told half input before written _ s
-halts_told half input before written fault s = first_told half input before written s.0 s.1
+-- lines are answered, and their answers are written
+told : (k : Laws) (input before : List ℕ) (written : Option (List ℕ)) (count : ℕ) (rest : List (List ℕ))
+    → k.First input before count rest written → Halts (k.First input before) written Writing
+told k input before written count rest a =
+    let (bs, is) = k.known _ _ _ _ _ a in
+    halted (k.First input before) count rest bs written Writing is a tt
 
 -- however a session ends, what is written is a front of the answers
-so_far : (half : Half) (input before : List ℕ) (written : Option (List ℕ)) (served : Result (Unit {0}) Stop)
-    → ServesHalf half input before written served
-    → Halts (FirstOf half input before) input written Writing
-so_far Buffers input before written (Ok done) (count, names, a) = first_told Buffers input before written count (names, [], a)
-so_far Machine input before written (Ok done) (inl none) = first_told Machine input before written 0 (inl (refl, none.prints))
-so_far Machine input before written (Ok done) (inr (count, a)) = first_told Machine input before written count (inr ([], a))
-so_far Buffers input before written (Err (BadCommand number)) (count, next, (names, left, a), text) =
-    first_told Buffers input before written count (names, None ∷ left, a)
-so_far Machine input before written (Err (BadCommand number)) (count, next, inl (start, none), text) =
-    first_told Machine input before written count (inl (start, none.prints))
-so_far Machine input before written (Err (BadCommand number)) (count, next, inr (left, a), text) =
-    first_told Machine input before written count (inr (None ∷ left, a))
-so_far Buffers input before written (Err (CannotContinue fault)) s = halts_told Buffers input before written fault s
-so_far Machine input before written (Err (CannotContinue fault)) s = halts_told Machine input before written fault s
-so_far Buffers input before written (Err OtherWords) s = absurd s
-so_far Machine input before written (Err OtherWords) s = absurd s
+so_far : (k : Laws) (input before : List ℕ) (written : Option (List ℕ)) (served : Result (Unit {0}) Stop)
+    → ServesBy (k.First input before) k.Nothing written served → Halts (k.First input before) written Writing
+so_far k input before written (Err (CannotContinue Writing)) s = s
+so_far k input before written (Err OtherWords) s = absurd s
+so_far k input before written (Ok done) (count, a) = told k input before written count [] a
+so_far k input before written (Err (BadCommand number)) (count, line, rest, next, a, none, text) =
+    told k input before written count (line ∷ rest) a
+so_far k input before written (Err (CannotContinue NotText)) (count, line, rest, a, bad) = told k input before written count (line ∷ rest) a
+so_far k input before written (Err (CannotContinue TooManyLines)) (rest, a) = told k input before written most_lines rest a
+so_far k input before written (Err (CannotContinue fault)) s = told k input before written s.0 s.1 s.2
 
--- a half that could not write on
-not_sent : (half : Half) (input before : List ℕ) (written : Option (List ℕ)) → Halts (FirstOf half input before) input written Writing
-    → ServesHalf half input before written (Err (CannotContinue Writing))
-not_sent Buffers input before written halts = halts
-not_sent half input before written halts = halts
+unsent_by : (k : Laws) (read told written new : Option (List ℕ)) (served : Result (Unit {0}) Stop) → Ended k read told written served
+    → Keeps written new → Ended k read told new (Err (CannotContinue Writing))
+unsent_by k read told written new served s keeps =
+    where_known read told s (λ input before s.
+    let halts = so_far k input before written served s in
+    let (count, rest, whole, first, front) = halts in
+    stays (λ w. Halts (k.First input before) w Writing) front.front written new front.written_is keeps halts)
 
 -- a half that served its input up to where it stopped, and whose replies then couldn't be flushed, ends with what is written as it was, by
 -- a fault of writing
 pub unsent : (half : Half) (read told written new : Option (List ℕ)) (served : Result (Unit {0}) Stop)
     → IfSome read (λ input. IfSome told (λ before. ServesHalf half input before written served)) → Keeps written new
     → IfSome read (λ input. IfSome told (λ before. ServesHalf half input before new (Err (CannotContinue Writing))))
-unsent half read told written new served s keeps =
-    where_known read told s (λ input before s.
-    let halts = so_far half input before written served s in
-    let (count, bytes, first, front) = halts in
-    not_sent half input before new
-    (stays (λ w. Halts (FirstOf half input before) input w Writing) front.front written new front.written_is keeps halts))
+unsent Buffers read told written new served s keeps = unsent_by buffers read told written new served s keeps
+unsent Machine read told written new served s keeps = unsent_by machine read told written new served s keeps
 
 -- nothing was read, for a failed allocation
 pub not_begun : (half : Half) (read told : Option (List ℕ))
     → IfSome read (λ input. IfSome told (λ before. ServesHalf half input before told (Err (CannotContinue Memory))))
-not_begun Buffers (Some input) (Some before) = (0, (replicate 16 Free, commands_of input, none_answered input before))
-not_begun Machine (Some input) (Some before) = (0, inl (refl, refl))
+not_begun Buffers (Some input) (Some before) = (0, lines input, (replicate 16 Free, none_answered input before))
+not_begun Machine (Some input) (Some before) = (0, lines input, inl (refl, refl, refl))
 not_begun half read told = tt
 
 -- nothing was read, for a failed allocation, and what was held is flushed

@@ -9,8 +9,8 @@ pub use Rattle.std.proofs.lemmas.Bool.Decides.{nat_tests}
 pub use Rattle.std.proofs.lemmas.Fmt.{decimal-digits_value, decimal_injective, decimal_is_IsNumeral}
 pub use Rattle.std.proofs.lemmas.Grind.{common_steps, flat_map-append}
 pub use Rattle.std.proofs.lemmas.Int.Digits.{digits_more, digits_value_more, digits_value_push}
-pub use Rattle.std.proofs.lemmas.List.{append_cancel_right, flat_map_more, length-drop, length-map, length-take-le, nil_from_length}
-pub use Rattle.std.proofs.lemmas.List.{take_more, take_rest}
+pub use Rattle.std.proofs.lemmas.List.{append_cancel_right, flat_map_more, length-drop, length-map, length-take-le, map-append}
+pub use Rattle.std.proofs.lemmas.List.{nil_from_length, take_more, take_rest}
 pub use Rattle.std.proofs.lemmas.List.Splits.{join_with_byte-slice_split, length-slice_split}
 pub use Rattle.std.proofs.lemmas.Option.{cond_some, get_or_from_slice_get, option_and_then_some, slice_get_within}
 pub use Rattle.std.proofs.lemmas.Slice.Eq.{bytes_eq-Decides, text_from_reads}
@@ -93,12 +93,12 @@ pub use Rattle.iobuf.specs.declared.owner.line.Ask.{Ask}
 pub use Rattle.iobuf.specs.declared.owner.line.Ask.TheVariants.{Look, Take}
 pub use Rattle.iobuf.specs.declared.owner.line.Question.TheVariants.{Freed, Handle, Record}
 pub use Rattle.iobuf.specs.declared.owner.line.Setup.{Setup}
-pub use Rattle.iobuf.specs.Faults.{Halts, IsStopAt, IsTextAt, MayEnd, ReadFails, Takes, most_lines}
+pub use Rattle.iobuf.specs.Faults.{Halts, IsStopAt, MayEnd, ReadFails, ServesBy, Takes, most_lines}
 pub use Rattle.iobuf.specs.Halves.{ServesHalf}
 pub use Rattle.iobuf.specs.Lines.{TakesLine, line_text}
-pub use Rattle.iobuf.specs.MachineSession.{AskAnswered, MachineAnsweredFirst, MachineMade, MakesMachine, ServesMachine}
+pub use Rattle.iobuf.specs.MachineSession.{AskAnswered, AsksNothing, MachineAnsweredFirst, MachineMade}
 pub use Rattle.iobuf.specs.Reading.{input_left, last_line, left_after}
-pub use Rattle.iobuf.specs.Session.{Answered, AnsweredFirst, CommandAnswered, Serves, commands_of}
+pub use Rattle.iobuf.specs.Session.{Answered, AnsweredFirst, CommandAnswered}
 pub use Rattle.iobuf.specs.declared.fault.Obstacle.{Obstacle}
 pub use Rattle.iobuf.specs.declared.fault.Obstacle.TheVariants.{Memory, NotText, TooManyLines, Writing}
 pub use Rattle.iobuf.specs.declared.fault.Stop.{Stop}

@@ -1,14 +1,16 @@
 -- A session with named buffers.
-use Rattle.iobuf.proofs.Known.{refl, List, Option, Some, [], ap, append-nil, arith, flat_map, length-append, map, replicate, sym, ℕ, ◌++◌, ◌+◌, ◌∙◌, ◌∷◌, ◌≡◌, flat_map_more, Appends, Command, plain, reply_line, command_of, Slot, Free, Answered, AnsweredFirst, CommandAnswered, Serves, commands_of}
+use Rattle.iobuf.proofs.Known.{refl, List, Option, Some, [], ap, append-nil, append_assoc, arith, flat_map, length-append, lines, None, replicate, sym, ℕ, ◌++◌, ◌+◌, ◌∙◌, ◌∷◌, ◌≡◌, flat_map_more, Appends, plain, reply_line, command_of, Slot, Free, Answered, AnsweredFirst, CommandAnswered}
 use Rattle.iobufs_run.proofs.RunLaws.{run_more}
 use Rattle.iobuf.proofs.Contents.{line_more}
-use Rattle.iobuf.proofs.Going.{Going, Laws, said_more}
+use Rattle.iobuf.proofs.Going.{Laws, said_more}
 
 -- at first no line is answered, nothing but what was there before is written, and all 16 names are free
-pub none_answered : (input before : List ℕ) → Answered input before (commands_of input) (Some before) 0 (replicate 16 Free)
+pub none_answered : (input before : List ℕ) → Answered input before 0 (lines input) (Some before) (replicate 16 Free)
 none_answered input before = record {
+  front = [];
   commands = [];
   replies = [];
+  split = refl;
   counts = refl;
   say = refl;
   run = refl;
@@ -17,19 +19,20 @@ none_answered input before = record {
 }
 
 -- one more is answered
-pub answered_more : (input before line reply : List ℕ) (left : List (Option Command)) (written new : Option (List ℕ)) (count : ℕ)
+pub answered_more : (input before line reply : List ℕ) (rest : List (List ℕ)) (written new : Option (List ℕ)) (count : ℕ)
     (names after : List Slot)
-    → Answered input before (command_of line ∷ left) written count names → CommandAnswered line names after reply
+    → Answered input before count (line ∷ rest) written names → CommandAnswered line names after reply
     → Appends written new reply
-    → Answered input before left new (count + 1) after
-answered_more input before line reply left written new count names after a c e =
+    → Answered input before (count + 1) rest new after
+answered_more input before line reply rest written new count names after a c e =
     let bs = before ++ flat_map reply_line a.replies in
     record {
+      front = a.front ++ line ∷ [];
       commands = a.commands ++ c.command ∷ [];
       replies = a.replies ++ c.reply ∷ [];
-      counts = omega (arith, a.counts, length-append a.commands (c.command ∷ []));
-      say = a.say ∙ ap (λ o. map (λ c. Some (plain c)) a.commands ++ o ∷ left) c.says
-          ∙ said_more (λ c. Some (plain c)) a.commands c.command left;
+      split = a.split ∙ sym (append_assoc a.front (line ∷ []) rest);
+      counts = omega (arith, a.counts, length-append a.front (line ∷ []));
+      say = said_more command_of (λ c. Some (plain c)) a.front a.commands line c.command a.say c.says;
       run = run_more a.commands a.replies (replicate 16 Free) names after c.command c.reply a.run c.step;
       prints = line_more bs reply written new a.prints e ∙ ap (λ l. Some (bs ++ l)) c.prints
           ∙ ap Some (flat_map_more reply_line before a.replies c.reply);
@@ -38,32 +41,14 @@ answered_more input before line reply left written new count names after a c e =
 -- the half of named buffers
 abbrev pub buffers : Laws
 buffers = record {
-  Said = Command;
   State = List Slot;
-  says = command_of;
   Answers = CommandAnswered;
+  SaysNone = λ names line. command_of line ≡ None;
   Answered = Answered;
   First = AnsweredFirst;
-  Serves = Serves;
-  printed = λ input before left written count names a. (before ++ flat_map reply_line a.replies, a.prints);
+  Nothing = λ count line. command_of line ≡ None;
   more = answered_more;
-  first = λ input before left written count names a. (names, left, a);
-  all = λ input before written count names a. (count, names, a);
-  stops = λ input before left written count number names a next text. (count, next, (names, left, a), text);
-  halts = λ input before written fault h. h;
+  first = λ input before count rest written names a. (names, a);
+  known = λ input before count rest written a. (before ++ flat_map reply_line a.1.replies, a.1.prints);
+  none = λ input before line count rest written names a none. none;
 }
-
--- a session begins with line 1 as the next, nothing read or written, and 16 free names
-pub begins : (read told : Option (List ℕ)) (names : List Slot) → names ≡ replicate 16 Free → Going buffers read told [] read told 1 names
-begins (Some input) (Some before) names e =
-    rw e (record {
-      rest = input;
-      count = 0;
-      front = [];
-      left_is = refl;
-      number_is = refl;
-      split = refl;
-      counts = refl;
-      answered = none_answered input before;
-    })
-begins read told names e = tt

@@ -4,15 +4,14 @@
 --                              it may end then
 --     Takes                    what a writer has got of some bytes: all of them, a prefix if it failed, nothing if an
 --                              allocation failed
---     LineAt, IsTextAt         a line of the input by its number, and that it is UTF-8
 --     IsStopAt                 why a session ends at a line that says nothing
 --     IsFrontOf                what is known to be written is a prefix of these bytes
 --     most_lines               the most lines that a session counts: a longer input can't be served to its end
 --     Halts                    where a session was when it met a fault: the lines answered, and what of their replies
 --                              is written
-use Rattle.std.specs.Prelude.{◌≡◌, ◌⊎◌, ℕ, ◌-◌, ◌^◌, Bool, true, take, length, List, ◌∷◌, ◌++◌, Option, Some, Result, Ok, Err, IsUtf8, ⊤}
+--     ServesBy                 what a session has read and written when it ends, by how it ends
+use Rattle.std.specs.Prelude.{◌≡◌, ◌⊎◌, ℕ, ◌+◌, ◌-◌, ◌^◌, Bool, true, take, List, [], ◌∷◌, ◌++◌, Option, Some, Result, Ok, Err, IsUtf8, ⊤}
 use Rattle.std.specs.Io.KnownBytes.{Appends, Keeps}
-use Rattle.std.specs.Str.Lines.{lines}
 use Rattle.iobuf.specs.declared.fault.Obstacle.{Obstacle}
 use Rattle.iobuf.specs.declared.fault.Obstacle.TheVariants.{Reading, Writing, Memory, NotText, TooManyLines}
 use Rattle.iobuf.specs.declared.fault.Stop.{Stop}
@@ -50,17 +49,6 @@ Takes old new text (Err Memory) = Keeps old new
 Takes old new text (Err NotText) = ⊥
 Takes old new text (Err TooManyLines) = ⊥
 
--- the line after `count` others
-pub record LineAt (input : List ℕ) (count : ℕ) (line : List ℕ) : Type 0 where
-  pub front : List (List ℕ)
-  pub behind : List (List ℕ)
-  pub split : lines input ≡ front ++ line ∷ behind
-  pub counts : length front ≡ count
-
--- the line after `count` others is UTF-8
-abbrev pub IsTextAt : (input : List ℕ) → (count : ℕ) → Type 0
-IsTextAt input count = (line : List ℕ) × LineAt input count line × IsUtf8 line
-
 -- a session ends at the line of this number, which says nothing: it is no command if it is UTF-8, and else no text
 abbrev pub IsStopAt : (line : List ℕ) → (number : ℕ) → Stop → Type 0
 IsStopAt line number stop = (IsUtf8 line × (stop ≡ BadCommand number)) ⊎ ((IsUtf8 line → ⊥) × (stop ≡ CannotContinue NotText))
@@ -76,11 +64,26 @@ pub record IsFrontOf (whole : List ℕ) (written : Option (List ℕ)) : Type 0 w
 abbrev pub most_lines : ℕ
 most_lines = 2 ^ 64 - 2
 
--- A session that can't go on, by what failed. `answered count written` says that the first `count` lines of the input
--- were answered, and that the writer holds `written`
-abbrev pub Halts : (answered : ℕ → Option (List ℕ) → Type 0) → (input : List ℕ) → (written : Option (List ℕ)) → Obstacle → Type 0
-Halts answered input written Reading = (count : ℕ) × answered count written
-Halts answered input written Writing = (count : ℕ) × (whole : List ℕ) × answered count (Some whole) × IsFrontOf whole written
-Halts answered input written Memory = (count : ℕ) × answered count written
-Halts answered input written NotText = (count : ℕ) × answered count written × (line : List ℕ) × LineAt input count line × (IsUtf8 line → ⊥)
-Halts answered input written TooManyLines = answered most_lines written
+-- A session that can't go on, by what failed. `answered count rest written` says that the first `count` lines of the input were
+-- answered, that `rest` are the others, and that the writer holds `written`
+abbrev pub Halts : (answered : ℕ → List (List ℕ) → Option (List ℕ) → Type 0) → (written : Option (List ℕ)) → Obstacle → Type 0
+Halts answered written Reading = (count : ℕ) × (rest : List (List ℕ)) × answered count rest written
+Halts answered written Writing =
+    (count : ℕ) × (rest : List (List ℕ)) × (whole : List ℕ) × answered count rest (Some whole) × IsFrontOf whole written
+Halts answered written Memory = (count : ℕ) × (rest : List (List ℕ)) × answered count rest written
+Halts answered written NotText =
+    (count : ℕ) × (line : List ℕ) × (rest : List (List ℕ)) × answered count (line ∷ rest) written × (IsUtf8 line → ⊥)
+Halts answered written TooManyLines = (rest : List (List ℕ)) × answered most_lines rest written
+
+-- At the end of the input each line was answered, at a line that says nothing each before it, and that line is text.
+-- Where a session can't go on, lines were answered up to there
+abbrev pub ServesBy : (answered : ℕ → List (List ℕ) → Option (List ℕ) → Type 0) → (says_nothing : ℕ → List ℕ → Type 0)
+    → (written : Option (List ℕ)) → Result (Unit {0}) Stop → Type 0
+ServesBy answered says_nothing written (Ok done) = (count : ℕ) × answered count [] written
+ServesBy answered says_nothing written (Err (BadCommand number)) = (count : ℕ) × (line : List ℕ) × (rest : List (List ℕ))
+    × (number ≡ count + 1)
+    × answered count (line ∷ rest) written
+    × says_nothing count line
+    × IsUtf8 line
+ServesBy answered says_nothing written (Err (CannotContinue fault)) = Halts answered written fault
+ServesBy answered says_nothing written (Err OtherWords) = ⊥

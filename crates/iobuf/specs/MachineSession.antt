@@ -2,22 +2,21 @@
 --     MakesMachine, MachineMade           the first line makes the machine that it asks for, or asks for none
 --     AnswersMachineLine,     what one further line makes of the machine, and the line that it prints
 --     AskAnswered
---     MachineAnsweredFirst    the first n lines of the input were answered, whatever is in the others
+--     MachineAnsweredFirst    the first n lines of the input were answered
+--     AsksNothing             a line asks for nothing
 --     ServesMachine           what a session has read and written when it ends, by how it ends
---     HasMachineStatus        how it ends, by the program's status
-use Rattle.std.specs.Prelude.{◌≡◌, ◌⊎◌, ℕ, ◌+◌, List, Option, Some, None, Result, Ok, Err, ⊤}
+use Rattle.std.specs.Prelude.{◌≡◌, ◌⊎◌, ℕ, zero, suc, List, Option, Some, None, Result, Ok, Err, ⊤}
+use Rattle.std.specs.Str.Lines.{lines}
 use Rattle.iobufs_owner.specs.Promises.{Promises}
 use Rattle.iobufs_owner.specs.State.{Seen}
 use Rattle.iobuf.specs.declared.owner.line.Ask.{Ask}
 use Rattle.iobuf.specs.declared.owner.line.Setup.{Setup}
 use Rattle.iobuf.specs.Owner.Said.{ask_of, setup_of}
-use Rattle.iobuf.specs.Owner.Session.{AllStepsAnswered, StepsAnswered, StepsAnsweredUpTo, Answers, with_line_end, machine_of}
+use Rattle.iobuf.specs.Owner.Session.{StepsAnswered, Answers, with_line_end, machine_of}
 use Rattle.iobuf.specs.declared.words.LineError.{LineError}
 use Rattle.iobuf.specs.declared.words.LineError.TheVariants.{NoCommand, Memory}
-use Rattle.iobuf.specs.Faults.{Halts, IsTextAt}
-use Rattle.iobuf.specs.Stops.{stop_status}
+use Rattle.iobuf.specs.Faults.{ServesBy}
 use Rattle.iobuf.specs.declared.fault.Stop.{Stop}
-use Rattle.iobuf.specs.declared.fault.Stop.TheVariants.{BadCommand, CannotContinue, OtherWords}
 
 -- a line asks for a machine, which is made as it is promised
 pub record MachineMade (line : List ℕ) (m : Seen) : Type 0 where
@@ -46,22 +45,16 @@ AnswersMachineLine line old new printed (Ok done) = AskAnswered line old new pri
 AnswersMachineLine line old new printed (Err NoCommand) = ask_of line ≡ None
 AnswersMachineLine line old new printed (Err Memory) = ⊤
 
--- so many lines were answered, whatever the others ask; where none was, nothing is written
-abbrev pub MachineAnsweredFirst : (input before : List ℕ) → ℕ → Option (List ℕ) → Type 0
-MachineAnsweredFirst input before count written =
-    ((count ≡ 0) × (written ≡ Some before)) ⊎ ((left : List (Option Ask)) × StepsAnswered input before left written count)
+-- the first `count` lines were answered: none, and nothing is written, or the first made a machine
+abbrev pub MachineAnsweredFirst : (input before : List ℕ) → ℕ → List (List ℕ) → Option (List ℕ) → Type 0
+MachineAnsweredFirst input before count rest written =
+    ((count ≡ 0) × (lines input ≡ rest) × (written ≡ Some before)) ⊎ StepsAnswered input before count rest written
 
--- At the end of the input each line was answered, at a line that asks nothing each before it, and that line is text.
--- Where a session can't go on, lines were answered up to there
+-- the line after `count` others asks for nothing: the first for no machine, another one for no step or answer
+abbrev pub AsksNothing : (count : ℕ) → (line : List ℕ) → Type 0
+AsksNothing zero line = setup_of line ≡ None
+AsksNothing (suc count) line = ask_of line ≡ None
+
+-- a session ends: each line that was answered asks for something, and a bad command is a line that asks for nothing
 abbrev pub ServesMachine : (input before : List ℕ) → (written : Option (List ℕ)) → Result (Unit {0}) Stop → Type 0
-ServesMachine input before written (Ok done) = AllStepsAnswered input before written
-ServesMachine input before written (Err (BadCommand number)) = (count : ℕ) × (number ≡ count + 1)
-    × StepsAnsweredUpTo count input before written
-    × IsTextAt input count
-ServesMachine input before written (Err (CannotContinue fault)) = Halts (MachineAnsweredFirst input before) input written fault
-ServesMachine input before written (Err OtherWords) = ⊥
-
--- how a session with the machine ends, by its status
-abbrev pub HasMachineStatus : (input before : List ℕ) → (written : Option (List ℕ)) → (status : ℕ) → Type 0
-HasMachineStatus input before written status =
-    (ended : Result (Unit {0}) Stop) × (status ≡ stop_status ended) × ServesMachine input before written ended
+ServesMachine input before = ServesBy (MachineAnsweredFirst input before) AsksNothing

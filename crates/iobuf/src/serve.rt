@@ -1,12 +1,10 @@
 // A session of either half, over any reader and writers.
-ghost use Rattle.std.specs.Prelude.{◌≡◌, ◌≢◌, [], ◌∷◌, codes, map, true, false, Ok, Err, Some, None, IfErr, IfNone, IfSome, IsOk, OnOk};
+ghost use Rattle.std.specs.Prelude.{◌≡◌, ◌≢◌, [], ◌∷◌, codes, map, false, Some, Result, IfErr, IfNone, IfSome, IsOk, OnOk};
 ghost use Rattle.std.specs.Io.KnownBytes.{Appends};
 ghost use Rattle.iobuf.specs.Faults.{MayEnd};
-ghost use Rattle.iobuf.specs.Halves.{ServesHalf, half_word};
-ghost use Rattle.iobuf.specs.MachineSession.{HasMachineStatus, ServesMachine};
-ghost use Rattle.iobuf.specs.Session.{HasStatus, Serves};
-ghost use Rattle.iobuf.specs.Stops.{IsFlushed, IsStatus, stop_line};
-ghost use Rattle.iobuf.specs.declared.fault.Stop.TheVariants.{OtherWords};
+ghost use Rattle.iobuf.specs.Halves.{SessionEnds, ServesHalf, half_word};
+ghost use Rattle.iobuf.specs.Stops.{IsFlushed, stop_line, stop_status};
+ghost use Rattle.iobuf.specs.declared.fault.Stop.{Stop};
 
 use crate::fault::{Obstacle, Stop, status, tell};
 use crate::input::{InMemory, Input, Source};
@@ -104,28 +102,21 @@ fn half_of(args: &[&str]) -> Option<Half>
     }
 }
 
-/// Runs the program on the words after its name, and tells `errors` why it ends before the end of the input. Beside
-/// the reason stands whether `errors` took what it was told.
-pub fn session<R: Read + Drop, W: Write, E: Write>(
+// Serves the words after the program's name, and tells `errors` why it ends before the end of the input. Returns
+// beside the reason whether `errors` took it.
+fn session<R: Read + Drop, W: Write, E: Write>(
     alloc: Global,
     args: &[&str],
     input: &mut R,
     output: &mut Output<W>,
     errors: &mut E,
 ) -> (Result<(), Stop>, io::Result<()>)
-    ensures buffers { map (λ arg. arg.now) args.now ≡ codes "buf" ∷ [] → IfSome (R.remaining input.old) (λ read.
-        IfSome (W.contents output.old.writer) (λ before. Serves read before (W.contents output.new.writer) result.0)) }
-    ensures machine { map (λ arg. arg.now) args.now ≡ codes "owner" ∷ [] → IfSome (R.remaining input.old) (λ read.
-        IfSome (W.contents output.old.writer) (λ before.
-        ServesMachine read before (W.contents output.new.writer) result.0)) }
-    ensures usage { map (λ arg. arg.now) args.now ≢ codes "buf" ∷ []
-        → map (λ arg. arg.now) args.now ≢ codes "owner" ∷ []
-        → (result.0 ≡ Err OtherWords) × (input.new ≡ input.old) × (output.new ≡ output.old) }
-    ensures sent { OnOk result.0 (output.new.is_sent ≡ true) }
-    ensures flushed { IsFlushed result.0 output.new.is_sent }
+    ensures ends { SessionEnds W.contents (map (λ arg. arg.now) args.now) (R.remaining input.old) output.old output.new
+        errors.old errors.new result.0 }
+    ensures unread { map (λ arg. arg.now) args.now ≢ codes "buf" ∷ []
+        → map (λ arg. arg.now) args.now ≢ codes "owner" ∷ [] → input.new ≡ input.old }
     ensures told { IfErr result.0 (λ stop. OnOk result.1
         (Appends (E.contents errors.old) (E.contents errors.new) (stop_line stop))) }
-    ensures silent { OnOk result.0 (errors.new ≡ errors.old) }
     ensures nothing_told { OnOk result.0 (IsOk result.1) }
 {
     let ended = match half_of(args) {
@@ -139,7 +130,8 @@ pub fn session<R: Read + Drop, W: Write, E: Write>(
     (ended, told)
 }
 
-/// The status of a session. A fault in writing to `errors` changes nothing.
+/// Runs the program on the words after its name, and returns its status. A fault in writing to `errors` changes
+/// nothing.
 pub fn serve<R: Read + Drop, W: Write, E: Write>(
     alloc: Global,
     args: &[&str],
@@ -147,17 +139,9 @@ pub fn serve<R: Read + Drop, W: Write, E: Write>(
     output: &mut Output<W>,
     errors: &mut E,
 ) -> u8
-    ensures known { IsStatus result }
-    ensures buffers { map (λ arg. arg.now) args.now ≡ codes "buf" ∷ [] → IfSome (R.remaining input) (λ read.
-        IfSome (W.contents output.old.writer) (λ before. HasStatus read before (W.contents output.new.writer) result)) }
-    ensures machine { map (λ arg. arg.now) args.now ≡ codes "owner" ∷ [] → IfSome (R.remaining input) (λ read.
-        IfSome (W.contents output.old.writer) (λ before.
-        HasMachineStatus read before (W.contents output.new.writer) result)) }
-    ensures usage { map (λ arg. arg.now) args.now ≢ codes "buf" ∷ []
-        → map (λ arg. arg.now) args.now ≢ codes "owner" ∷ []
-        → (result ≡ 2) × (output.new ≡ output.old) }
-    ensures sent { result ≡ 0 → output.new.is_sent ≡ true }
-    ensures silent { result ≡ 0 → errors.new ≡ errors.old }
+    ensures ends { (ended : Result (Unit {0}) Stop) × (result ≡ stop_status ended)
+        × SessionEnds W.contents (map (λ arg. arg.now) args.now) (R.remaining input) output.old output.new
+        errors.old errors.new ended }
 {
     let mut input = input;
     let (ended, _) = session(alloc, args, &mut input, output, errors);

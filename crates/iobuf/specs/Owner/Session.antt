@@ -6,10 +6,8 @@
 --     with_line_end                       a text as a line
 --     StepsAnswered                      the first n lines made a machine and asked it something, and `ok` and the answers
 --                                   are written
---     HasNoLine, AsksForNone          there is no line, or the first makes no machine: nothing is written
---     AllStepsAnswered, StepsAnsweredUpTo     all lines were answered, or all up to the first that asks nothing
 --     steps_of, answers_to_steps    what was asked without its questions, and the answers to these steps
-use Rattle.std.specs.Prelude.{◌≡◌, ◌⊎◌, ℕ, ◌+◌, if◌then◌else◌, List, [], ◌∷◌, ◌++◌, map, flat_map, length, codes, Option, Some, None}
+use Rattle.std.specs.Prelude.{◌≡◌, ◌⊎◌, ℕ, ◌+◌, if◌then◌else◌, List, [], ◌∷◌, ◌++◌, map, flat_map, length, codes, Option, Some}
 use Rattle.std.specs.Str.Lines.{lines}
 use Rattle.iobufs_owner.specs.declared.owner.types.Reply.{Reply}
 use Rattle.iobufs_owner.specs.declared.owner.types.Step.{Step}
@@ -50,47 +48,24 @@ AreAnswered m (ask ∷ asks) [] next = ⊥
 abbrev pub with_line_end : List ℕ → List ℕ
 with_line_end text = text ++ codes "\n"
 
--- The first `count` lines of the input are answered, and `left` has the requests of the others. The first line asks for
--- a machine, those after it ask something of it. The writer holds the bytes `before`, `ok`, and the answers, a line
--- each. At the end the machine is as promised.
-pub record StepsAnswered (input before : List ℕ) (left : List (Option Ask)) (written : Option (List ℕ)) (count : ℕ) : Type 0 where
+-- The first `count` lines of the input are answered: `first` asks for a machine, those in `front` ask something of it, and `rest` are the
+-- others. The writer holds the bytes `before`, `ok`, and the answers, a line each. At the end the machine is as promised.
+pub record StepsAnswered (input before : List ℕ) (count : ℕ) (rest : List (List ℕ)) (written : Option (List ℕ)) : Type 0 where
   pub first : List ℕ
-  pub others : List (List ℕ)
+  pub front : List (List ℕ)
   pub setup : Setup
   pub begin : Seen
   pub end : Seen
   pub asks : List Ask
   pub texts : List (List ℕ)
-  pub split : lines input ≡ first ∷ others
+  pub split : lines input ≡ first ∷ front ++ rest
+  pub counts : length front + 1 ≡ count
   pub asks_for : setup_of first ≡ Some setup
   pub begins : begin.state ≡ machine_of setup
-  pub say : map ask_of others ≡ map (λ ask. Some ask) asks ++ left
-  pub counts : length asks + 1 ≡ count
+  pub say : map ask_of front ≡ map (λ ask. Some ask) asks
   pub answers : AreAnswered begin asks texts end
   pub promises : Promises end.state
   pub prints : written ≡ Some (before ++ with_line_end (codes "ok") ++ flat_map with_line_end texts)
-
--- there is no line, and nothing is written
-pub record HasNoLine (input before : List ℕ) (written : Option (List ℕ)) : Type 0 where
-  pub split : lines input ≡ []
-  pub prints : written ≡ Some before
-
--- the first line asks for no machine, and nothing is written
-pub record AsksForNone (input before : List ℕ) (written : Option (List ℕ)) : Type 0 where
-  pub first : List ℕ
-  pub others : List (List ℕ)
-  pub split : lines input ≡ first ∷ others
-  pub asks_for : setup_of first ≡ None
-  pub prints : written ≡ Some before
-
--- each line, if there is one, was answered
-abbrev pub AllStepsAnswered : (input before : List ℕ) → (written : Option (List ℕ)) → Type 0
-AllStepsAnswered input before written = HasNoLine input before written ⊎ ((count : ℕ) × StepsAnswered input before [] written count)
-
--- `count` lines were answered, and the next one asks nothing
-abbrev pub StepsAnsweredUpTo : (count : ℕ) → (input before : List ℕ) → (written : Option (List ℕ)) → Type 0
-StepsAnsweredUpTo count input before written =
-    ((count ≡ 0) × AsksForNone input before written) ⊎ ((left : List (Option Ask)) × StepsAnswered input before (None ∷ left) written count)
 
 -- ---- steps among what is asked
 

@@ -1,7 +1,7 @@
-use Rattle.iobuf.proofs.Known.{arith, refl, ap, ◌∙◌, Buffers, line_text}
+use Rattle.iobuf.proofs.Known.{arith, refl, ap, sym, subst, List, ◌∙◌, lines, Some, Answered, Slot, Buffers, line_text}
 use Rattle.iobuf.proofs.Endings.{not_begun}
-use Rattle.iobuf.proofs.Going.{all_answered, line_answered, line_read, no_memory, not_read, not_written, stops_at, too_many}
-use Rattle.iobuf.proofs.Sessions.{begins, buffers}
+use Rattle.iobuf.proofs.Going.{all_answered, begins, line_answered, line_read, no_memory, not_read, not_written, stops_at, too_many}
+use Rattle.iobuf.proofs.Sessions.{buffers, none_answered}
 use Rattle.iobuf.proofs.buffers.answer_lines.Goals as goal
 
 pub returns-in_default-clause-serves : goal.returns-in_default-clause-serves
@@ -9,7 +9,9 @@ returns-in_default-clause-serves g c = not_begun Buffers (g.I.Source.unread c.ar
 
 pub loop-number-init : goal.loop-number-init
 loop-number-init g c =
-    begins (g.I.Source.unread c.args.input.now) (g.O.Sink.contents c.args.output.now) c.in-Ok.table c.in-Ok.ensures.ok
+    begins buffers c.in-Ok.table (g.I.Source.unread c.args.input.now) (g.O.Sink.contents c.args.output.now) (λ input before.
+    subst (λ (names : List Slot). Answered input before 0 (lines input) (Some before) names) (sym c.in-Ok.ensures.ok)
+    (none_answered input before))
 
 pub returns-in-Ok-false-clause-serves : goal.returns-in-Ok-false-clause-serves
 returns-in-Ok-false-clause-serves g c =

@@ -1,34 +1,52 @@
-use Rattle.iobuf.proofs.Known.{ℕ, List, Err, arith, refl, ap, subst, ◌∙◌, Appends, Takes, line_text}
+use Rattle.iobuf.proofs.Known.{ℕ, List, [], Option, Some, None, Err, arith, refl, ap, subst, ◌∙◌, Appends, Takes, line_text}
 use Rattle.iobuf.proofs.Endings.{may_stop}
-use Rattle.iobuf.proofs.Going.{all_answered, line_answered, line_read, no_memory, not_read, not_written, stops_at, too_many}
-use Rattle.iobuf.proofs.MachineLaws.{first_begun, first_not_read, first_no_memory, first_not_written, first_read, first_stops, machine}
+use Rattle.iobuf.proofs.Going.{Going, all_answered, begins, line_answered, line_read, no_memory, not_read, not_written, stops_at, too_many}
+use Rattle.iobuf.proofs.MachineLaws.{machine}
 use Rattle.iobuf.proofs.owner.answer_lines.Goals as goal
 
+-- no line is answered, and there is no machine
+at_first : (read told : Option (List ℕ)) → Going machine read told [] read told 1 None
+at_first read told = begins machine None read told (λ input before. (refl, refl, refl))
+
+pub returns-in-Ok-false-clause-serves : goal.returns-in-Ok-false-clause-serves
+returns-in-Ok-false-clause-serves g c =
+    all_answered machine _ _ _ _ _ _ _ (at_first (g.I.Source.unread c.args.input.now) (g.O.Sink.contents c.args.output.now))
+    (rw c.in-Ok-false.field-0-test at c.in-Ok-false.ensures.line) c.read_line.ensures.kept
+
 pub returns-in-Err-clause-serves : goal.returns-in-Err-clause-serves
-returns-in-Err-clause-serves g c = first_not_read _ _ _ _ c.in-Err.ensures.err c.read_line.ensures.kept
+returns-in-Err-clause-serves g c =
+    not_read machine _ _ _ _ _ _ _ _ (at_first (g.I.Source.unread c.args.input.now) (g.O.Sink.contents c.args.output.now))
+    c.in-Err.ensures.err c.read_line.ensures.kept
 
 pub returns-in-Err-NoCommand-clause-serves : goal.returns-in-Err-NoCommand-clause-serves
 returns-in-Err-NoCommand-clause-serves g c =
-    let read = first_read _ _ _ _ _ _ (rw c.in-Ok-true.field-0-test at c.in-Ok-true.ensures.line) c.read_line.ensures.kept
+    let read = line_read machine _ _ _ _ _ _ _ _ _ _
+    (at_first (g.I.Source.unread c.args.input.now) (g.O.Sink.contents c.args.output.now))
+    (rw c.in-Ok-true.field-0-test at c.in-Ok-true.ensures.line) c.read_line.ensures.kept
     (c.text-first.ensures ∙ ap line_text c.line.ensures) in
-    first_stops _ _ _ _ _ _ read (rw c.in-Err-NoCommand.field-0-is at c.in-Err-NoCommand.ensures) c.stop_at.ensures
+    stops_at machine _ _ _ _ _ _ _ _ read (rw c.in-Err-NoCommand.field-0-is at c.in-Err-NoCommand.ensures) c.stop_at.ensures
 
 pub returns-in-Err-Memory-clause-serves : goal.returns-in-Err-Memory-clause-serves
 returns-in-Err-Memory-clause-serves g c =
-    first_no_memory _ _ _ _ _ (first_read _ _ _ _ _ _
+    no_memory machine _ _ _ _ _ _ _ (line_read machine _ _ _ _ _ _ _ _ _ _
+    (at_first (g.I.Source.unread c.args.input.now) (g.O.Sink.contents c.args.output.now))
     (rw c.in-Ok-true.field-0-test at c.in-Ok-true.ensures.line) c.read_line.ensures.kept refl)
 
 pub returns-in-Err-take-clause-serves : goal.returns-in-Err-take-clause-serves
 returns-in-Err-take-clause-serves g c =
-    let read = first_read _ _ _ _ _ _ (rw c.in-Ok-true.field-0-test at c.in-Ok-true.ensures.line) c.read_line.ensures.kept
+    let read = line_read machine _ _ _ _ _ _ _ _ _ _
+    (at_first (g.I.Source.unread c.args.input.now) (g.O.Sink.contents c.args.output.now))
+    (rw c.in-Ok-true.field-0-test at c.in-Ok-true.ensures.line) c.read_line.ensures.kept
     (c.text-first.ensures ∙ ap line_text c.line.ensures) in
-    first_not_written _ _ _ _ _ _ _ _ read c.in-Ok.ensures c.in-Err-take.ensures.bytes
+    not_written machine _ _ _ _ _ _ _ _ _ (Some c.in-Ok.machine) _ read (c.in-Ok.ensures, refl) c.in-Err-take.ensures.bytes
 
 pub loop-number-init : goal.loop-number-init
 loop-number-init g c =
-    let read = first_read _ _ _ _ _ _ (rw c.in-Ok-true.field-0-test at c.in-Ok-true.ensures.line) c.read_line.ensures.kept
+    let read = line_read machine _ _ _ _ _ _ _ _ _ _
+    (at_first (g.I.Source.unread c.args.input.now) (g.O.Sink.contents c.args.output.now))
+    (rw c.in-Ok-true.field-0-test at c.in-Ok-true.ensures.line) c.read_line.ensures.kept
     (c.text-first.ensures ∙ ap line_text c.line.ensures) in
-    first_begun _ _ _ _ _ _ _ read c.in-Ok.ensures c.in_default.ensures.bytes
+    line_answered machine _ _ _ _ _ _ _ _ _ (Some c.in-Ok.machine) read (c.in-Ok.ensures, refl) c.in_default.ensures.bytes
 
 pub returns-in-Ok-false-read_line-clause-serves : goal.returns-in-Ok-false-read_line-clause-serves
 returns-in-Ok-false-read_line-clause-serves g c =
@@ -61,7 +79,7 @@ returns-in-Err-take-2-clause-serves g c =
     let read = line_read machine _ _ _ _ _ _ _ _ _ _ c.loop-number.invariant
     (rw c.in-Ok-true-read_line.field-0-test at c.in-Ok-true-read_line.ensures.line) c.read_line-in-loop-number.ensures.kept
     (c.text-line.ensures ∙ ap line_text c.line-in-loop-number.ensures) in
-    not_written machine _ _ _ _ _ _ _ _ _ _ _ read (rw c.in-Ok-answer.is at c.answer.ensures)
+    not_written machine _ _ _ _ _ _ _ _ (Some _) (Some _) _ read (rw c.in-Ok-answer.is at c.answer.ensures)
     (subst (λ (l : List ℕ). Takes (g.O.Sink.contents c.read_line-in-loop-number.new.replies)
     (g.O.Sink.contents c.take-in-loop-number.new.self) l (Err c.in-Err-take-2.fault)) c.deref.ensures.value c.in-Err-take-2.ensures.bytes)
 
@@ -70,7 +88,7 @@ loop-number-preserved g c =
     let read = line_read machine _ _ _ _ _ _ _ _ _ _ c.loop-number.invariant
     (rw c.in-Ok-true-read_line.field-0-test at c.in-Ok-true-read_line.ensures.line) c.read_line-in-loop-number.ensures.kept
     (c.text-line.ensures ∙ ap line_text c.line-in-loop-number.ensures) in
-    line_answered machine _ _ _ _ _ _ _ _ _ _ read (rw c.in-Ok-answer.is at c.answer.ensures)
+    line_answered machine _ _ _ _ _ _ _ _ (Some _) (Some _) read (rw c.in-Ok-answer.is at c.answer.ensures)
     (subst (λ (l : List ℕ). Appends (g.O.Sink.contents c.read_line-in-loop-number.new.replies)
     (g.O.Sink.contents c.take-in-loop-number.new.self) l) c.deref.ensures.value c.in_default-take.ensures.bytes)
 
