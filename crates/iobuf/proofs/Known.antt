@@ -28,7 +28,8 @@ pub use Rattle.std.specs.Char.{digit_value}
 pub use Rattle.std.specs.Fmt.{HasWritten, IsPlainFormatter, decimal, digit_glyph}
 pub use Rattle.std.specs.Io.KnownBytes.{Appends, IsAtEnd, Keeps, prepend_known}
 pub use Rattle.std.specs.List.{between, join_with_byte, onto_first, slice_split}
-pub use Rattle.std.specs.Option.{option_and_then, option_map, option_or}
+pub use Rattle.std.specs.Option.{option_and_then, option_map, option_or, option_zip}
+pub use Rattle.std.specs.Result.{result_ok}
 pub use Rattle.std.specs.Prelude.{if◌then◌else◌, is_some, slice_get}
 pub use Rattle.std.specs.Str.{IsUtf8, all_ascii_digits, bytes_eq}
 pub use Rattle.std.specs.Str.Parse.{AllDigits, digits_value}
@@ -75,7 +76,7 @@ pub use Rattle.iobuf.specs.Buffers.Said.{acting_of, bytes_command, command_by, c
 pub use Rattle.iobuf.specs.Buffers.Said.{static_said, three_command, two_command, verb_of}
 pub use Rattle.iobuf.specs.Buffers.Shapes.{Three, bound_said, bounds_for, bounds_for_of, bounds_of, build_of, byte_and_one_of, bytes_for_of}
 pub use Rattle.iobuf.specs.Buffers.Shapes.{decode_said, fill_of, item_of, items_for_of, items_of, last_bound_of, letters, letters_of}
-pub use Rattle.iobuf.specs.Buffers.Shapes.{lone_bytes_of, numbers_for_of, of_both, one_number, only_word, slice_said, three, three_numbers}
+pub use Rattle.iobuf.specs.Buffers.Shapes.{lone_bytes_of, numbers_for_of, of_both, slice_said, three, three_numbers}
 pub use Rattle.iobuf.specs.Buffers.Shapes.{two_numbers}
 pub use Rattle.iobuf.specs.Buffers.Spelled.{AreDigits, AreSpelled, Behind, BoundFits, Byte, CommandFits, Digits, IsLineOf, IsNumber}
 pub use Rattle.iobuf.specs.Buffers.Spelled.{ItemsFit, Number, SpelledWord, Spells, StandsAt, Verb as Named, bound_word, first_letter}
@@ -85,23 +86,23 @@ pub use Rattle.iobuf.specs.Owner.Said.{act_by, ask_by, ask_in, ask_of, call_of, 
 pub use Rattle.iobuf.specs.Owner.Session.{Answers, AreAnswered, MakesRoom, StepsAnswered, answers_to_steps, steps_of, with_line_end}
 pub use Rattle.iobuf.specs.Owner.Spelled.{AskFits, FitsAct, FitsSetup, call_verb, denial, first_word_of, line_of_ask, line_of_setup}
 pub use Rattle.iobuf.specs.Owner.Spelled.{numbers_in, other_words_of, verb_of_act, words_behind}
-pub use Rattle.iobuf.specs.WordsLeft.{words_left}
 pub use Rattle.iobuf.specs.Spelled.{AreBytes, AreNumbers, hex_text, line_of_words, two_digits}
-pub use Rattle.iobuf.specs.Words.{both, byte_of, bytes_of, decoded, first_number, number_below, number_of, numbers_of, put_first, words_of}
-pub use Rattle.iobuf.specs.declared.buffers.line.Verb.{Verb}
-pub use Rattle.iobuf.specs.declared.owner.line.Ask.{Ask}
-pub use Rattle.iobuf.specs.declared.owner.line.Ask.TheVariants.{Look, Take}
-pub use Rattle.iobuf.specs.declared.owner.line.Question.TheVariants.{Freed, Handle, Record}
-pub use Rattle.iobuf.specs.declared.owner.line.Setup.{Setup}
+pub use Rattle.iobuf.specs.Words.{byte_of, bytes_of, first_number, number_below, number_of, numbers_of, one_number, only_word, put_first}
+pub use Rattle.iobuf.specs.Words.{words_left, words_of}
+pub use Rattle.iobuf.specs.declared.buffers.Verb.{Verb}
+pub use Rattle.iobuf.specs.declared.owner.Ask.{Ask}
+pub use Rattle.iobuf.specs.declared.owner.Ask.TheVariants.{Look, Take}
+pub use Rattle.iobuf.specs.declared.owner.Question.TheVariants.{Freed, Handle, Record}
+pub use Rattle.iobuf.specs.declared.owner.Setup.{Setup}
 pub use Rattle.iobuf.specs.Faults.{Halts, IsStopAt, MayEnd, ReadFails, ServesBy, Takes, most_lines}
 pub use Rattle.iobuf.specs.Halves.{ServesHalf}
 pub use Rattle.iobuf.specs.Lines.{TakesLine, line_text}
 pub use Rattle.iobuf.specs.MachineSession.{AskAnswered, AsksNothing, MachineAnsweredFirst, MachineMade}
 pub use Rattle.iobuf.specs.Reading.{input_left, last_line, left_after}
 pub use Rattle.iobuf.specs.Session.{Answered, AnsweredFirst, CommandAnswered}
-pub use Rattle.iobuf.specs.declared.fault.Obstacle.{Obstacle}
-pub use Rattle.iobuf.specs.declared.fault.Obstacle.TheVariants.{Memory, NotText, TooManyLines, Writing}
-pub use Rattle.iobuf.specs.declared.fault.Stop.{Stop}
-pub use Rattle.iobuf.specs.declared.fault.Stop.TheVariants.{BadCommand, CannotContinue, OtherWords}
-pub use Rattle.iobuf.specs.declared.serve.Half.{Half}
-pub use Rattle.iobuf.specs.declared.serve.Half.TheVariants.{Buffers, Machine}
+pub use Rattle.iobuf.specs.declared.streams.Obstacle.{Obstacle}
+pub use Rattle.iobuf.specs.declared.streams.Obstacle.TheVariants.{Memory, NotText, TooManyLines, Writing}
+pub use Rattle.iobuf.specs.declared.streams.Stop.{Stop}
+pub use Rattle.iobuf.specs.declared.streams.Stop.TheVariants.{BadCommand, CannotContinue, OtherWords}
+pub use Rattle.iobuf.specs.declared.Half.{Half}
+pub use Rattle.iobuf.specs.declared.Half.TheVariants.{Buffers, Machine}

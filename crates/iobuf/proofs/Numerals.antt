@@ -1,5 +1,5 @@
 -- Numbers and bytes are read exactly where they are spelled.
-use Rattle.iobuf.proofs.Known.{◌≡◌, ℕ, zero, suc, ◌+◌, ◌*◌, ◌/◌, ◌%◌, ◌^◌, ◌<◌, ◌≤◌, Bool, true, false, List, [], ◌∷◌, ◌++◌, length, drop, slice_index, map, flat_map, eqb, replicate, Option, Some, None, Result, Ok, Err, codes, refl, sym, ap, subst, ◌∙◌, arith, length-append, if◌then◌else◌, nat_tests, decimal_is_IsNumeral, decimal-digits_value, IsNumeralModel, numerals_by_value, tells_all_ascii_digits, decimal, digit_glyph, all_ascii_digits, bytes_eq, digits_value, decode_of, decode_pairs, digit_or_error, hex_digit_value, pair_value, value_at, ◌>>=◌, FromHexError, decode_of-even, decode_of-ok, number_below, bytes_of, decoded, AreBytes, hex_text, two_digits, IsNumber, lower_digit, AreDigits, length-map, cond_some, and-false, eqb-suc-zero, bytes_eq-Decides, get_or, IsDigits-lower_digits, decode_pairs-encode_with, encode_lower, lower_digits, encode_with, length-encode_with}
+use Rattle.iobuf.proofs.Known.{◌≡◌, ℕ, zero, suc, ◌+◌, ◌*◌, ◌/◌, ◌%◌, ◌^◌, ◌<◌, ◌≤◌, Bool, true, false, List, [], ◌∷◌, ◌++◌, length, drop, slice_index, map, flat_map, eqb, replicate, Option, Some, None, Result, Ok, Err, codes, refl, sym, ap, subst, ◌∙◌, arith, length-append, if◌then◌else◌, nat_tests, decimal_is_IsNumeral, decimal-digits_value, IsNumeralModel, numerals_by_value, tells_all_ascii_digits, decimal, digit_glyph, all_ascii_digits, bytes_eq, digits_value, decode_of, decode_pairs, digit_or_error, hex_digit_value, pair_value, value_at, ◌>>=◌, FromHexError, decode_of-even, decode_of-ok, number_below, bytes_of, result_ok, AreBytes, hex_text, two_digits, IsNumber, lower_digit, AreDigits, length-map, cond_some, and-false, eqb-suc-zero, bytes_eq-Decides, get_or, IsDigits-lower_digits, decode_pairs-encode_with, encode_lower, lower_digits, encode_with, length-encode_with}
 
 -- ---- numbers
 
@@ -99,7 +99,7 @@ pairs_back i s bytes small e = absurd (let len = ap (λ (l : List ℕ). length l
 pub same_word : (word text : List ℕ) → bytes_eq word text ≡ true → word ≡ text
 same_word word text e = (bytes_eq-Decides word text).0 e
 
-decoded_some : (r : Result (List ℕ) FromHexError) (bytes : List ℕ) → decoded r ≡ Some bytes → r ≡ Ok bytes
+decoded_some : (r : Result (List ℕ) FromHexError) (bytes : List ℕ) → result_ok r ≡ Some bytes → r ≡ Ok bytes
 decoded_some (Ok xs) bytes e = cc
 decoded_some (Err error) bytes e = cc e
 

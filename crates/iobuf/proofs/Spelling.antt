@@ -1,14 +1,14 @@
 -- A line says a command exactly where its words spell it, and a command's own line is such a line.
-use Rattle.iobuf.proofs.Known.{Bound, Included, Excluded, Unbounded, ◌≡◌, ℕ, ◌+◌, ◌-◌, ◌^◌, ◌<◌, ◌≤◌, true, false, List, [], ◌∷◌, length, drop, map, eqb, Option, Some, None, codes, refl, sym, ap, subst, ◌∙◌, arith, if◌then◌else◌, option_and_then, option_map, option_or, bytes_eq, length-drop, length-take-le, eqb-true, nat_tests, both, byte_of, bytes_of, number_of, numbers_of, put_first, words_of, AreBytes, AreNumbers, line_of_words, PlainItem, Inline, Push, Command, NewMut, Zeroed, Adopt, FromBytes, Fill, SetLen, Truncate, Clear, Overwrite, Recover, Split, Gather, GatherMut, Append, Prepend, Coalesce, Build, Encode, Decode, Verb, only_word, of_both, Three, three, one_number, two_numbers, three_numbers, lone_bytes_of, bytes_for_of, numbers_for_of, byte_and_one_of, fill_of, decode_said, bounds_of, last_bound_of, bounds_for_of, bounds_for, slice_said, bound_said, item_of, items_of, items_for_of, build_of, letters, letters_of, acting_of, making_of, said_by, static_said, verb_of, command_by, command_of, SpelledWord, Named, Number, Byte, Digits, Behind, Spells, AreSpelled, written, bound_word, item_word, words_from, StandsAt, IsLineOf, first_letter, first_of, line_of_command, BoundFits, ItemsFit, CommandFits, cond_some, option_and_then_some, bytes_command, numbers_command, one_command, three_command, two_command}
+use Rattle.iobuf.proofs.Known.{Bound, Included, Excluded, Unbounded, ◌≡◌, ℕ, ◌+◌, ◌-◌, ◌^◌, ◌<◌, ◌≤◌, true, false, List, [], ◌∷◌, length, drop, map, eqb, Option, Some, None, codes, refl, sym, ap, subst, ◌∙◌, arith, if◌then◌else◌, option_and_then, option_map, option_or, bytes_eq, length-drop, length-take-le, eqb-true, nat_tests, option_zip, byte_of, bytes_of, number_of, numbers_of, put_first, words_of, AreBytes, AreNumbers, line_of_words, PlainItem, Inline, Push, Command, NewMut, Zeroed, Adopt, FromBytes, Fill, SetLen, Truncate, Clear, Overwrite, Recover, Split, Gather, GatherMut, Append, Prepend, Coalesce, Build, Encode, Decode, Verb, only_word, of_both, Three, three, one_number, two_numbers, three_numbers, lone_bytes_of, bytes_for_of, numbers_for_of, byte_and_one_of, fill_of, decode_said, bounds_of, last_bound_of, bounds_for_of, bounds_for, slice_said, bound_said, item_of, items_of, items_for_of, build_of, letters, letters_of, acting_of, making_of, said_by, static_said, verb_of, command_by, command_of, SpelledWord, Named, Number, Byte, Digits, Behind, Spells, AreSpelled, written, bound_word, item_word, words_from, StandsAt, IsLineOf, first_letter, first_of, line_of_command, BoundFits, ItemsFit, CommandFits, cond_some, option_and_then_some, bytes_command, numbers_command, one_command, three_command, two_command}
 use Rattle.std.proofs.lemmas.Option.{none-some}
 use Rattle.iobuf.proofs.WordLaws.{AreSpaceless, Lacks, spaceless_decimal, spaceless_bytes, words_joined}
 use Rattle.iobuf.specs.Buffers.Commands.{Static, Put, Freeze, Clone, Slice, Advance, Take, Drop, Show}
-use Rattle.iobuf.specs.declared.buffers.line.Verb.TheVariants as verb
-use Rattle.iobuf.specs.declared.buffers.line.WithOne.TheVariants as of_one
-use Rattle.iobuf.specs.declared.buffers.line.WithTwo.TheVariants as of_two
-use Rattle.iobuf.specs.declared.buffers.line.WithThree.TheVariants as of_three
-use Rattle.iobuf.specs.declared.buffers.line.WithBytes.TheVariants as of_bytes
-use Rattle.iobuf.specs.declared.buffers.line.WithNumbers.TheVariants as of_numbers
+use Rattle.iobuf.specs.declared.buffers.Verb.TheVariants as verb
+use Rattle.iobuf.specs.declared.buffers.WithOne.TheVariants as of_one
+use Rattle.iobuf.specs.declared.buffers.WithTwo.TheVariants as of_two
+use Rattle.iobuf.specs.declared.buffers.WithThree.TheVariants as of_three
+use Rattle.iobuf.specs.declared.buffers.WithBytes.TheVariants as of_bytes
+use Rattle.iobuf.specs.declared.buffers.WithNumbers.TheVariants as of_numbers
 use Rattle.iobuf.proofs.Numerals.{number_is, number_back, bytes_are, bytes_back, choose, lower_stays, same_word}
 
 -- ---- the meaning of single words
@@ -146,11 +146,11 @@ led {A} {C} {D} {read} {word} {behind} join whole reads shape none some = record
 abbrev paired : {A C : Type 0} {read : List ℕ → Option A} {word : A → SpelledWord} {behind : List (List ℕ) → Option C}
     (whole : List (List ℕ) → Option (A × C))
     → Reads read word → Shape behind → whole [] ≡ None
-    → ((text : List ℕ) (texts : List (List ℕ)) → whole (text ∷ texts) ≡ both (read text) (behind texts)) → Shape whole
+    → ((text : List ℕ) (texts : List (List ℕ)) → whole (text ∷ texts) ≡ option_zip (read text) (behind texts)) → Shape whole
 paired {A} {C} {read} {word} {behind} whole reads shape none some =
     led (λ (a : A) (c : C). (a, c)) whole reads shape none (λ text texts. some text texts ∙ same (read text) (behind texts))
   where
-    same : (o : Option A) (p : Option C) → both o p ≡ of_both (λ (a : A) (c : C). (a, c)) o p
+    same : (o : Option A) (p : Option C) → option_zip o p ≡ of_both (λ (a : A) (c : C). (a, c)) o p
     same (Some a) (Some c) = refl
     same o p = refl
 

@@ -57,8 +57,8 @@ ask_says : (ask : Ask) → AskFits ask → ask_by (first_word_of ask) (other_wor
 ask_says (Take step) h =
     let no = λ (word : List ℕ) (none : number_of word ≡ None). number_is_not step.thread word h.0 none in
     rw (no (codes "handle") refl, no (codes "record") refl, no (codes "freed") refl, number_spelled step.thread h.0, act_says step.act h.1)
-ask_says (Look (Handle n)) h = ap (option_map (λ n. Look (Handle n))) (number_spelled n h)
-ask_says (Look (Record n)) h = ap (option_map (λ n. Look (Record n))) (number_spelled n h)
+ask_says (Look (Handle n)) h = rw (number_spelled n h)
+ask_says (Look (Record n)) h = rw (number_spelled n h)
 ask_says (Look Freed) h = refl
 
 -- the line of a step or question that fits asks for it

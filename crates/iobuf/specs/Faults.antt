@@ -12,10 +12,10 @@
 --     ServesBy                 what a session has read and written when it ends, by how it ends
 use Rattle.std.specs.Prelude.{◌≡◌, ◌⊎◌, ℕ, ◌+◌, ◌-◌, ◌^◌, Bool, true, take, List, [], ◌∷◌, ◌++◌, Option, Some, Result, Ok, Err, IsUtf8, ⊤}
 use Rattle.std.specs.Io.KnownBytes.{Appends, Keeps}
-use Rattle.iobuf.specs.declared.fault.Obstacle.{Obstacle}
-use Rattle.iobuf.specs.declared.fault.Obstacle.TheVariants.{Reading, Writing, Memory, NotText, TooManyLines}
-use Rattle.iobuf.specs.declared.fault.Stop.{Stop}
-use Rattle.iobuf.specs.declared.fault.Stop.TheVariants.{BadCommand, CannotContinue, OtherWords}
+use Rattle.iobuf.specs.declared.streams.Obstacle.{Obstacle}
+use Rattle.iobuf.specs.declared.streams.Obstacle.TheVariants.{Reading, Writing, Memory, NotText, TooManyLines}
+use Rattle.iobuf.specs.declared.streams.Stop.{Stop}
+use Rattle.iobuf.specs.declared.streams.Stop.TheVariants.{BadCommand, CannotContinue, OtherWords}
 
 -- reading a line can't find that it isn't text, or is one too many
 abbrev pub ReadFails : Obstacle → Type 0

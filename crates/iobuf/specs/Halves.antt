@@ -6,11 +6,11 @@ use Rattle.std.specs.Prelude.{◌≡◌, ◌≢◌, ℕ, List, [], ◌∷◌, co
 use Rattle.iobuf.specs.MachineSession.{ServesMachine}
 use Rattle.iobuf.specs.Session.{Serves}
 use Rattle.iobuf.specs.Stops.{IsFlushed}
-use Rattle.iobuf.specs.declared.fault.Stop.{Stop}
-use Rattle.iobuf.specs.declared.fault.Stop.TheVariants.{OtherWords}
-use Rattle.iobuf.specs.declared.output.Output.{Output}
-use Rattle.iobuf.specs.declared.serve.Half.{Half}
-use Rattle.iobuf.specs.declared.serve.Half.TheVariants.{Buffers, Machine}
+use Rattle.iobuf.specs.declared.streams.Stop.{Stop}
+use Rattle.iobuf.specs.declared.streams.Stop.TheVariants.{OtherWords}
+use Rattle.iobuf.specs.declared.streams.Output.{Output}
+use Rattle.iobuf.specs.declared.Half.{Half}
+use Rattle.iobuf.specs.declared.Half.TheVariants.{Buffers, Machine}
 
 -- the word that asks for a half
 abbrev pub half_word : Half → List ℕ

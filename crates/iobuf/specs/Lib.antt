@@ -9,4 +9,3 @@ pub mod Session
 pub mod Spelled
 pub mod Stops
 pub mod Words
-pub mod WordsLeft

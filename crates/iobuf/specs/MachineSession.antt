@@ -9,14 +9,14 @@ use Rattle.std.specs.Prelude.{◌≡◌, ◌⊎◌, ℕ, zero, suc, List, Option
 use Rattle.std.specs.Str.Lines.{lines}
 use Rattle.iobufs_owner.specs.Promises.{Promises}
 use Rattle.iobufs_owner.specs.State.{Seen}
-use Rattle.iobuf.specs.declared.owner.line.Ask.{Ask}
-use Rattle.iobuf.specs.declared.owner.line.Setup.{Setup}
+use Rattle.iobuf.specs.declared.owner.Ask.{Ask}
+use Rattle.iobuf.specs.declared.owner.Setup.{Setup}
 use Rattle.iobuf.specs.Owner.Said.{ask_of, setup_of}
 use Rattle.iobuf.specs.Owner.Session.{StepsAnswered, Answers, with_line_end, machine_of}
 use Rattle.iobuf.specs.declared.words.LineError.{LineError}
 use Rattle.iobuf.specs.declared.words.LineError.TheVariants.{NoCommand, Memory}
 use Rattle.iobuf.specs.Faults.{ServesBy}
-use Rattle.iobuf.specs.declared.fault.Stop.{Stop}
+use Rattle.iobuf.specs.declared.streams.Stop.{Stop}
 
 -- a line asks for a machine, which is made as it is promised
 pub record MachineMade (line : List ℕ) (m : Seen) : Type 0 where

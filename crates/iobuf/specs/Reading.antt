@@ -3,7 +3,7 @@
 --     last_line, input_line     that line, which is left in the reader's buffer or copied
 use Rattle.std.specs.Prelude.{ℕ, nat_lt, if◌then◌else◌, List, take, drop, Option, option_map}
 use Rattle.std.specs.Io.Buffered.{reader_buffer, reader_remaining}
-use Rattle.iobuf.specs.declared.input.Input.{Input}
+use Rattle.iobuf.specs.declared.streams.Input.{Input}
 
 -- the bytes after a prefix, where they are known
 abbrev pub left_after : ℕ → Option (List ℕ) → Option (List ℕ)

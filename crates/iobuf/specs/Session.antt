@@ -17,7 +17,7 @@ use Rattle.iobuf.specs.Buffers.Said.{command_of}
 use Rattle.iobuf.specs.declared.words.LineError.{LineError}
 use Rattle.iobuf.specs.declared.words.LineError.TheVariants.{NoCommand, Memory}
 use Rattle.iobuf.specs.Faults.{ServesBy}
-use Rattle.iobuf.specs.declared.fault.Stop.{Stop}
+use Rattle.iobuf.specs.declared.streams.Stop.{Stop}
 
 -- The first `count` lines of the input, `front`, say commands, and `rest` are the others. A run of the commands from the empty table
 -- leaves `names`. The writer holds the bytes `before`, and then the lines of the run's replies.

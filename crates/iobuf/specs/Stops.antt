@@ -4,9 +4,9 @@
 --     IsFlushed                 at its end the replies are flushed, unless writing failed
 use Rattle.std.specs.Prelude.{◌≡◌, ◌⊎◌, ℕ, Bool, true, List, ◌++◌, codes, Result, Ok, Err}
 use Rattle.std.specs.Fmt.{decimal}
-use Rattle.iobuf.specs.declared.fault.Obstacle.TheVariants.{Reading, Writing, Memory, NotText, TooManyLines}
-use Rattle.iobuf.specs.declared.fault.Stop.{Stop}
-use Rattle.iobuf.specs.declared.fault.Stop.TheVariants.{BadCommand, CannotContinue, OtherWords}
+use Rattle.iobuf.specs.declared.streams.Obstacle.TheVariants.{Reading, Writing, Memory, NotText, TooManyLines}
+use Rattle.iobuf.specs.declared.streams.Stop.{Stop}
+use Rattle.iobuf.specs.declared.streams.Stop.TheVariants.{BadCommand, CannotContinue, OtherWords}
 
 -- why a session ends, as it is told
 abbrev pub stop_text : Stop → List ℕ

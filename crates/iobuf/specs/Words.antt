@@ -1,22 +1,29 @@
 -- The words of a line, and what they say.
 --     words_of                   a line cut at each space, so that two spaces have an empty word between them
+--     words_left                 the words of what is still to be read
 --     number_of, byte_of,        a word of decimal digits as a number: of a `usize`, of a byte, and below any end
 --     number_below
---     bytes_of, decoded          a word of hexadecimal digits as bytes, and the result of their reader as an option
+--     bytes_of                   a word of hexadecimal digits as bytes
 --     first_number,              what a first word says, which may be missing
 --     first_byte, first_bytes
---     both, put_first,           two values where both are said, a first one with others, and a number of each word
---     numbers_of
-use Rattle.std.specs.Prelude.{ℕ, ◌^◌, ◌==◌, ◌&&◌, nat_lt, if◌then◌else◌, List, [], ◌∷◌, length, codes, Option, Some, None, Result, Ok, Err}
+--     only_word, one_number      the value of a last word; such a number
+--     put_first, numbers_of      a first value with others where both are said, and a number of each word
+use Rattle.std.specs.Prelude.{ℕ, ◌^◌, ◌==◌, ◌&&◌, nat_lt, if◌then◌else◌, List, [], ◌∷◌, length, codes, Option, Some, None}
+use Rattle.std.specs.Borrow.{Bor}
 use Rattle.std.specs.List.{slice_split}
+use Rattle.std.specs.Result.{result_ok}
 use Rattle.std.specs.Str.{bytes_eq, all_ascii_digits}
 use Rattle.std.specs.Str.Parse.{digits_value}
 use Rattle.hex.specs.Hex.{decode_of}
-use Rattle.hex.specs.declared.error.FromHexError.{FromHexError}
 
 -- words, separated by one space each
 abbrev pub words_of : List ℕ → List (List ℕ)
 words_of line = slice_split (λ b. b == 32) line
+
+-- no words are left, not even an empty one, or those of a text
+abbrev pub words_left : Option (Bor (List ℕ)) → List (List ℕ)
+words_left None = []
+words_left (Some rest) = words_of rest.now
 
 -- decimal digits, at least one, of a number below this
 abbrev pub number_below : ℕ → List ℕ → Option ℕ
@@ -31,17 +38,12 @@ number_of word = number_below (2 ^ 64) word
 abbrev pub byte_of : List ℕ → Option ℕ
 byte_of word = number_below 256 word
 
--- the bytes that hexadecimal digits say, where they do
-abbrev pub decoded : Result (List ℕ) FromHexError → Option (List ℕ)
-decoded (Ok bytes) = Some bytes
-decoded (Err e) = None
-
 -- an even number of hexadecimal digits, at least two, or a dash for no bytes
 abbrev pub bytes_of : List ℕ → Option (List ℕ)
 bytes_of word =
     if bytes_eq word (codes "-") then Some []
     else if length word == 0 then None
-    else decoded (decode_of word)
+    else result_ok (decode_of word)
 
 -- the number, the byte or the bytes that the first word says, if there is one
 abbrev pub first_number : List (List ℕ) → Option ℕ
@@ -56,11 +58,16 @@ abbrev pub first_bytes : List (List ℕ) → Option (List ℕ)
 first_bytes [] = None
 first_bytes (word ∷ words) = bytes_of word
 
--- both, where both are there
-abbrev pub both : {A B : Type 0} → Option A → Option B → Option (A × B)
-both (Some a) (Some b) = Some (a, b)
-both (Some a) None = None
-both None b = None
+-- the value of a word, if no word follows it
+abbrev pub only_word : {A : Type 0} → Option A → List (List ℕ) → Option A
+only_word None words = None
+only_word (Some x) [] = Some x
+only_word (Some x) (word ∷ words) = None
+
+-- a number, and no word after it
+abbrev pub one_number : List (List ℕ) → Option ℕ
+one_number [] = None
+one_number (a ∷ words) = only_word (number_of a) words
 
 -- the first, and the others after it
 abbrev pub put_first : {A : Type 0} → Option A → Option (List A) → Option (List A)

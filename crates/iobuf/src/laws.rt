@@ -12,8 +12,8 @@ ghost use Rattle.iobuf.specs.Owner.Printed.{step_reply_text};
 ghost use Rattle.iobuf.specs.Owner.Said.{ask_of, setup_of};
 ghost use Rattle.iobuf.specs.Owner.Session.{AreAnswered, answers_to_steps, steps_of};
 ghost use Rattle.iobuf.specs.Owner.Spelled.{AskFits, FitsSetup, line_of_ask, line_of_setup};
-ghost use Rattle.iobuf.specs.declared.owner.line.Ask.{Ask};
-ghost use Rattle.iobuf.specs.declared.owner.line.Setup.{Setup};
+ghost use Rattle.iobuf.specs.declared.owner.Ask.{Ask};
+ghost use Rattle.iobuf.specs.declared.owner.Setup.{Setup};
 
 /// The line of a command says that command, and a line says a command exactly if its words spell it.
 pub fn line_law()

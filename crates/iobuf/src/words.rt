@@ -1,8 +1,7 @@
 // The words of a line.
 ghost use Rattle.std.specs.Char.{digit_value};
 ghost use Rattle.std.specs.Prelude.{◌≡◌, ◌⊎◌, ℕ, ◌+◌, ◌*◌, ◌^◌, ◌<◌, ◌≤◌, List, [], ◌∷◌, length, MatchOption, Some, None, IfOk, IfErr};
-ghost use Rattle.iobuf.specs.WordsLeft.{words_left};
-ghost use Rattle.iobuf.specs.Words.{byte_of, bytes_of, first_byte, first_bytes, first_number, number_of, numbers_of, words_of};
+ghost use Rattle.iobuf.specs.Words.{byte_of, bytes_of, first_byte, first_bytes, first_number, number_of, numbers_of, one_number, words_left, words_of};
 ghost use Rattle.iobuf.specs.declared.words.LineError.TheVariants.{Memory};
 
 use hex::FromHexError;
@@ -43,7 +42,7 @@ pub struct Words<'a> {
 
 impl<'a> Model for Words<'a> {
     ghost use Rattle.std.specs.Prelude.{ℕ, List};
-    ghost use Rattle.iobuf.specs.WordsLeft.{words_left};
+    ghost use Rattle.iobuf.specs.Words.{words_left};
 
     ghost Value = { List (List ℕ) };
 
@@ -101,6 +100,16 @@ impl<'a> Words<'a> {
         };
         let (n, rest) = front_number(line)?;
         self.rest = rest;
+        Ok(n)
+    }
+
+    /// Takes the last word, which is a number.
+    pub fn last_number(&mut self) -> Result<usize, LineError>
+        ensures ok { IfOk result (λ n. one_number self.old ≡ Some n) }
+        ensures err { IfErr result (λ error. (error ≡ LineError.NoCommand) × (one_number self.old ≡ None)) }
+    {
+        let n = self.number()?;
+        self.end()?;
         Ok(n)
     }
 

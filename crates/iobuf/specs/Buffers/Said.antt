@@ -9,21 +9,21 @@
 use Rattle.std.specs.Prelude.{ℕ, if◌then◌else◌, List, [], ◌∷◌, codes, Option, Some, None}
 use Rattle.std.specs.Option.{option_map, option_and_then, option_or}
 use Rattle.std.specs.Str.{bytes_eq}
-use Rattle.iobuf.specs.Words.{words_of}
-use Rattle.iobuf.specs.declared.buffers.line.Verb.{Verb}
-use Rattle.iobuf.specs.declared.buffers.line.Verb.TheVariants as verb
-use Rattle.iobuf.specs.declared.buffers.line.WithOne.{WithOne}
-use Rattle.iobuf.specs.declared.buffers.line.WithOne.TheVariants as of_one
-use Rattle.iobuf.specs.declared.buffers.line.WithTwo.{WithTwo}
-use Rattle.iobuf.specs.declared.buffers.line.WithTwo.TheVariants as of_two
-use Rattle.iobuf.specs.declared.buffers.line.WithThree.{WithThree}
-use Rattle.iobuf.specs.declared.buffers.line.WithThree.TheVariants as of_three
-use Rattle.iobuf.specs.declared.buffers.line.WithBytes.{WithBytes}
-use Rattle.iobuf.specs.declared.buffers.line.WithBytes.TheVariants as of_bytes
-use Rattle.iobuf.specs.declared.buffers.line.WithNumbers.{WithNumbers}
-use Rattle.iobuf.specs.declared.buffers.line.WithNumbers.TheVariants as of_numbers
+use Rattle.iobuf.specs.Words.{one_number, words_of}
+use Rattle.iobuf.specs.declared.buffers.Verb.{Verb}
+use Rattle.iobuf.specs.declared.buffers.Verb.TheVariants as verb
+use Rattle.iobuf.specs.declared.buffers.WithOne.{WithOne}
+use Rattle.iobuf.specs.declared.buffers.WithOne.TheVariants as of_one
+use Rattle.iobuf.specs.declared.buffers.WithTwo.{WithTwo}
+use Rattle.iobuf.specs.declared.buffers.WithTwo.TheVariants as of_two
+use Rattle.iobuf.specs.declared.buffers.WithThree.{WithThree}
+use Rattle.iobuf.specs.declared.buffers.WithThree.TheVariants as of_three
+use Rattle.iobuf.specs.declared.buffers.WithBytes.{WithBytes}
+use Rattle.iobuf.specs.declared.buffers.WithBytes.TheVariants as of_bytes
+use Rattle.iobuf.specs.declared.buffers.WithNumbers.{WithNumbers}
+use Rattle.iobuf.specs.declared.buffers.WithNumbers.TheVariants as of_numbers
 use Rattle.iobuf.specs.Buffers.Commands.{Command, NewMut, Zeroed, Adopt, Static, FromBytes, Put, SetLen, Truncate, Clear, Overwrite, Freeze, Recover, Clone, Split, Advance, Take, Gather, GatherMut, Append, Prepend, Coalesce, Encode, Drop, Show}
-use Rattle.iobuf.specs.Buffers.Shapes.{one_number, two_numbers, three_numbers, bytes_for_of, numbers_for_of, fill_of, slice_said, letters_of, build_of, decode_said}
+use Rattle.iobuf.specs.Buffers.Shapes.{two_numbers, three_numbers, bytes_for_of, numbers_for_of, fill_of, slice_said, letters_of, build_of, decode_said}
 
 -- the command of a word that puts something under a name
 abbrev pub making_of : List ℕ → Option Verb

@@ -1,7 +1,7 @@
 -- The values that the words up to the end of a line say.
---     only_word, of_both                       a last word; a value made of two words, if both say one
+--     of_both                                   a value made of two words, if both say one
 --     Three, three                         three numbers
---     one_number, two_numbers, three_numbers    one to three words, each a number
+--     two_numbers, three_numbers                two or three words, each a number
 --     lone_bytes_of, bytes_for_of          bytes, and a number followed by bytes
 --     numbers_for_of                       a number followed by any number of numbers
 --     byte_and_one_of, fill_of             a byte and a number; after a name they say `fill`
@@ -17,16 +17,10 @@
 use Rattle.std.specs.declared.ops.Bound.{Bound}
 use Rattle.std.specs.declared.ops.Bound.TheVariants.{Included, Excluded, Unbounded}
 use Rattle.std.specs.Prelude.{ℕ, ◌==◌, ◌&&◌, nat_le, if◌then◌else◌, List, [], ◌∷◌, codes, slice_range, Option, Some, None}
-use Rattle.std.specs.Option.{option_map}
+use Rattle.std.specs.Option.{option_map, option_zip}
 use Rattle.std.specs.Str.{bytes_eq}
-use Rattle.iobuf.specs.Words.{both, byte_of, bytes_of, number_of, numbers_of, put_first}
+use Rattle.iobuf.specs.Words.{byte_of, bytes_of, number_of, numbers_of, one_number, only_word, put_first}
 use Rattle.iobuf.specs.Buffers.Commands.{PlainItem, Inline, Push, Command, Fill, Slice, Build, Decode}
-
--- the value of a word, if no word follows it
-abbrev pub only_word : {A : Type 0} → Option A → List (List ℕ) → Option A
-only_word None words = None
-only_word (Some x) [] = Some x
-only_word (Some x) (word ∷ words) = None
 
 -- the value made of the first word and of the rest, if both have one
 abbrev pub of_both : {A B C : Type 0} → (A → B → C) → Option A → Option B → Option C
@@ -44,13 +38,9 @@ abbrev pub three : ℕ → ℕ → ℕ → Three
 three a b c = record { first = a; second = b; third = c }
 
 -- so many numbers, and no word after them
-abbrev pub one_number : List (List ℕ) → Option ℕ
-one_number [] = None
-one_number (a ∷ words) = only_word (number_of a) words
-
 abbrev pub two_numbers : List (List ℕ) → Option (ℕ × ℕ)
 two_numbers [] = None
-two_numbers (a ∷ words) = both (number_of a) (one_number words)
+two_numbers (a ∷ words) = option_zip (number_of a) (one_number words)
 
 abbrev pub three_numbers : List (List ℕ) → Option Three
 three_numbers [] = None
@@ -64,17 +54,17 @@ lone_bytes_of (a ∷ words) = only_word (bytes_of a) words
 -- a number, and bytes
 abbrev pub bytes_for_of : List (List ℕ) → Option (ℕ × List ℕ)
 bytes_for_of [] = None
-bytes_for_of (a ∷ words) = both (number_of a) (lone_bytes_of words)
+bytes_for_of (a ∷ words) = option_zip (number_of a) (lone_bytes_of words)
 
 -- a number, and any number of numbers
 abbrev pub numbers_for_of : List (List ℕ) → Option (ℕ × List ℕ)
 numbers_for_of [] = None
-numbers_for_of (a ∷ words) = both (number_of a) (numbers_of words)
+numbers_for_of (a ∷ words) = option_zip (number_of a) (numbers_of words)
 
 -- a byte, and a number
 abbrev pub byte_and_one_of : List (List ℕ) → Option (ℕ × ℕ)
 byte_and_one_of [] = None
-byte_and_one_of (a ∷ words) = both (byte_of a) (one_number words)
+byte_and_one_of (a ∷ words) = option_zip (byte_of a) (one_number words)
 
 -- a number, a byte and a number
 abbrev pub fill_of : List (List ℕ) → Option Command
@@ -107,7 +97,7 @@ last_bound_of (a ∷ words) = only_word (bound_said a) words
 
 abbrev pub bounds_of : List (List ℕ) → Option (Bound ℕ × Bound ℕ)
 bounds_of [] = None
-bounds_of (a ∷ words) = both (bound_said a) (last_bound_of words)
+bounds_of (a ∷ words) = option_zip (bound_said a) (last_bound_of words)
 
 -- a number, and two bounds
 pub record BoundsFor : Type 0 where
@@ -150,7 +140,7 @@ items_of (word ∷ words) = put_first (item_of word) (items_of words)
 -- a number, and any number of items
 abbrev pub items_for_of : List (List ℕ) → Option (ℕ × List PlainItem)
 items_for_of [] = None
-items_for_of (a ∷ words) = both (number_of a) (items_of words)
+items_for_of (a ∷ words) = option_zip (number_of a) (items_of words)
 
 -- two numbers, and any number of items
 abbrev pub build_of : List (List ℕ) → Option Command

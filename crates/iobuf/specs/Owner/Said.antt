@@ -1,8 +1,7 @@
 -- The request that a line makes of the machine.
 --     ask_of, ask_in, ask_by                  what a line after the first asks, if anything; its words; its first
 --                                             word and the others
---     freed_of, last_number_of                nothing follows the question for the logs; only a number follows
---                                             another one
+--     freed_of                                nothing follows the question for the logs
 --     step_of, act_of, act_by                 a thread and what it does; that alone: it goes on, or begins a call
 --     call_of, call_on_of                     a call, and one that only names a handle, with the words after it
 --     grant_of                                memory is granted, or `deny` denies it
@@ -11,18 +10,18 @@
 --                                             have limits
 --     width_of                                whether descriptors have 64 bits or 32
 use Rattle.std.specs.Prelude.{ℕ, ◌^◌, ◌&&◌, nat_lt, nat_le, Bool, true, false, if◌then◌else◌, List, [], ◌∷◌, codes, Option, Some, None, option_map}
-use Rattle.std.specs.Option.{option_and_then}
+use Rattle.std.specs.Option.{option_and_then, option_zip}
 use Rattle.std.specs.Str.{bytes_eq}
 use Rattle.iobufs_owner.specs.declared.owner.types.Act.{Act}
 use Rattle.iobufs_owner.specs.declared.owner.types.Act.TheVariants.{Begin, Go}
 use Rattle.iobufs_owner.specs.declared.owner.types.Call.{Call}
 use Rattle.iobufs_owner.specs.declared.owner.types.Call.TheVariants.{New, External, Static, Put, Advance, Freeze, TryIntoMut, SplitTo, IsUnique, Demote, Clone, Slice, Drop}
 use Rattle.iobufs_owner.specs.declared.owner.types.Step.{Step}
-use Rattle.iobuf.specs.declared.owner.line.Ask.{Ask}
-use Rattle.iobuf.specs.declared.owner.line.Ask.TheVariants.{Take, Look}
-use Rattle.iobuf.specs.declared.owner.line.Question.TheVariants.{Handle, Record, Freed}
-use Rattle.iobuf.specs.declared.owner.line.Setup.{Setup}
-use Rattle.iobuf.specs.Words.{words_of, number_of, both}
+use Rattle.iobuf.specs.declared.owner.Ask.{Ask}
+use Rattle.iobuf.specs.declared.owner.Ask.TheVariants.{Take, Look}
+use Rattle.iobuf.specs.declared.owner.Question.TheVariants.{Handle, Record, Freed}
+use Rattle.iobuf.specs.declared.owner.Setup.{Setup}
+use Rattle.iobuf.specs.Words.{words_of, number_of, one_number}
 
 -- ---- numbers at the front, and the words after them
 
@@ -95,16 +94,11 @@ act_of (verb ∷ words) = act_by verb words
 
 -- a thread, and what it does
 abbrev pub step_of : List ℕ → List (List ℕ) → Option Step
-step_of thread words = option_map (λ s. record { thread = s.0; act = s.1 }) (both (number_of thread) (act_of words))
+step_of thread words = option_map (λ s. record { thread = s.0; act = s.1 }) (option_zip (number_of thread) (act_of words))
 
 -- ---- lines
 
--- a number, and nothing after it
-abbrev pub last_number_of : List (List ℕ) → Option ℕ
-last_number_of [] = None
-last_number_of (word ∷ []) = number_of word
-last_number_of (word ∷ next ∷ words) = None
-
+-- nothing follows the question for what is freed
 abbrev pub freed_of : List (List ℕ) → Option Ask
 freed_of [] = Some (Look Freed)
 freed_of (word ∷ words) = None
@@ -112,8 +106,8 @@ freed_of (word ∷ words) = None
 -- a question by its first word, and else a step of a thread
 abbrev pub ask_by : List ℕ → List (List ℕ) → Option Ask
 ask_by first words =
-    if bytes_eq first (codes "handle") then option_map (λ h. Look (Handle h)) (last_number_of words)
-    else if bytes_eq first (codes "record") then option_map (λ r. Look (Record r)) (last_number_of words)
+    if bytes_eq first (codes "handle") then option_map (λ h. Look (Handle h)) (one_number words)
+    else if bytes_eq first (codes "record") then option_map (λ r. Look (Record r)) (one_number words)
     else if bytes_eq first (codes "freed") then freed_of words
     else option_map Take (step_of first words)
 

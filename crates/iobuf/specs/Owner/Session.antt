@@ -15,9 +15,9 @@ use Rattle.iobufs_owner.specs.Promises.{Promises}
 use Rattle.iobufs_owner.specs.Reserved.{RoomFor}
 use Rattle.iobufs_owner.specs.Growing.{IsMove}
 use Rattle.iobufs_owner.specs.State.{State, Seen, KeepsRoom, fresh}
-use Rattle.iobuf.specs.declared.owner.line.Ask.{Ask}
-use Rattle.iobuf.specs.declared.owner.line.Ask.TheVariants.{Take, Look}
-use Rattle.iobuf.specs.declared.owner.line.Setup.{Setup}
+use Rattle.iobuf.specs.declared.owner.Ask.{Ask}
+use Rattle.iobuf.specs.declared.owner.Ask.TheVariants.{Take, Look}
+use Rattle.iobuf.specs.declared.owner.Setup.{Setup}
 use Rattle.iobuf.specs.Owner.Printed.{answer_text, step_reply_text}
 use Rattle.iobuf.specs.Owner.Said.{ask_of, setup_of}
 

@@ -1,7 +1,7 @@
 // Words that follow one another to the end of a line.
 ghost use Rattle.std.specs.Prelude.{◌≡◌, ◌⊎◌, ℕ, List, ◌∷◌, map, Some, None, IfOk, IfErr};
 ghost use Rattle.iobuf.specs.Buffers.Commands.{plain, plain_item};
-ghost use Rattle.iobuf.specs.Buffers.Shapes.{bound_said, build_of, decode_said, fill_of, first_bound, item_of, items_of, one_number, slice_said, three, three_numbers, two_numbers};
+ghost use Rattle.iobuf.specs.Buffers.Shapes.{bound_said, build_of, decode_said, fill_of, first_bound, item_of, items_of, slice_said, three, three_numbers, two_numbers};
 
 use crate::words::{LineError, Words, bytes, number};
 use iobufs_core::codec::RangeCfg;
@@ -9,23 +9,13 @@ use iobufs_run::command::{Cmd, Item};
 use std::alloc::Global;
 use std::ops::Bound;
 
-/// One number, and no word after it.
-pub fn one(words: &mut Words<'_>) -> Result<usize, LineError>
-    ensures ok { IfOk result (λ n. one_number words.old ≡ Some n) }
-    ensures err { IfErr result (λ error. (error ≡ LineError.NoCommand) × (one_number words.old ≡ None)) }
-{
-    let a = words.number()?;
-    words.end()?;
-    Ok(a)
-}
-
 /// Two numbers, and no word after them.
 pub fn two(words: &mut Words<'_>) -> Result<(usize, usize), LineError>
     ensures ok { IfOk result (λ n. two_numbers words.old ≡ Some (n.0, n.1)) }
     ensures err { IfErr result (λ error. (error ≡ LineError.NoCommand) × (two_numbers words.old ≡ None)) }
 {
     let a = words.number()?;
-    let b = one(words)?;
+    let b = words.last_number()?;
     Ok((a, b))
 }
 
@@ -62,7 +52,7 @@ pub fn fill(words: &mut Words<'_>) -> Result<Cmd, LineError>
 {
     let target = words.number()?;
     let byte = words.byte()?;
-    let n = one(words)?;
+    let n = words.last_number()?;
     Ok(Cmd::Fill { target, byte, n })
 }
 

@@ -2,7 +2,7 @@
 ghost use Rattle.std.specs.Prelude.{◌≡◌, Some, flat_map};
 ghost use Rattle.iobuf.specs.Owner.Printed.{step_refusal_text, step_reply_text, word_text, shown, given_text, record_text, block_text, number_text, freed_text, answer_text};
 
-use crate::owner::line::Question;
+use crate::owner::Question;
 use iobufs_owner::owner::{Freed, Handle, Kind, Machine, Record, Refusal, Reply, Word};
 use std::fmt;
 

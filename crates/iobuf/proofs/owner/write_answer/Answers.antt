@@ -1,6 +1,6 @@
 use Rattle.iobuf.proofs.Known.{refl, answer_text, step_reply_text, Err, IfSome, List, None, Ok, OnOk, Option, Result, Some, ap, ℕ, ◌++◌, ◌≡◌, Appends, Seen, Answers, with_line_end, Ask}
 use Rattle.iobuf.proofs.Stepped.{room_made}
-use Rattle.iobuf.proofs.owner.session.answer.Goals as goal
+use Rattle.iobuf.proofs.owner.write_answer.Goals as goal
 
 -- where an answer was written without error, what is written is what was there before and the answer's line
 written : {X E : Type 0} (r : Result X E) (o new : Option (List ℕ)) (m next : Seen) (ask : Ask) (text : List ℕ)

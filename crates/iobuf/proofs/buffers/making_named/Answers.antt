@@ -1,5 +1,5 @@
 use Rattle.iobuf.proofs.Known.{codes, arith, text_from_reads}
-use Rattle.iobuf.proofs.buffers.line.making_named.Goals as goal
+use Rattle.iobuf.proofs.buffers.making_named.Goals as goal
 
 pub returns-in-adopt : goal.returns-in-adopt
 returns-in-adopt c = rw (text_from_reads c.args.word.now (codes "adopt") (omega arith) (omega arith))

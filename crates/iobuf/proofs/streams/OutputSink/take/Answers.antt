@@ -1,5 +1,5 @@
 use Rattle.iobuf.proofs.Taking.{takes_on, whole_rest}
-use Rattle.iobuf.proofs.output.OutputSink.take.Goals as goal
+use Rattle.iobuf.proofs.streams.OutputSink.take.Goals as goal
 
 pub returns-in-Ok-2-clause-bytes : goal.returns-in-Ok-2-clause-bytes
 returns-in-Ok-2-clause-bytes g c =

@@ -1,6 +1,6 @@
 use Rattle.iobuf.proofs.Taking.{whole_rest, more_sent, part_sent, same_sent}
-use Rattle.iobuf.proofs.output.write_on.Goals.{in-Ok, in-Err}
-use Rattle.iobuf.proofs.output.write_on.Goals as goal
+use Rattle.iobuf.proofs.streams.write_on.Goals.{in-Ok, in-Err}
+use Rattle.iobuf.proofs.streams.write_on.Goals as goal
 
 pub returns-in-Ok-eq0-clause-bytes : goal.returns-in-Ok-eq0-clause-bytes
 returns-in-Ok-eq0-clause-bytes g c =

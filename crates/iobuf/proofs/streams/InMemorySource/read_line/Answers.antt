@@ -1,6 +1,6 @@
 use Rattle.iobuf.proofs.Known.{arith, length, Some, ◌≡◌}
 use Rattle.iobuf.proofs.TakenLines.{takes_line}
-use Rattle.iobuf.proofs.input.InMemorySource.read_line.Goals as goal
+use Rattle.iobuf.proofs.streams.InMemorySource.read_line.Goals as goal
 
 pub returns-in-Ok-clause-line : goal.returns-in-Ok-clause-line
 returns-in-Ok-clause-line g c =

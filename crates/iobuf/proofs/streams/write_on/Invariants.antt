@@ -1,5 +1,5 @@
 use Rattle.iobuf.proofs.Taking.{Sent}
-use Rattle.iobuf.proofs.output.write_on.Given as goal
+use Rattle.iobuf.proofs.streams.write_on.Given as goal
 
 abbrev pub invariant-loop : goal.invariant-loop
 invariant-loop g l =

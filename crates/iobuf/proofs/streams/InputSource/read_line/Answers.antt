@@ -1,6 +1,6 @@
 use Rattle.iobuf.proofs.Known.{arith, eqb, length, ◌≡◌, reader_buffer, reader_capacity, reader_inner, reader_remaining, true, ◌+◌, last_line, left_after}
 use Rattle.iobuf.proofs.TakenLines.{after_last, buffer_first, takes_copied, takes_line, takes_standing}
-use Rattle.iobuf.proofs.input.InputSource.read_line.Goals as goal
+use Rattle.iobuf.proofs.streams.InputSource.read_line.Goals as goal
 
 pub returns-in-Some-clause-line : goal.returns-in-Some-clause-line
 returns-in-Some-clause-line g c =

@@ -1,5 +1,5 @@
 use Rattle.iobuf.proofs.Endings.{not_begun, unbegun, unsent}
-use Rattle.iobuf.proofs.serve.over_reader.Goals as goal
+use Rattle.iobuf.proofs.over_reader.Goals as goal
 
 pub returns-in-Err-clause-serves : goal.returns-in-Err-clause-serves
 returns-in-Err-clause-serves g c =

@@ -1,5 +1,5 @@
 use Rattle.iobuf.proofs.Known.{codes, arith, text_from_reads}
-use Rattle.iobuf.proofs.buffers.line.acting_named.Goals as goal
+use Rattle.iobuf.proofs.buffers.acting_named.Goals as goal
 
 pub returns-in-clear : goal.returns-in-clear
 returns-in-clear c = rw (text_from_reads c.args.word.now (codes "clear") (omega arith) (omega arith))

@@ -1,5 +1,5 @@
 use Rattle.iobuf.proofs.Endings.{unsent}
-use Rattle.iobuf.proofs.serve.over_source.Goals as goal
+use Rattle.iobuf.proofs.over_source.Goals as goal
 
 pub returns-in-Err-clause-serves : goal.returns-in-Err-clause-serves
 returns-in-Err-clause-serves g c =
