@@ -92,7 +92,7 @@ pub use Rattle.iobuf.specs.Words.{words_left, words_of}
 pub use Rattle.iobuf.specs.declared.buffers.Verb.{Verb}
 pub use Rattle.iobuf.specs.declared.owner.Ask.{Ask}
 pub use Rattle.iobuf.specs.declared.owner.Ask.TheVariants.{Look, Take}
-pub use Rattle.iobuf.specs.declared.owner.Question.TheVariants.{Freed, Handle, Record}
+pub use Rattle.iobuf.specs.declared.owner.reply.Question.TheVariants.{Freed, Handle, Record}
 pub use Rattle.iobuf.specs.declared.owner.Setup.{Setup}
 pub use Rattle.iobuf.specs.Faults.{Halts, IsStopAt, MayEnd, ReadFails, ServesBy, Takes, most_lines}
 pub use Rattle.iobuf.specs.Halves.{ServesHalf}

@@ -8,7 +8,7 @@ ghost use Rattle.iobuf.specs.Owner.Session.{Answers, machine_of, with_line_end};
 
 mod reply;
 
-use crate::owner::reply::{AnswerLine, ReplyLine};
+use crate::owner::reply::{AnswerLine, Question, ReplyLine};
 use crate::streams::{Obstacle, Sink, Source, Stop, stop_at, text};
 use crate::words::{LineError, Words, number};
 use iobufs_core::codec::BufError;
@@ -26,17 +26,6 @@ pub struct Setup {
     pub ceiling: u64,
     /// Whether its descriptors have 64 bits; else they have 32.
     pub is_wide: bool,
-}
-
-/// A question about the machine.
-#[derive(Clone, Copy, Drop)]
-pub enum Question {
-    /// The state of the handle with this number.
-    Handle(usize),
-    /// The state of the record with this number.
-    Record(usize),
-    /// The blocks and records that were freed.
-    Freed,
 }
 
 /// The request of a further line.
@@ -120,8 +109,8 @@ fn begin(alloc: Global, line: &[u8]) -> Result<Machine, LineError>
     }
 }
 
-// Takes a step, or looks at what a question asks for, and writes the answer as a line. If writing fails, a step is taken
-// all the same. Before a step room is made for a block, a handle and a record, where it can be had.
+// Takes a step, or looks at what a question asks for, and writes the answer as a line. A step is taken even if writing
+// fails. Before a step room is made for a block, a handle and a record, where it can be had.
 fn write_answer<W: Write>(machine: &mut Machine, ask: Ask, output: &mut W) -> io::Result<()>
     ensures { OnOk result (IfSome (W.contents output.old) (λ before.
         (text : List ℕ) × Answers machine.old ask text machine.new

@@ -21,8 +21,8 @@ use Rattle.iobufs_owner.specs.declared.owner.types.Reply.TheVariants.{Made, More
 use Rattle.iobufs_owner.specs.declared.owner.types.Word.{Word}
 use Rattle.iobufs_owner.specs.declared.owner.types.Word.TheVariants.{Empty, Descriptor, Record as Counted}
 use Rattle.iobufs_owner.specs.State.{State}
-use Rattle.iobuf.specs.declared.owner.Question.{Question}
-use Rattle.iobuf.specs.declared.owner.Question.TheVariants as question
+use Rattle.iobuf.specs.declared.owner.reply.Question.{Question}
+use Rattle.iobuf.specs.declared.owner.reply.Question.TheVariants as question
 
 -- an entry as it is printed, or `none`
 abbrev pub shown : {A : Type 0} → (A → List ℕ) → Option A → List ℕ

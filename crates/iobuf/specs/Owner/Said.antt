@@ -19,7 +19,7 @@ use Rattle.iobufs_owner.specs.declared.owner.types.Call.TheVariants.{New, Extern
 use Rattle.iobufs_owner.specs.declared.owner.types.Step.{Step}
 use Rattle.iobuf.specs.declared.owner.Ask.{Ask}
 use Rattle.iobuf.specs.declared.owner.Ask.TheVariants.{Take, Look}
-use Rattle.iobuf.specs.declared.owner.Question.TheVariants.{Handle, Record, Freed}
+use Rattle.iobuf.specs.declared.owner.reply.Question.TheVariants.{Handle, Record, Freed}
 use Rattle.iobuf.specs.declared.owner.Setup.{Setup}
 use Rattle.iobuf.specs.Words.{words_of, number_of, one_number}
 

@@ -14,7 +14,7 @@ use Rattle.iobufs_owner.specs.declared.owner.types.Call.{Call}
 use Rattle.iobufs_owner.specs.declared.owner.types.Call.TheVariants.{New, External, Static, Put, Advance, Freeze, TryIntoMut, SplitTo, IsUnique, Demote, Clone, Slice, Drop}
 use Rattle.iobuf.specs.declared.owner.Ask.{Ask}
 use Rattle.iobuf.specs.declared.owner.Ask.TheVariants.{Take, Look}
-use Rattle.iobuf.specs.declared.owner.Question.TheVariants.{Handle, Record, Freed}
+use Rattle.iobuf.specs.declared.owner.reply.Question.TheVariants.{Handle, Record, Freed}
 use Rattle.iobuf.specs.declared.owner.Setup.{Setup}
 use Rattle.iobuf.specs.Spelled.{AreNumbers, line_of_words}
 

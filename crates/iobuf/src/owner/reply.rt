@@ -2,9 +2,19 @@
 ghost use Rattle.std.specs.Prelude.{◌≡◌, Some, flat_map};
 ghost use Rattle.iobuf.specs.Owner.Printed.{step_refusal_text, step_reply_text, word_text, shown, given_text, record_text, block_text, number_text, freed_text, answer_text};
 
-use crate::owner::Question;
 use iobufs_owner::owner::{Freed, Handle, Kind, Machine, Record, Refusal, Reply, Word};
 use std::fmt;
+
+/// A question about the machine.
+#[derive(Clone, Copy, Drop)]
+pub enum Question {
+    /// The state of the handle with this number.
+    Handle(usize),
+    /// The state of the record with this number.
+    Record(usize),
+    /// The blocks and records that were freed.
+    Freed,
+}
 
 /// A reply, as it is printed.
 #[derive(Clone, Copy)]
