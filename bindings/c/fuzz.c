@@ -3,8 +3,8 @@
  * every byte, and which views can be written again has to agree. The seed is fixed; the arguments are how many calls
  * are made, and after how many seconds it stops before.
  *
- * Each case first compares the status, if the model says that the call fails: then the model stays. Else it makes the
- * call, and then changes the model.
+ * The function of a call first compares the status, if the model says that the call fails: then the model stays. Else
+ * it makes the call, and then changes the model.
  */
 #include "test.h"
 #include <time.h>
@@ -12,11 +12,11 @@
 /* There are VIEWS views and as many writable buffers, TEXTS texts, and ROWS rows. */
 enum { VIEWS = 6, TEXTS = 4, ROWS = 3 };
 
-/* What the model has memory for: the bytes of a buffer, the views of a text, the buffers of a row, blocks, and the
- * bytes of a frame's body. */
+/* The model has memory for so many bytes of a buffer, views of a text, buffers of a row, blocks, and bytes of a frame's
+ * body. */
 enum { MOST = 240, PIECES = 40, ROW_PARTS = 8, BLOCKS = 8192, BODY = 40 };
 
-/* What is made stays below these: the bytes of a view, of a writable buffer, of a builder's own, and of a body. */
+/* Sizes of new ones are below these: the bytes of a view, of a writable buffer, of a builder's own, and of a body. */
 enum { NEW_VIEW = 60, NEW_PART = 80, MOST_ROOM = 40, NEW_BODY = 30 };
 
 /* Nothing is added to a text or a builder of more pieces than this, or to frames of so many. */
@@ -66,6 +66,7 @@ static void advanced(struct view *v, size_t n) {
     v->len -= n;
     if (v->block) v->room -= n;
 }
+/* The bytes from `from` to `to`, in the block that the view has. */
 static struct view between(const struct view *v, size_t from, size_t to) {
     if (from == to) return no_bytes;
     struct view part = shared(v);
@@ -111,14 +112,14 @@ static void drop_first(struct text *t) {
     let_go(&t->piece[0]);
     memmove(t->piece, t->piece + 1, --t->count * sizeof *t->piece);
 }
-/* What a copy of the first n bytes leaves. */
+/* The first n bytes are copied out: they leave the text. */
 static void text_rest(struct text *t, size_t n) {
     if (n == 0) return;
     if (n == text_len(t)) { drop_text(t); return; }
     while (n >= t->piece[0].len) { n -= t->piece[0].len; drop_first(t); }
     advanced(&t->piece[0], n);
 }
-/* What an advance by n bytes leaves: an empty text of one view keeps that view's block. */
+/* An advance by n bytes. It keeps the block of a text's only view, even if it has no byte left. */
 static void text_advanced(struct text *t, size_t n) {
     if (t->count == 1 && n == t->piece[0].len) { advanced(&t->piece[0], n); return; }
     text_rest(t, n);
@@ -141,7 +142,7 @@ static size_t piece_at(const struct text *t, size_t offset, size_t *start) {
     for (*start = 0; *start + t->piece[i].len <= offset; i++) *start += t->piece[i].len;
     return i;
 }
-/* The n bytes from offset `from`, which it has: shared within a piece, else a copy. The text stays. */
+/* The n bytes from offset `from`, which the text has: shared within a piece, else a copy. The text stays. */
 static struct view view_of_range(const struct text *t, size_t from, size_t n) {
     uint8_t all[PIECES * MOST];
     size_t start;
@@ -165,10 +166,10 @@ static struct text sliced(const struct text *t, size_t lo, size_t hi) {
 }
 /* The first `at` bytes; `t` keeps the rest. All of them move, fewer are shared. */
 static struct text split(struct text *t, size_t at) {
-    struct text front = at == 0 || at < text_len(t) ? sliced(t, 0, at) : *t;
-    if (at == 0) return front;
-    if (at == text_len(t)) no_text(t);
-    else text_rest(t, at);
+    struct text front = *t;
+    if (at > 0 && at == text_len(t)) { no_text(t); return front; }
+    front = sliced(t, 0, at);
+    text_rest(t, at);
     return front;
 }
 static size_t row_len(const struct row *r) {
@@ -202,6 +203,7 @@ static void row_bytes(const struct row *r, uint8_t *out) {
         out += r->part[i].len;
     }
 }
+/* Bytes are put behind those that are there; they fit. */
 static void part_put(struct part *p, const uint8_t *at, size_t n) {
     memcpy(p->at + p->len, at, n);
     p->len += n;
@@ -214,13 +216,14 @@ static void row_put(struct row *r, const uint8_t *at, size_t n) {
         at += some; n -= some;
     }
 }
+/* The first n bytes are dropped, with their room. */
 static void part_drain(struct part *p, size_t n) {
     memmove(p->at, p->at + n, p->len - n);
     p->len -= n; p->capacity -= n;
 }
 static void row_drain(struct row *r, size_t n) {
     if (n == 0) return;
-    size_t several = r->count > 1;
+    const int several = r->count > 1; /* a buffer alone stays, even if it has no capacity left */
     for (size_t i = 0; i < r->count; i++) {
         size_t some = n < r->part[i].len ? n : r->part[i].len;
         part_drain(&r->part[i], some);
@@ -228,6 +231,7 @@ static void row_drain(struct row *r, size_t n) {
     }
     if (several) keep_parts(r);
 }
+/* n bytes are readable: the new ones are zeros. */
 static void part_resize(struct part *p, size_t n) {
     if (n > p->len) memset(p->at + p->len, 0, n - p->len);
     p->len = n;
@@ -263,11 +267,11 @@ static struct builder builder;
 static struct iobufs_builder builder_memory;
 static struct iobufs_builder_at builder_at;
 
-static struct text frames; /* what was fed and not taken */
+static struct text frames; /* fed and not taken */
 static struct iobufs_frames frames_memory;
 static struct iobufs_frames_at frames_at;
 
-static uint8_t came[2 * MOST]; /* what was received and not taken */
+static uint8_t came[2 * MOST]; /* received and not taken */
 static size_t came_len;
 static struct iobufs_received received_memory;
 static struct iobufs_received_at received_at;
@@ -348,9 +352,9 @@ static void same_row(int i) {
     CHECK(seen == n);
 }
 
-/* ---- what the calls share ---- */
+/* ---- shared by the calls ---- */
 
-static uint8_t some[2 * MOST]; /* what a call is given, or copies out */
+static uint8_t some[2 * MOST]; /* a call is given these, or copies them out */
 static void any_bytes(size_t n) {
     for (size_t i = 0; i < n; i++) some[i] = (uint8_t)number();
 }
@@ -943,7 +947,7 @@ static void builder_call(int text, int view) {
     same_view(view);
 }
 
-/* What taking the first frame answers, of a body up to BODY bytes; of a whole one, where its body is, and its length.
+/* The status of taking the first frame, of a body up to BODY bytes; of a whole one, where its body is, and its length.
  * The prefix is a varint: the last of several bytes isn't 0, and a tenth byte is 1. */
 static iobufs_status front_of(const uint8_t *all, size_t len, size_t *at, size_t *body) {
     size_t i = 0, shift = 0, n = 0;

@@ -32,7 +32,7 @@ enum {
     ALWAYS_SHORT_WRITES = 4096 /* from this body on a list is more than the socket takes */
 };
 
-/* What the sender tells the reader's process. */
+/* Shared memory: the sender tells this to the reader's process. */
 struct told { uint64_t sum; size_t writes, short_writes; };
 
 static struct told *told;
@@ -222,42 +222,33 @@ static void send_plain(int to, size_t count) {
     free(bodies); free(block);
 }
 
-/* What is known of the frame that comes: its length, which `shift` bits are read of, and its body, of which `have`
- * bytes are there; NULL before the length is whole. */
-struct coming { size_t len, shift, have; uint8_t *body; };
-
-/* Takes the next bytes of a frame, and answers how many: one of its length, or all there are of its body. */
-static size_t take_some(struct coming *frame, const uint8_t *at, size_t n) {
-    if (frame->body) {
-        size_t wanted = frame->len - frame->have, some = wanted < n ? wanted : n;
-        memcpy(frame->body + frame->have, at, some);
-        frame->have += some;
-        return some;
-    }
-    frame->len |= (size_t)(at[0] & 127) << frame->shift;
-    frame->shift += 7;
-    if (at[0] & 128) return 1;
-    CHECK(frame->len <= MOST);
-    frame->body = (uint8_t *)malloc(frame->len);
-    CHECK(frame->body);
-    return 1;
-}
-
+/* A frame comes in pieces: `len` and `shift` are what its length is so far, byte by byte; then `taken` has `have` bytes
+ * of its body, and before it is NULL. */
 static uint64_t read_plain(int from, size_t count) {
-    static const struct coming none;
     static uint8_t room[PIECE];
-    struct coming frame = none;
+    uint8_t *taken = NULL;
     uint64_t sum = 0;
-    for (size_t seen = 0; seen < count;) {
+    for (size_t seen = 0, len = 0, shift = 0, have = 0; seen < count;) {
         size_t n = read_some(from, room);
         for (size_t at = 0; at < n;) {
-            at += take_some(&frame, room + at, n - at);
-            if (frame.body == NULL || frame.have < frame.len) continue;
-            CHECK(frame.len == body);
-            sum = sum_of(sum, frame.body, frame.len);
-            free(frame.body);
-            frame = none;
-            seen++;
+            if (taken == NULL) {
+                uint8_t byte = room[at++];
+                len |= (size_t)(byte & 127) << shift;
+                shift += 7;
+                if (byte & 128) continue;
+                CHECK(len <= MOST);
+                taken = (uint8_t *)malloc(len);
+                CHECK(taken);
+                have = 0;
+            }
+            size_t part = len - have < n - at ? len - have : n - at;
+            memcpy(taken + have, room + at, part);
+            have += part; at += part;
+            if (have < len) continue;
+            CHECK(len == body);
+            sum = sum_of(sum, taken, len);
+            free(taken);
+            taken = NULL; len = shift = 0; seen++;
         }
     }
     return sum;
@@ -312,8 +303,8 @@ static double now(void) {
 }
 
 static void report(struct arguments given, double seconds) {
-    printf("%zu MiB in %zu frames of %zu bytes%s: %.2f s, %zu writes, %zu of them short\n", given.mebibytes, given.count,
-           body, given.plain ? " by plain copies" : "", seconds, told->writes, told->short_writes);
+    printf("%zu MiB in %zu frames of %zu bytes%s: %.2f s, %zu writes, %zu of them short\n", given.mebibytes,
+           given.count, body, given.plain ? " by plain copies" : "", seconds, told->writes, told->short_writes);
 }
 
 int main(int argc, char **argv) {

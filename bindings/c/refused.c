@@ -43,7 +43,7 @@ void __wrap_free(void *old) {
 #define OLD_BYTES "old"
 enum { TEXT_LEN = sizeof TEXT_BYTES - 1, VIEW_LEN = sizeof VIEW_BYTES - 1, OLD_LEN = sizeof OLD_BYTES - 1 };
 
-/* What each case is given, filled again for every refusal. `frames` was fed TEXT_BYTES, `received` got VIEW_BYTES, and
+/* Each case is given these, filled again for every refusal. `frames` was fed TEXT_BYTES, `received` got VIEW_BYTES, and
  * `fresh` nothing; `builder` has put all that fits; `out_text` is empty. */
 struct made {
     struct iobuf_at view, out_view, shared;
@@ -141,7 +141,7 @@ static void received_stays(struct made *m) {
     CHECK(iobufs_received_len(&m->fresh) == 0);
     CHECK(view_is(&m->out_view, OLD_BYTES));
 }
-/* Nothing is compared. */
+/* No promise is made of what is left: nothing is compared. */
 static void given_up(struct made *m) { (void)m; }
 
 static const struct { const char *name; run *call; kept *stays; } cases[] = {
@@ -204,7 +204,7 @@ static void fill_parts(struct made *m) {
     OK(iobufmut_with_capacity(5, &m->out_part));
 }
 
-/* Fills what a case is given, of which all handles are empty; `other` shares the block of m->shared then, so that a
+/* Fills all that a case is given, of which all handles are empty; `other` shares the block of m->shared then, so that a
  * writable buffer of that is a copy. */
 static void fill(struct made *m, struct iobuf_at *other) {
     OK(iobuf_copy_from_slice(bytes(VIEW_BYTES), VIEW_LEN, &m->view));

@@ -207,9 +207,10 @@ static void texts(size_t count, size_t n) {
     iobuf_drop(&view); iobufs_drop(&front);
 }
 
-/* Slices of a view of n bytes that have none. */
-static void empty_slices(const struct iobuf_at *view, size_t n) {
+/* Of a view of n bytes: ranges without bytes, and those that don't fit. */
+static void ranges_of_view(struct iobuf_at *view, size_t n) {
     VIEW(out);
+    const size_t beyond[] = { n + 1, FAR + n, SIZE_MAX };
     for (size_t at = 0; at <= n; at += n / 2) {
         OK(iobuf_slice(view, IOBUFS_INCLUDED, at, IOBUFS_EXCLUDED, at, &out));
         CHECK(iobuf_len(&out) == 0);
@@ -219,16 +220,8 @@ static void empty_slices(const struct iobuf_at *view, size_t n) {
         CHECK(iobuf_slice(view, IOBUFS_EXCLUDED, at, IOBUFS_EXCLUDED, at, &out) == IOBUFS_OUT_OF_RANGE);
     }
     OK(iobuf_slice(view, IOBUFS_INCLUDED, n, IOBUFS_UNBOUNDED, 0, &out));
-    CHECK(iobuf_len(&out) == 0);
     OK(iobuf_slice(view, IOBUFS_UNBOUNDED, 0, IOBUFS_EXCLUDED, 0, &out));
     CHECK(iobuf_len(&out) == 0);
-}
-
-/* Of a view of n bytes: ranges without bytes, and those that don't fit. */
-static void ranges_of_view(struct iobuf_at *view, size_t n) {
-    VIEW(out);
-    const size_t beyond[] = { n + 1, FAR + n, SIZE_MAX };
-    empty_slices(view, n);
     for (size_t i = 0; i < sizeof beyond / sizeof *beyond; i++) {
         const size_t far = beyond[i];
         CHECK(iobuf_slice(view, IOBUFS_INCLUDED, 0, IOBUFS_EXCLUDED, far, &out) == IOBUFS_OUT_OF_RANGE);
@@ -278,12 +271,14 @@ static void ranges(void) {
     ranges_of_text(&text, n);
 }
 
-/* A length above 2^32 at the front of a view, and limits below and above it. */
+/* A length above 2^32 at the front of a view, and limits below and above it; capacities that no buffer has. */
 static void far_length(void) {
     static const uint8_t written[] = { 0x85, 0x80, 0x80, 0x80, 0x20 };
     PART(part); VIEW(view); VIEW(out);
     const uint8_t *at = NULL;
     size_t n = 1;
+    CHECK(iobufmut_with_capacity((size_t)1 << 63, &part) == IOBUFS_BAD_LAYOUT);
+    CHECK(iobufmut_zeroed((size_t)1 << 63, &part) == IOBUFS_BAD_LAYOUT);
     CHECK(iobufs_length_size(FAR + 5) == 5);
     CHECK(iobufs_length_size(SIZE_MAX) == 10);
     OK(iobufmut_with_capacity(9, &part));
@@ -301,6 +296,7 @@ static void far_length(void) {
     OK(iobuf_read_length(&view, FAR + 5, FAR + 5, &n));
     CHECK(n == FAR + 5);
     CHECK(iobuf_len(&view) == 0);
+    iobuf_drop(&view);
 }
 
 /* Frames whose lengths are below a limit above 2^32, or above one. */
@@ -324,36 +320,16 @@ static void far_frames(void) {
     iobuf_drop(&out); iobufs_frames_drop(&frames); iobufs_received_drop(&block);
 }
 
-static void far_capacities(void) {
-    PART(part);
-    CHECK(iobufmut_with_capacity((size_t)1 << 63, &part) == IOBUFS_BAD_LAYOUT);
-    CHECK(iobufmut_zeroed((size_t)1 << 63, &part) == IOBUFS_BAD_LAYOUT);
-}
-
 /* A front that is no length, of one byte or two, and why. */
 struct front { const char *bytes; size_t len; iobufs_status why; };
 
-static void front_of_view(const struct front *front) {
-    VIEW(view); VIEW(out);
-    uint16_t two = 1;
-    size_t n = 1;
-    OK(iobuf_copy_from_slice(bytes(front->bytes), front->len, &view));
-    CHECK(iobuf_read_length(&view, 0, SIZE_MAX, &n) == front->why);
-    CHECK(n == 1);
-    CHECK(iobuf_read_view(&view, 0, SIZE_MAX, &out) == front->why);
-    if (front->len < 2) CHECK(iobuf_get_u16(&view, &two) == IOBUFS_END_OF_BUFFER);
-    CHECK(two == 1);
-    CHECK(iobuf_len(&view) == front->len);
-    CHECK(iobuf_len(&out) == 0);
-    iobuf_drop(&view);
-}
-
-static void front_of_text(const struct front *front) {
+/* The view is of the front, and stays. */
+static void front_of_text(const struct front *front, const struct iobuf_at *view) {
     TEXT(text); VIEW(out);
     uint16_t two = 1;
     uint32_t four = 1;
     size_t n = 1;
-    OK(iobuf_copy_from_slice(bytes(front->bytes), front->len, &out));
+    OK(iobuf_clone(view, &out));
     iobufs_from_view(&out, &text);
     CHECK(iobufs_read_length(&text, 0, SIZE_MAX, &n) == front->why);
     CHECK(n == 1);
@@ -367,27 +343,35 @@ static void front_of_text(const struct front *front) {
     iobufs_drop(&text);
 }
 
-static void front_of_frames(const struct front *front) {
-    FRAMES(frames); VIEW(view);
+/* The view is of the front, and is fed then to frames that hold nothing, before and after. */
+static void front_of_view(const struct front *front, struct iobuf_at *view, struct iobufs_frames_at *frames) {
+    VIEW(out);
+    uint16_t two = 1;
     size_t n = 1;
-    OK(iobuf_copy_from_slice(bytes(front->bytes), front->len, &view));
-    OK(iobufs_frames_feed(&frames, &view));
-    CHECK(iobufs_frames_next(&frames, 0, SIZE_MAX, &view, &n) == front->why);
-    CHECK(iobufs_frames_len(&frames) == front->len);
-    iobufs_frames_drop(&frames);
+    CHECK(iobuf_read_length(view, 0, SIZE_MAX, &n) == front->why);
+    CHECK(n == 1);
+    CHECK(iobuf_read_view(view, 0, SIZE_MAX, &out) == front->why);
+    if (front->len < 2) CHECK(iobuf_get_u16(view, &two) == IOBUFS_END_OF_BUFFER);
+    CHECK(two == 1);
+    CHECK(iobuf_len(view) == front->len);
+    CHECK(iobuf_len(&out) == 0);
+    OK(iobufs_frames_feed(frames, view));
+    CHECK(iobufs_frames_next(frames, 0, SIZE_MAX, &out, &n) == front->why);
+    CHECK(iobufs_frames_len(frames) == front->len);
+    iobufs_frames_drop(frames);
 }
 
 /* Fronts that are no length and no number: each call says why, and what it read from stays. */
 static void fronts(void) {
     static const struct front all[] = { { "\x80", 1, IOBUFS_END_OF_BUFFER }, { "\x80\0", 2, IOBUFS_INVALID_VARINT } };
-    TEXT(none); PART(part);
+    TEXT(none); PART(part); VIEW(view); FRAMES(frames);
     uint8_t one = 1;
     CHECK(iobufs_get_u8(&none, &one) == IOBUFS_END_OF_BUFFER);
     CHECK(one == 1);
     for (size_t i = 0; i < sizeof all / sizeof *all; i++) {
-        front_of_view(&all[i]);
-        front_of_text(&all[i]);
-        front_of_frames(&all[i]);
+        OK(iobuf_copy_from_slice(bytes(all[i].bytes), all[i].len, &view));
+        front_of_text(&all[i], &view);
+        front_of_view(&all[i], &view, &frames);
     }
     OK(iobufmut_with_capacity(1, &part));
     CHECK(iobufmut_put_length(&part, 300) == IOBUFS_OUT_OF_RANGE);
@@ -409,7 +393,6 @@ int main(void) {
     ranges();
     far_length();
     far_frames();
-    far_capacities();
     fronts();
     return 0;
 }

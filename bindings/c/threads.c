@@ -22,8 +22,8 @@ void *__wrap_calloc(size_t n, size_t size) { blocks++; return __real_calloc(n, s
 void *__wrap_realloc(void *old, size_t n) { blocks += old == NULL; return __real_realloc(old, n); }
 void __wrap_free(void *old) { blocks -= old != NULL; __real_free(old); }
 
-/* The bytes of the block, how many of them a turn splits off and doesn't read, and the value of each; after so many
- * turns a thread drops what it has appended. */
+/* The threads, the bytes of the block, how many of these a turn splits off and doesn't read, the value of each, and
+ * after how many turns a thread drops the views that it has appended. */
 enum { THREADS = 8, LEN = 64, CUT = 10, VALUE = 2, TURNS_KEPT = 16 };
 
 static int turns = 5000;
