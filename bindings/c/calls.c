@@ -1,4 +1,7 @@
-/* Every call once or more, with values that are worked by hand. */
+/*
+ * Every call once or more, with values that are worked by hand. Each test makes the buffers that it needs, of these:
+ * HELLO, buffers of capacity 16, and texts whose pieces `|` divides.
+ */
 #include "test.h"
 
 #define HELLO(view) OK(iobuf_copy_from_slice(bytes("hello world"), 11, &view))
@@ -15,15 +18,30 @@ static void sizes(void) {
     CHECK(iobufs_received_size() <= sizeof(struct iobufs_received));
 }
 
-static void views(void) {
-    VIEW(hello); VIEW(rest); VIEW(cut);
+/* ---- iobuf ---- */
+
+static void view_clones(void) {
+    VIEW(hello); VIEW(other); VIEW(none);
     CHECK(view_is(&hello, ""));
     OK(iobuf_copy_from_slice(bytes(""), 0, &hello));
     HELLO(hello);
     CHECK(view_is(&hello, "hello world"));
+    OK(iobuf_clone(&hello, &other));
+    CHECK(iobuf_eq(&hello, &other));
+    CHECK(!iobuf_eq(&hello, &none));
+    iobuf_drop(&hello); iobuf_drop(&hello);
+    CHECK(view_is(&hello, ""));
+    CHECK(view_is(&other, "hello world"));
+    iobuf_from_static(bytes("for good"), 8, &other);
+    CHECK(view_is(&other, "for good"));
+    iobuf_drop(&other);
+    CHECK(view_is(&other, ""));
+}
+
+static void view_cuts(void) {
+    VIEW(hello); VIEW(rest); VIEW(cut);
+    HELLO(hello);
     OK(iobuf_clone(&hello, &rest));
-    CHECK(iobuf_eq(&hello, &rest));
-    CHECK(!iobuf_eq(&hello, &cut));
     CHECK(iobuf_split_to(&rest, 12, &cut) == IOBUFS_OUT_OF_RANGE);
     CHECK(view_is(&rest, "hello world"));
     CHECK(view_is(&cut, ""));
@@ -34,36 +52,57 @@ static void views(void) {
     CHECK(view_is(&rest, " world"));
     OK(iobuf_advance(&rest, 1));
     CHECK(view_is(&rest, "world"));
-    OK(iobuf_slice(&hello, IOBUFS_INCLUDED, 2, IOBUFS_EXCLUDED, 4, &cut));
-    CHECK(view_is(&cut, "ll"));
-    OK(iobuf_slice(&hello, IOBUFS_EXCLUDED, 5, IOBUFS_INCLUDED, 7, &cut));
+    /* The cut holds bytes: a failure keeps them, and a success drops them. */
+    CHECK(iobuf_split_to(&rest, 6, &cut) == IOBUFS_OUT_OF_RANGE);
+    CHECK(view_is(&cut, "hello"));
+    OK(iobuf_split_to(&rest, 2, &cut));
     CHECK(view_is(&cut, "wo"));
-    OK(iobuf_slice(&hello, IOBUFS_UNBOUNDED, 0, IOBUFS_UNBOUNDED, 0, &cut));
-    CHECK(view_is(&cut, "hello world"));
-    CHECK(iobuf_slice(&hello, IOBUFS_INCLUDED, 4, IOBUFS_EXCLUDED, 2, &cut) == IOBUFS_OUT_OF_RANGE);
-    CHECK(iobuf_slice(&hello, IOBUFS_INCLUDED, 4, IOBUFS_INCLUDED, 11, &cut) == IOBUFS_OUT_OF_RANGE);
-    CHECK(iobuf_slice(&hello, IOBUFS_INCLUDED, 0, IOBUFS_INCLUDED, SIZE_MAX, &cut) == IOBUFS_OUT_OF_RANGE);
-    CHECK(iobuf_slice(&hello, 7, 1, 9, 3, &cut) == IOBUFS_BAD_KIND);
-    CHECK(iobuf_slice(&hello, IOBUFS_INCLUDED, 0, 3, 1, &cut) == IOBUFS_BAD_KIND);
-    CHECK(iobuf_slice(&hello, 255, 9, IOBUFS_EXCLUDED, 1, &cut) == IOBUFS_BAD_KIND);
-    CHECK(view_is(&cut, "hello world"));
-    CHECK(iobuf_split_to(&cut, 12, &rest) == IOBUFS_OUT_OF_RANGE);
-    CHECK(view_is(&rest, "world"));
-    OK(iobuf_split_to(&cut, 6, &rest));
-    CHECK(view_is(&rest, "hello "));
-    CHECK(view_is(&cut, "world"));
-    uint8_t out[5] = { 0 };
-    OK(iobuf_copy_to_slice(&cut, out, 5));
-    CHECK(!memcmp(out, "world", 5));
-    CHECK(view_is(&cut, ""));
-    CHECK(iobuf_copy_to_slice(&cut, out, 1) == IOBUFS_END_OF_BUFFER);
-    CHECK(out[0] == 'w');
-    OK(iobuf_copy_to_slice(&cut, out, 0));
-    iobuf_from_static(bytes("for good"), 8, &cut);
-    CHECK(view_is(&cut, "for good"));
-    iobuf_drop(&hello); iobuf_drop(&hello); iobuf_drop(&rest); iobuf_drop(&cut);
-    CHECK(view_is(&hello, ""));
-    CHECK(view_is(&cut, ""));
+    CHECK(view_is(&rest, "rld"));
+    CHECK(view_is(&hello, "hello world"));
+    iobuf_drop(&hello); iobuf_drop(&rest); iobuf_drop(&cut);
+}
+
+/* A slice that fails keeps what was there before: "old". There is no kind 3, 7, 9 or 255. */
+static void view_slices(void) {
+    static const struct {
+        uint8_t lo_kind; size_t lo; uint8_t hi_kind; size_t hi; iobufs_status status; const char *bytes;
+    } cases[] = {
+        { IOBUFS_INCLUDED, 2, IOBUFS_EXCLUDED, 4, IOBUFS_OK, "ll" },
+        { IOBUFS_EXCLUDED, 5, IOBUFS_INCLUDED, 7, IOBUFS_OK, "wo" },
+        { IOBUFS_UNBOUNDED, 0, IOBUFS_UNBOUNDED, 0, IOBUFS_OK, "hello world" },
+        { IOBUFS_INCLUDED, 4, IOBUFS_EXCLUDED, 2, IOBUFS_OUT_OF_RANGE, "old" },
+        { IOBUFS_INCLUDED, 4, IOBUFS_INCLUDED, 11, IOBUFS_OUT_OF_RANGE, "old" },
+        { IOBUFS_INCLUDED, 0, IOBUFS_INCLUDED, SIZE_MAX, IOBUFS_OUT_OF_RANGE, "old" },
+        { 7, 1, 9, 3, IOBUFS_BAD_KIND, "old" },
+        { IOBUFS_INCLUDED, 0, 3, 1, IOBUFS_BAD_KIND, "old" },
+        { 255, 9, IOBUFS_EXCLUDED, 1, IOBUFS_BAD_KIND, "old" },
+    };
+    VIEW(hello); VIEW(cut);
+    HELLO(hello);
+    for (size_t i = 0; i < sizeof cases / sizeof *cases; i++) {
+        OK(iobuf_copy_from_slice(bytes("old"), 3, &cut));
+        CHECK(iobuf_slice(&hello, cases[i].lo_kind, cases[i].lo, cases[i].hi_kind, cases[i].hi, &cut)
+              == cases[i].status);
+        CHECK(view_is(&cut, cases[i].bytes));
+    }
+    CHECK(view_is(&hello, "hello world"));
+    iobuf_drop(&hello); iobuf_drop(&cut);
+}
+
+static void view_copies_out(void) {
+    VIEW(view);
+    uint8_t out[6] = { 0 };
+    HELLO(view);
+    OK(iobuf_copy_to_slice(&view, out, 5));
+    CHECK(!memcmp(out, "hello", 6));
+    CHECK(view_is(&view, " world"));
+    OK(iobuf_copy_to_slice(&view, out, 6));
+    CHECK(!memcmp(out, " world", 6));
+    CHECK(view_is(&view, ""));
+    CHECK(iobuf_copy_to_slice(&view, out, 1) == IOBUFS_END_OF_BUFFER);
+    CHECK(out[0] == ' ');
+    OK(iobuf_copy_to_slice(&view, out, 0));
+    iobuf_drop(&view);
 }
 
 /* Memory that isn't copied lives until the last buffer made of it is dropped: nothing reads it after that. */
@@ -89,6 +128,7 @@ static void lent(void) {
     CHECK(view_is(&frame, "abcde"));
     OK(iobufs_advance(&text, 7));
     iobuf_drop(&whole); iobuf_drop(&frame); iobufs_drop(&front); iobufs_builder_drop(&builder);
+    /* `text` and `fed` hold none of these bytes any more, and are used on: the sanitizer sees a read of them. */
     memset(memory, 0, 6);
     free(memory);
     CHECK(iobufs_len(&text) == 0);
@@ -100,128 +140,176 @@ static void lent(void) {
     iobufs_drop(&text); iobufs_frames_drop(&fed); iobuf_drop(&whole);
 }
 
-/* The address of a view's bytes. */
-static const uint8_t *chunk_of(const struct iobuf_at *view) {
+/* The memory moves, and the buffer with it. */
+static void moved(void) {
+    struct iobuf *before = (struct iobuf *)malloc(sizeof *before), *after = (struct iobuf *)malloc(sizeof *after);
+    struct iobuf_at place = { before };
+    iobuf_init(before);
+    HELLO(place);
+    memcpy(after, before, sizeof *before);
+    free(before);
+    place.at = after;
+    CHECK(view_is(&place, "hello world"));
+    iobuf_drop(&place);
+    free(after);
+}
+
+/* ---- results that replace a buffer: none is copied ---- */
+
+/* Whether a view, or the first chunk of a text, is the n bytes at this address. */
+static int view_is_at(const struct iobuf_at *view, const uint8_t *wanted, size_t n) {
     const uint8_t *at = NULL;
-    iobuf_chunk(view, &at);
+    return iobuf_chunk(view, &at) == n && at == wanted;
+}
+static int text_is_at(const struct iobufs_at *text, const uint8_t *wanted, size_t n) {
+    const uint8_t *at = NULL;
+    return iobufs_chunk(text, &at) == n && at == wanted;
+}
+
+/* Makes a buffer of three bytes, and answers their address. */
+static const uint8_t *make_xyz(struct iobufmut_at *buffer) {
+    uint8_t *at = NULL;
+    OK(iobufmut_copy_from_slice(bytes("xyz"), 3, buffer));
+    CHECK(iobufmut_chunk(buffer, &at) == 3);
     return at;
 }
 
-/* Results that replace a buffer: none is copied. */
-static void in_place(void) {
+static void views_in_place(void) {
+    VIEW(hello); VIEW(other); VIEW(cut);
     const uint8_t *at = NULL;
-    uint8_t *written = NULL;
-    VIEW(hello); VIEW(other); VIEW(cut); PART(buffer); TEXT(text); TEXT(share); PARTS(several);
     HELLO(hello);
-    OK(iobuf_slice(&hello, 0, 4, 2, 0, &other));
-    CHECK(chunk_of(&other) == chunk_of(&hello) + 4);
+    CHECK(iobuf_chunk(&hello, &at) == 11);
+    OK(iobuf_slice(&hello, IOBUFS_INCLUDED, 4, IOBUFS_UNBOUNDED, 0, &other));
+    CHECK(view_is_at(&other, at + 4, 7));
     OK(iobuf_clone(&hello, &other));
-    CHECK(chunk_of(&other) == chunk_of(&hello));
+    CHECK(view_is_at(&other, at, 11));
     OK(iobuf_split_to(&other, 5, &cut));
-    CHECK(chunk_of(&cut) == chunk_of(&hello));
-    CHECK(chunk_of(&other) == chunk_of(&hello) + 5);
-    OK(iobufmut_copy_from_slice(bytes("xyz"), 3, &buffer));
-    CHECK(iobufmut_chunk(&buffer, &written) == 3);
-    OK(iobufmut_freeze(&buffer, &other));
-    CHECK(chunk_of(&other) == written);
-    OK(iobufmut_copy_from_slice(bytes("xyz"), 3, &buffer));
-    CHECK(iobufmut_chunk(&buffer, &written) == 3);
+    CHECK(view_is_at(&cut, at, 5));
+    CHECK(view_is_at(&other, at + 5, 6));
+    iobuf_drop(&hello); iobuf_drop(&other); iobuf_drop(&cut);
+}
+
+static void texts_in_place(void) {
+    PART(buffer); PARTS(several); VIEW(view); TEXT(text); TEXT(other);
+    const uint8_t *at = make_xyz(&buffer);
+    OK(iobufmut_freeze(&buffer, &view));
+    CHECK(view_is_at(&view, at, 3));
+    iobufs_from_view(&view, &text);
+    CHECK(text_is_at(&text, at, 3));
+    at = make_xyz(&buffer);
     iobufsmut_from_mut(&buffer, &several);
     OK(iobufsmut_freeze(&several, &text));
-    CHECK(iobufs_chunk(&text, &at) == 3);
-    CHECK(at == written);
-    OK(iobufs_clone(&text, &share));
-    CHECK(iobufs_chunk(&share, &at) == 3);
-    CHECK(at == written);
-    OK(iobufs_slice(&text, 1, 3, &share));
-    CHECK(iobufs_chunk(&share, &at) == 2);
-    CHECK(at == written + 1);
-    OK(iobufs_split_to(&text, 1, &share));
-    CHECK(iobufs_chunk(&text, &at) == 2);
-    CHECK(at == written + 1);
-    CHECK(iobufs_chunk(&share, &at) == 1);
-    CHECK(at == written);
-    OK(iobufs_coalesce(&text, &other));
-    CHECK(chunk_of(&other) == written + 1);
-    OK(iobufmut_copy_from_slice(bytes("xyz"), 3, &buffer));
-    CHECK(iobufmut_chunk(&buffer, &written) == 3);
-    OK(iobufmut_freeze(&buffer, &other));
-    iobufs_from_view(&other, &text);
-    CHECK(iobufs_chunk(&text, &at) == 3);
-    CHECK(at == written);
-    OK(iobufs_take(&text, 2, &cut));
-    CHECK(chunk_of(&cut) == written);
-    CHECK(iobufs_chunk(&text, &at) == 1);
-    CHECK(at == written + 2);
-    iobuf_drop(&hello); iobuf_drop(&other); iobuf_drop(&cut); iobufs_drop(&text); iobufs_drop(&share);
+    CHECK(text_is_at(&text, at, 3));
+    OK(iobufs_clone(&text, &other));
+    CHECK(text_is_at(&other, at, 3));
+    OK(iobufs_slice(&text, 1, 3, &other));
+    CHECK(text_is_at(&other, at + 1, 2));
+    OK(iobufs_split_to(&text, 1, &other));
+    CHECK(text_is_at(&text, at + 1, 2));
+    CHECK(text_is_at(&other, at, 1));
+    OK(iobufs_coalesce(&text, &view));
+    CHECK(view_is_at(&view, at + 1, 2));
+    iobufs_drop(&other);
+    iobufs_from_view(&view, &text);
+    OK(iobufs_take(&text, 1, &view));
+    CHECK(view_is_at(&view, at + 1, 1));
+    CHECK(text_is_at(&text, at + 2, 1));
+    iobuf_drop(&view); iobufs_drop(&text);
 }
 
-/* The memory moves, and the buffer with it. */
-static void moved(void) {
-    struct iobuf *old = (struct iobuf *)malloc(sizeof *old), *new_ = (struct iobuf *)malloc(sizeof *new_);
-    struct iobuf_at place = { old };
-    iobuf_init(old);
-    HELLO(place);
-    memcpy(new_, old, sizeof *old);
-    free(old);
-    place.at = new_;
-    CHECK(view_is(&place, "hello world"));
-    iobuf_drop(&place);
-    free(new_);
+/* ---- iobufmut ---- */
+
+/* Makes a buffer of capacity 16 with these bytes. */
+static void make_16(struct iobufmut_at *buffer, const char *text) {
+    OK(iobufmut_with_capacity(16, buffer));
+    OK(iobufmut_put_slice(buffer, bytes(text), strlen(text)));
 }
 
-static void buffers(void) {
-    PART(buffer); PART(copy); VIEW(view); VIEW(share);
-    CHECK(iobufmut_len(&buffer) == 0);
-    CHECK(iobufmut_capacity(&buffer) == 0);
-    CHECK(iobufmut_remaining_mut(&buffer) == 0);
-    OK(iobufmut_put_slice(&buffer, bytes(""), 0));
-    CHECK(iobufmut_put_slice(&buffer, bytes("x"), 1) == IOBUFS_OUT_OF_RANGE);
-    CHECK(iobufmut_put_u8(&buffer, 1) == IOBUFS_OUT_OF_RANGE);
-    CHECK(iobufmut_put_bytes(&buffer, 1, 1) == IOBUFS_OUT_OF_RANGE);
-    CHECK(iobufmut_set_len(&buffer, 1) == IOBUFS_OUT_OF_RANGE);
-    CHECK(iobufmut_advance(&buffer, 1) == IOBUFS_OUT_OF_RANGE);
-    CHECK(iobufmut_with_capacity(SIZE_MAX, &buffer) == IOBUFS_BAD_LAYOUT);
-    CHECK(iobufmut_zeroed(SIZE_MAX, &buffer) == IOBUFS_BAD_LAYOUT);
-    OK(iobufmut_with_capacity(16, &buffer));
-    OK(iobufmut_put_slice(&buffer, bytes("hello"), 5));
+/* Makes a buffer of "abc", of whose capacity 16 five bytes are drained: its block recovers as one of 16 - 5. */
+static void make_drained(struct iobufmut_at *buffer) {
+    make_16(buffer, "helloabc");
+    OK(iobufmut_advance(buffer, 5));
+    CHECK(part_is(buffer, "abc"));
+    CHECK(iobufmut_capacity(buffer) == 16 - 5);
+}
+
+static void buffer_of_none(void) {
+    PART(none);
+    CHECK(iobufmut_len(&none) == 0);
+    CHECK(iobufmut_capacity(&none) == 0);
+    CHECK(iobufmut_remaining_mut(&none) == 0);
+    OK(iobufmut_put_slice(&none, bytes(""), 0));
+    CHECK(iobufmut_put_slice(&none, bytes("x"), 1) == IOBUFS_OUT_OF_RANGE);
+    CHECK(iobufmut_put_u8(&none, 1) == IOBUFS_OUT_OF_RANGE);
+    CHECK(iobufmut_put_bytes(&none, 1, 1) == IOBUFS_OUT_OF_RANGE);
+    CHECK(iobufmut_set_len(&none, 1) == IOBUFS_OUT_OF_RANGE);
+    CHECK(iobufmut_advance(&none, 1) == IOBUFS_OUT_OF_RANGE);
+    CHECK(iobufmut_with_capacity(SIZE_MAX, &none) == IOBUFS_BAD_LAYOUT);
+    CHECK(iobufmut_zeroed(SIZE_MAX, &none) == IOBUFS_BAD_LAYOUT);
+}
+
+static void buffer_puts(void) {
+    PART(buffer);
+    make_16(&buffer, "hello");
     OK(iobufmut_put_u8(&buffer, ' '));
     OK(iobufmut_put_bytes(&buffer, 'x', 3));
     CHECK(part_is(&buffer, "hello xxx"));
     CHECK(iobufmut_capacity(&buffer) == 16);
-    CHECK(iobufmut_remaining_mut(&buffer) == 7);
+    CHECK(iobufmut_remaining_mut(&buffer) == 16 - 9);
     CHECK(iobufmut_put_slice(&buffer, bytes("too long"), 8) == IOBUFS_OUT_OF_RANGE);
+    OK(iobufmut_copy_from_slice(bytes("xyz"), 3, &buffer));
+    CHECK(part_is(&buffer, "xyz"));
+    CHECK(iobufmut_remaining_mut(&buffer) == 0);
+    OK(iobufmut_zeroed(2, &buffer));
+    CHECK(iobufmut_len(&buffer) == 2);
+    CHECK(iobufmut_capacity(&buffer) == 2);
+    iobufmut_drop(&buffer); iobufmut_drop(&buffer);
+}
+
+static void buffer_writes(void) {
+    PART(buffer);
+    uint8_t *at = NULL;
+    make_16(&buffer, "hello xxx");
     OK(iobufmut_write_at(&buffer, 6, bytes("yz"), 2));
     CHECK(part_is(&buffer, "hello yzx"));
     CHECK(iobufmut_write_at(&buffer, 8, bytes("yz"), 2) == IOBUFS_OUT_OF_RANGE);
     CHECK(iobufmut_write_at(&buffer, SIZE_MAX, bytes("yz"), 2) == IOBUFS_OUT_OF_RANGE);
-    uint8_t *at;
     CHECK(iobufmut_chunk(&buffer, &at) == 9);
     at[0] = 'j';
     CHECK(part_is(&buffer, "jello yzx"));
     iobufmut_truncate(&buffer, 20);
+    CHECK(part_is(&buffer, "jello yzx"));
     iobufmut_truncate(&buffer, 5);
     CHECK(part_is(&buffer, "jello"));
+    iobufmut_drop(&buffer);
+}
+
+static void buffer_drains(void) {
+    PART(buffer);
+    uint8_t *at = NULL, out[3];
+    make_16(&buffer, "jello yzx");
+    iobufmut_truncate(&buffer, 5);
     OK(iobufmut_advance(&buffer, 2));
     CHECK(part_is(&buffer, "llo"));
-    CHECK(iobufmut_capacity(&buffer) == 14);
-    OK(iobufmut_set_len(&buffer, 5));
+    CHECK(iobufmut_capacity(&buffer) == 16 - 2);
+    OK(iobufmut_set_len(&buffer, 5)); /* zeros, not the bytes that were cut off */
     CHECK(iobufmut_chunk(&buffer, &at) == 5);
     CHECK(!memcmp(at, "llo\0\0", 5));
-    uint8_t out[4];
     OK(iobufmut_copy_to_slice(&buffer, out, 3));
     CHECK(!memcmp(out, "llo", 3));
     CHECK(iobufmut_len(&buffer) == 2);
     CHECK(iobufmut_copy_to_slice(&buffer, out, 3) == IOBUFS_END_OF_BUFFER);
     iobufmut_truncate(&buffer, 0);
     CHECK(part_is(&buffer, ""));
-    CHECK(iobufmut_capacity(&buffer) == 11);
+    CHECK(iobufmut_capacity(&buffer) == 16 - 5);
     OK(iobufmut_put_length(&buffer, 300));
-    CHECK(iobufmut_chunk(&buffer, &at) == 2);
-    CHECK(at[0] == 0xac);
-    CHECK(at[1] == 0x02);
-    iobufmut_truncate(&buffer, 0);
-    OK(iobufmut_put_slice(&buffer, bytes("abc"), 3));
+    CHECK(part_is(&buffer, "\xac\x02"));
+    iobufmut_drop(&buffer);
+}
+
+static void buffer_freezes(void) {
+    PART(buffer); VIEW(view); VIEW(share);
+    make_drained(&buffer);
     OK(iobufmut_freeze(&buffer, &view));
     CHECK(view_is(&view, "abc"));
     CHECK(iobufmut_capacity(&buffer) == 0);
@@ -234,46 +322,47 @@ static void buffers(void) {
     iobuf_drop(&share);
     OK(iobuf_try_into_mut(&view, &buffer));
     CHECK(part_is(&buffer, "abc"));
-    CHECK(iobufmut_capacity(&buffer) == 11);
+    CHECK(iobufmut_capacity(&buffer) == 16 - 5);
     CHECK(view_is(&view, ""));
+    iobufmut_drop(&buffer);
+}
+
+/* The bytes of a view that is shared are copied; those of one that isn't are recovered. */
+static void buffer_from_views(void) {
+    PART(buffer); VIEW(view); VIEW(share);
+    make_drained(&buffer);
     OK(iobufmut_freeze(&buffer, &view));
     OK(iobuf_clone(&view, &share));
-    OK(iobufmut_from_view(&view, &copy));
-    CHECK(part_is(&copy, "abc"));
-    CHECK(iobufmut_capacity(&copy) == 3);
+    OK(iobufmut_from_view(&view, &buffer));
+    CHECK(part_is(&buffer, "abc"));
+    CHECK(iobufmut_capacity(&buffer) == 3);
     CHECK(view_is(&view, ""));
-    OK(iobufmut_from_view(&share, &copy));
-    CHECK(part_is(&copy, "abc"));
-    CHECK(iobufmut_capacity(&copy) == 11);
-    OK(iobufmut_zeroed(2, &copy));
-    CHECK(iobufmut_len(&copy) == 2);
-    CHECK(iobufmut_capacity(&copy) == 2);
-    OK(iobufmut_copy_from_slice(bytes("xyz"), 3, &copy));
-    CHECK(part_is(&copy, "xyz"));
-    CHECK(iobufmut_remaining_mut(&copy) == 0);
-    iobufmut_drop(&buffer); iobufmut_drop(&copy); iobufmut_drop(&copy); iobuf_drop(&view);
-    iobuf_drop(&share);
+    OK(iobufmut_from_view(&share, &buffer));
+    CHECK(part_is(&buffer, "abc"));
+    CHECK(iobufmut_capacity(&buffer) == 16 - 5);
+    iobufmut_drop(&buffer);
 }
 
-/* A text of pieces that are copies. */
-static void put_behind(struct iobufs_at *text, const char *piece) {
-    VIEW(view);
-    OK(iobuf_copy_from_slice(bytes(piece), strlen(piece), &view));
-    OK(iobufs_append(text, &view));
-    CHECK(view_is(&view, ""));
-    iobuf_drop(&view);
+/* ---- iobufs ---- */
+
+/* Appends a copy of each of the pieces, which `|` divides: "ab|c" is two. */
+static void append_pieces(struct iobufs_at *text, const char *pieces) {
+    VIEW(piece);
+    for (const char *at = pieces, *end; at; at = *end ? end + 1 : NULL) {
+        end = at + strcspn(at, "|");
+        OK(iobuf_copy_from_slice(bytes(at), (size_t)(end - at), &piece));
+        OK(iobufs_append(text, &piece));
+        CHECK(view_is(&piece, ""));
+    }
 }
 
-static void texts(void) {
-    TEXT(text); TEXT(cut); TEXT(copy); VIEW(view); PART(buffer);
+static void text_chunks(void) {
+    TEXT(text); VIEW(view);
     const uint8_t *at = NULL;
     CHECK(iobufs_len(&text) == 0);
     CHECK(iobufs_chunk_count(&text) == 0);
     CHECK(iobufs_chunk(&text, &at) == 0);
-    put_behind(&text, "abc");
-    put_behind(&text, "de");
-    put_behind(&text, "");
-    put_behind(&text, "fghi");
+    append_pieces(&text, "abc|de||fghi"); /* the empty piece is no chunk */
     CHECK(text_is(&text, "abcdefghi"));
     CHECK(iobufs_chunk_count(&text) == 3);
     CHECK(iobufs_chunk(&text, &at) == 3);
@@ -283,95 +372,144 @@ static void texts(void) {
     CHECK(index == 1);
     CHECK(offset == 1);
     CHECK(iobufs_locate(&text, 9, &index, &offset) == IOBUFS_OUT_OF_RANGE);
-    struct iobufs_iovec list[4];
-    CHECK(iobufs_chunks(&text, list, 2) == 2);
-    CHECK(list[1].len == 2);
-    CHECK(list[1].base[0] == 'd');
-    CHECK(iobufs_chunks(&text, list, 4) == 3);
-    CHECK(list[0].len == 3);
-    CHECK(list[2].len == 4);
-    CHECK(list[2].base[3] == 'i');
-    CHECK(iobufs_chunks(&text, list, 0) == 0);
-    CHECK(iobufs_chunks_from(&text, 1, list, 4) == 2);
-    CHECK(list[0].base[1] == 'e');
-    CHECK(list[1].len == 4);
-    CHECK(list[2].base[3] == 'i');
-    CHECK(iobufs_chunks_from(&text, 2, list, 1) == 1);
-    CHECK(list[0].len == 4);
-    CHECK(list[1].len == 4);
-    CHECK(iobufs_chunks_from(&text, 0, list, 0) == 0);
-    CHECK(iobufs_chunks_from(&text, 3, list, 4) == 0);
-    CHECK(iobufs_chunks_from(&text, SIZE_MAX, list, 4) == 0);
-    CHECK(list[0].len == 4);
     HELLO(view);
     OK(iobufs_prepend(&text, &view));
     CHECK(text_is(&text, "hello worldabcdefghi"));
     CHECK(view_is(&view, ""));
-    OK(iobufs_clone(&text, &cut));
-    CHECK(iobufs_split_to(&text, 21, &cut) == IOBUFS_OUT_OF_RANGE);
-    CHECK(text_is(&cut, "hello worldabcdefghi"));
-    OK(iobufs_slice(&text, 9, 15, &cut));
-    CHECK(text_is(&cut, "ldabcd"));
-    CHECK(iobufs_chunk_count(&cut) == 3);
+    iobufs_drop(&text); iobufs_drop(&text);
+    CHECK(iobufs_len(&text) == 0);
+}
+
+static void text_lists(void) {
+    static const struct iobufs_iovec unwritten = { NULL, 99 };
+    TEXT(text);
+    struct iobufs_iovec list[4] = { unwritten, unwritten, unwritten, unwritten };
+    append_pieces(&text, "abc|de|fghi");
+    CHECK(iobufs_chunks(&text, list, 0) == 0);
+    CHECK(iobufs_chunks(&text, list, 2) == 2);
+    CHECK(list[1].len == 2);
+    CHECK(list[1].base[0] == 'd');
+    CHECK(list[2].len == 99);
+    CHECK(iobufs_chunks(&text, list, 4) == 3);
+    CHECK(list[0].len == 3);
+    CHECK(list[2].len == 4);
+    CHECK(list[2].base[3] == 'i');
+    list[2] = unwritten;
+    CHECK(iobufs_chunks_from(&text, 1, list, 4) == 2);
+    CHECK(list[0].base[1] == 'e');
+    CHECK(list[1].len == 4);
+    CHECK(list[2].len == 99);
+    list[1] = unwritten;
+    CHECK(iobufs_chunks_from(&text, 2, list, 1) == 1);
+    CHECK(list[0].len == 4);
+    CHECK(list[1].len == 99);
+    CHECK(iobufs_chunks_from(&text, 0, list, 0) == 0);
+    CHECK(iobufs_chunks_from(&text, 3, list, 4) == 0);
+    CHECK(iobufs_chunks_from(&text, SIZE_MAX, list, 4) == 0);
+    CHECK(list[0].len == 4);
+    iobufs_drop(&text);
+}
+
+static void text_slices(void) {
+    TEXT(text); TEXT(slice);
+    append_pieces(&text, "hello world|abc|de|fghi");
+    OK(iobufs_slice(&text, 9, 15, &slice));
+    CHECK(text_is(&slice, "ldabcd"));
+    CHECK(iobufs_chunk_count(&slice) == 3);
+    CHECK(iobufs_slice(&text, 3, 21, &slice) == IOBUFS_OUT_OF_RANGE);
+    CHECK(iobufs_slice(&text, 3, 2, &slice) == IOBUFS_OUT_OF_RANGE);
+    CHECK(text_is(&slice, "ldabcd"));
+    OK(iobufs_slice(&text, 20, 20, &slice));
+    CHECK(text_is(&slice, ""));
     CHECK(iobufs_len(&text) == 20);
-    CHECK(iobufs_slice(&text, 3, 21, &cut) == IOBUFS_OUT_OF_RANGE);
-    CHECK(iobufs_slice(&text, 3, 2, &cut) == IOBUFS_OUT_OF_RANGE);
-    CHECK(text_is(&cut, "ldabcd"));
-    OK(iobufs_truncate(&cut, 6));
-    OK(iobufs_truncate(&cut, SIZE_MAX));
-    CHECK(text_is(&cut, "ldabcd"));
-    CHECK(!iobufs_eq(&text, &cut));
-    CHECK(iobufs_eq(&cut, &cut));
-    OK(iobufs_truncate(&cut, 3));
-    CHECK(text_is(&cut, "lda"));
-    CHECK(iobufs_chunk_count(&cut) == 2);
-    OK(iobufs_slice(&text, 9, 12, &cut));
+    CHECK(text_is(&text, "hello worldabcdefghi"));
+    iobufs_drop(&text); iobufs_drop(&slice);
+}
+
+static void text_truncates(void) {
+    TEXT(text); TEXT(slice); TEXT(copy);
+    append_pieces(&text, "hello world|abc|de|fghi");
+    OK(iobufs_slice(&text, 9, 15, &slice));
+    OK(iobufs_truncate(&slice, 6));
+    OK(iobufs_truncate(&slice, SIZE_MAX));
+    CHECK(text_is(&slice, "ldabcd"));
+    CHECK(!iobufs_eq(&text, &slice));
+    CHECK(iobufs_eq(&slice, &slice));
+    OK(iobufs_truncate(&slice, 3));
+    CHECK(text_is(&slice, "lda"));
+    CHECK(iobufs_chunk_count(&slice) == 2);
+    append_pieces(&copy, "l|da"); /* cut elsewhere */
+    CHECK(iobufs_eq(&slice, &copy));
     OK(iobufs_clone(&text, &copy));
     OK(iobufs_truncate(&copy, 12));
     OK(iobufs_advance(&copy, 9));
-    CHECK(iobufs_eq(&cut, &copy));
-    CHECK(iobufs_eq(&copy, &cut));
+    CHECK(iobufs_eq(&slice, &copy));
+    CHECK(iobufs_eq(&copy, &slice));
     OK(iobufs_truncate(&copy, 0));
     CHECK(text_is(&copy, ""));
-    CHECK(!iobufs_eq(&cut, &copy));
-    OK(iobufs_slice(&text, 20, 20, &cut));
-    CHECK(text_is(&cut, ""));
-    CHECK(text_is(&text, "hello worldabcdefghi"));
+    CHECK(!iobufs_eq(&slice, &copy));
+    iobufs_drop(&text); iobufs_drop(&slice);
+}
+
+static void text_cuts(void) {
+    TEXT(text); TEXT(cut);
+    append_pieces(&text, "hello world|abc|de|fghi");
+    OK(iobufs_clone(&text, &cut));
+    CHECK(iobufs_split_to(&text, 21, &cut) == IOBUFS_OUT_OF_RANGE);
+    CHECK(text_is(&cut, "hello worldabcdefghi"));
     OK(iobufs_split_to(&text, 12, &cut));
     CHECK(text_is(&cut, "hello worlda"));
     CHECK(text_is(&text, "bcdefghi"));
     CHECK(iobufs_advance(&text, 9) == IOBUFS_OUT_OF_RANGE);
+    CHECK(text_is(&text, "bcdefghi"));
     OK(iobufs_advance(&text, 3));
     CHECK(text_is(&text, "efghi"));
-    uint8_t out[3];
-    OK(iobufs_copy_to_slice(&text, out, 2));
-    CHECK(!memcmp(out, "ef", 2));
-    CHECK(text_is(&text, "ghi"));
-    uint8_t more[4];
-    CHECK(iobufs_copy_to_slice(&text, more, 4) == IOBUFS_END_OF_BUFFER);
-    CHECK(text_is(&text, "ghi"));
+    iobufs_drop(&text); iobufs_drop(&cut);
+}
+
+static void text_copies_out(void) {
+    TEXT(text);
     uint8_t all[12] = "............";
-    CHECK(iobufs_peek(&cut, 13, all, 0) == IOBUFS_END_OF_BUFFER);
-    CHECK(iobufs_peek(&cut, 1, all, 12) == IOBUFS_END_OF_BUFFER);
-    CHECK(iobufs_peek(&cut, SIZE_MAX, all, 2) == IOBUFS_END_OF_BUFFER);
-    CHECK(all[0] == '.');
-    CHECK(all[11] == '.');
-    OK(iobufs_peek(&cut, 12, all, 0));
-    OK(iobufs_peek(&cut, 9, all, 3));
-    CHECK(!memcmp(all, "lda.", 4));
-    OK(iobufs_peek(&cut, 0, all, iobufs_len(&cut)));
+    append_pieces(&text, "hello world|a");
+    CHECK(iobufs_peek(&text, 13, all, 0) == IOBUFS_END_OF_BUFFER);
+    CHECK(iobufs_peek(&text, 1, all, 12) == IOBUFS_END_OF_BUFFER);
+    CHECK(iobufs_peek(&text, SIZE_MAX, all, 2) == IOBUFS_END_OF_BUFFER);
+    CHECK(!memcmp(all, "............", 12));
+    OK(iobufs_peek(&text, 12, all, 0));
+    OK(iobufs_peek(&text, 9, all, 3));
+    CHECK(!memcmp(all, "lda.........", 12));
+    OK(iobufs_peek(&text, 0, all, iobufs_len(&text)));
     CHECK(!memcmp(all, "hello worlda", 12));
-    CHECK(text_is(&cut, "hello worlda"));
-    CHECK(iobufs_take(&cut, 13, &view) == IOBUFS_END_OF_BUFFER);
-    OK(iobufs_take(&cut, 5, &view));
+    CHECK(text_is(&text, "hello worlda"));
+    OK(iobufs_copy_to_slice(&text, all, 9));
+    CHECK(text_is(&text, "lda"));
+    CHECK(iobufs_copy_to_slice(&text, all, 4) == IOBUFS_END_OF_BUFFER);
+    CHECK(text_is(&text, "lda"));
+    OK(iobufs_copy_to_slice(&text, all, 3));
+    CHECK(!memcmp(all, "ldalo wor", 9));
+    CHECK(text_is(&text, ""));
+}
+
+static void text_takes(void) {
+    TEXT(text); VIEW(view);
+    append_pieces(&text, "hello world|a");
+    CHECK(iobufs_take(&text, 13, &view) == IOBUFS_END_OF_BUFFER);
+    OK(iobufs_take(&text, 5, &view));
     CHECK(view_is(&view, "hello"));
-    CHECK(text_is(&cut, " worlda"));
-    OK(iobufs_take_after(&cut, 1, 6, &view));
-    CHECK(view_is(&view, "worlda"));
-    CHECK(text_is(&cut, ""));
-    CHECK(iobufs_take_after(&text, 2, 2, &view) == IOBUFS_END_OF_BUFFER);
+    CHECK(text_is(&text, " worlda"));
+    CHECK(iobufs_take_after(&text, 6, 2, &view) == IOBUFS_END_OF_BUFFER);
     CHECK(iobufs_take_after(&text, SIZE_MAX, 2, &view) == IOBUFS_END_OF_BUFFER);
-    put_behind(&text, "jk");
+    CHECK(view_is(&view, "hello"));
+    CHECK(text_is(&text, " worlda"));
+    OK(iobufs_take_after(&text, 1, 6, &view));
+    CHECK(view_is(&view, "worlda"));
+    CHECK(text_is(&text, ""));
+    iobuf_drop(&view);
+}
+
+static void text_single(void) {
+    TEXT(text); VIEW(view); PART(buffer);
+    append_pieces(&text, "ghi|jk");
     CHECK(iobufs_try_into_single(&text, &view) == IOBUFS_DECLINED);
     CHECK(text_is(&text, "ghijk"));
     OK(iobufs_coalesce(&text, &view));
@@ -383,113 +521,142 @@ static void texts(void) {
     OK(iobufs_try_into_single(&text, &view));
     CHECK(view_is(&view, "ghijk"));
     CHECK(text_is(&text, ""));
-    put_behind(&text, "ab");
-    put_behind(&text, "c");
-    put_behind(&cut, "de");
-    put_behind(&cut, "f");
-    put_behind(&cut, "ghi");
-    OK(iobufs_append_all(&text, &cut));
-    CHECK(text_is(&text, "abcdefghi"));
-    CHECK(iobufs_chunk_count(&text) == 5);
-    CHECK(text_is(&cut, ""));
-    OK(iobufs_append_all(&text, &cut));
-    CHECK(text_is(&text, "abcdefghi"));
-    CHECK(text_is(&cut, ""));
-    OK(iobufs_append_all(&cut, &text));
-    CHECK(text_is(&cut, "abcdefghi"));
-    CHECK(iobufs_chunk_count(&cut) == 5);
-    CHECK(text_is(&text, ""));
-    CHECK(iobufs_append_all(&cut, &cut) == IOBUFS_DECLINED);
-    CHECK(text_is(&cut, "abcdefghi"));
-    CHECK(iobufs_chunk_count(&cut) == 5);
-    OK(iobufs_advance(&cut, 9));
-    OK(iobufmut_copy_from_slice(bytes("xyz"), 3, &buffer));
+    make_xyz(&buffer);
     OK(iobufmut_freeze(&buffer, &view));
+    CHECK(iobufmut_capacity(&buffer) == 0);
     iobufs_from_view(&view, &text);
     CHECK(text_is(&text, "xyz"));
-    CHECK(iobufmut_capacity(&buffer) == 0);
     CHECK(view_is(&view, ""));
     iobufs_from_view(&view, &text);
     CHECK(text_is(&text, ""));
-    iobufs_drop(&text); iobufs_drop(&text); iobufs_drop(&cut); iobufs_drop(&copy); iobuf_drop(&view);
-    iobufmut_drop(&buffer);
 }
 
-static void parts(void) {
-    PART(first); PART(second); PART(none); PARTS(several); TEXT(text);
-    uint8_t *at = NULL;
-    CHECK(iobufsmut_len(&several) == 0);
-    CHECK(iobufsmut_capacity(&several) == 0);
-    CHECK(iobufsmut_part_count(&several) == 1);
-    CHECK(iobufsmut_put_u8(&several, 1) == IOBUFS_OUT_OF_RANGE);
-    CHECK(iobufsmut_chunk(&several, &at) == 0);
-    OK(iobufmut_with_capacity(4, &first));
-    iobufsmut_from_mut(&first, &several);
-    CHECK(iobufsmut_capacity(&several) == 4);
-    CHECK(iobufsmut_part_count(&several) == 1);
-    CHECK(iobufmut_capacity(&first) == 0);
-    OK(iobufsmut_coalesce(&several, &first));
-    CHECK(iobufmut_capacity(&first) == 4);
-    CHECK(iobufsmut_capacity(&several) == 0);
-    OK(iobufmut_with_capacity(2, &second));
-    struct iobufmut_at row[3] = { first, second, none };
-    OK(iobufsmut_from_parts(row, 3, &several));
-    CHECK(iobufsmut_part_count(&several) == 2);
-    CHECK(iobufsmut_capacity(&several) == 6);
+static void text_append_all(void) {
+    TEXT(text); TEXT(other);
+    append_pieces(&text, "ab|c");
+    append_pieces(&other, "de|f|ghi");
+    OK(iobufs_append_all(&text, &other));
+    CHECK(text_is(&text, "abcdefghi"));
+    CHECK(iobufs_chunk_count(&text) == 5);
+    CHECK(text_is(&other, ""));
+    OK(iobufs_append_all(&text, &other)); /* nothing to something */
+    CHECK(text_is(&text, "abcdefghi"));
+    CHECK(text_is(&other, ""));
+    OK(iobufs_append_all(&other, &text)); /* something to nothing */
+    CHECK(text_is(&other, "abcdefghi"));
+    CHECK(iobufs_chunk_count(&other) == 5);
+    CHECK(text_is(&text, ""));
+    CHECK(iobufs_append_all(&other, &other) == IOBUFS_DECLINED);
+    CHECK(text_is(&other, "abcdefghi"));
+    CHECK(iobufs_chunk_count(&other) == 5);
+    OK(iobufs_advance(&other, 9));
+    CHECK(text_is(&other, ""));
+}
+
+/* ---- iobufsmut ---- */
+
+/* Makes parts of two buffers of these capacities; a handle between them, without a buffer, counts for nothing. */
+static void make_parts(struct iobufsmut_at *parts, size_t one, size_t other) {
+    PART(first); PART(second); PART(none);
+    OK(iobufmut_with_capacity(one, &first));
+    OK(iobufmut_with_capacity(other, &second));
+    struct iobufmut_at row[3] = { first, none, second };
+    OK(iobufsmut_from_parts(row, 3, parts));
     CHECK(iobufmut_capacity(&first) == 0);
     CHECK(iobufmut_capacity(&second) == 0);
-    CHECK(iobufsmut_remaining_mut(&several) == 6);
-    OK(iobufsmut_put_slice(&several, bytes("abc"), 3));
-    OK(iobufsmut_put_bytes(&several, 'x', 2));
-    OK(iobufsmut_put_u8(&several, 'y'));
-    CHECK(parts_are(&several, "abcxxy"));
-    CHECK(iobufsmut_put_u8(&several, 'z') == IOBUFS_OUT_OF_RANGE);
-    CHECK(iobufsmut_put_slice(&several, bytes("z"), 1) == IOBUFS_OUT_OF_RANGE);
-    CHECK(iobufsmut_put_bytes(&several, 'z', 1) == IOBUFS_OUT_OF_RANGE);
-    CHECK(iobufsmut_chunk(&several, &at) == 4);
-    CHECK(!memcmp(at, "abcx", 4));
+    CHECK(iobufsmut_part_count(parts) == 2);
+    CHECK(iobufsmut_capacity(parts) == one + other);
+}
+
+static void parts_of_few(void) {
+    PART(buffer); PART(none); PARTS(parts);
+    uint8_t *at = NULL;
+    CHECK(iobufsmut_len(&parts) == 0);
+    CHECK(iobufsmut_capacity(&parts) == 0);
+    CHECK(iobufsmut_part_count(&parts) == 1);
+    CHECK(iobufsmut_put_u8(&parts, 1) == IOBUFS_OUT_OF_RANGE);
+    CHECK(iobufsmut_chunk(&parts, &at) == 0);
+    OK(iobufmut_with_capacity(4, &buffer));
+    iobufsmut_from_mut(&buffer, &parts);
+    CHECK(iobufsmut_capacity(&parts) == 4);
+    CHECK(iobufsmut_part_count(&parts) == 1);
+    CHECK(iobufmut_capacity(&buffer) == 0);
+    OK(iobufsmut_coalesce(&parts, &buffer));
+    CHECK(iobufmut_capacity(&buffer) == 4);
+    CHECK(iobufsmut_capacity(&parts) == 0);
+    struct iobufmut_at row[2] = { buffer, none };
+    OK(iobufsmut_from_parts(row, 2, &parts));
+    CHECK(iobufsmut_capacity(&parts) == 4);
+    CHECK(iobufsmut_part_count(&parts) == 1);
+    OK(iobufsmut_from_parts(row, 0, &parts));
+    CHECK(iobufsmut_capacity(&parts) == 0);
+    CHECK(iobufsmut_part_count(&parts) == 1);
+    iobufsmut_drop(&parts);
+}
+
+static void parts_put(void) {
+    PARTS(parts);
+    uint8_t *at = NULL;
     struct iobufs_iovec list[3];
-    CHECK(iobufsmut_chunks(&several, list, 3) == 2);
+    make_parts(&parts, 4, 2);
+    CHECK(iobufsmut_remaining_mut(&parts) == 6);
+    OK(iobufsmut_put_slice(&parts, bytes("abc"), 3));
+    OK(iobufsmut_put_bytes(&parts, 'x', 2));
+    OK(iobufsmut_put_u8(&parts, 'y'));
+    CHECK(parts_are(&parts, "abcxxy"));
+    CHECK(iobufsmut_put_u8(&parts, 'z') == IOBUFS_OUT_OF_RANGE);
+    CHECK(iobufsmut_put_slice(&parts, bytes("z"), 1) == IOBUFS_OUT_OF_RANGE);
+    CHECK(iobufsmut_put_bytes(&parts, 'z', 1) == IOBUFS_OUT_OF_RANGE);
+    CHECK(iobufsmut_chunk(&parts, &at) == 4);
+    CHECK(!memcmp(at, "abcx", 4));
+    CHECK(iobufsmut_chunks(&parts, list, 3) == 2);
     CHECK(list[0].len == 4);
     CHECK(list[1].len == 2);
     CHECK(list[1].base[1] == 'y');
-    CHECK(iobufsmut_chunks(&several, list, 1) == 1);
-    OK(iobufsmut_set_len(&several, 0));
-    OK(iobufsmut_put_slice(&several, bytes("ABCDEF"), 6));
-    CHECK(parts_are(&several, "ABCDEF"));
-    uint8_t out[3];
-    OK(iobufsmut_copy_to_slice(&several, out, 3));
-    CHECK(!memcmp(out, "ABC", 3));
-    CHECK(parts_are(&several, "DEF"));
-    CHECK(iobufsmut_advance(&several, 4) == IOBUFS_OUT_OF_RANGE);
-    OK(iobufsmut_advance(&several, 2));
-    CHECK(parts_are(&several, "F"));
-    CHECK(iobufsmut_copy_to_slice(&several, out, 3) == IOBUFS_END_OF_BUFFER);
-    CHECK(iobufsmut_set_len(&several, 9) == IOBUFS_OUT_OF_RANGE);
-    OK(iobufsmut_freeze(&several, &text));
-    CHECK(text_is(&text, "F"));
-    CHECK(iobufsmut_capacity(&several) == 0);
-    OK(iobufsmut_freeze(&several, &text));
-    CHECK(text_is(&text, ""));
-    OK(iobufmut_with_capacity(3, &first));
-    OK(iobufmut_with_capacity(3, &second));
-    row[0] = first;
-    row[1] = second;
-    OK(iobufsmut_from_parts(row, 2, &several));
-    OK(iobufsmut_set_len(&several, 4));
-    OK(iobufsmut_put_length(&several, 5));
-    CHECK(iobufsmut_put_length(&several, 300) == IOBUFS_OUT_OF_RANGE);
-    CHECK(iobufsmut_len(&several) == 5);
-    OK(iobufsmut_coalesce(&several, &first));
-    CHECK(iobufmut_chunk(&first, &at) == 5);
-    CHECK(!memcmp(at, "\0\0\0\0\5", 5));
-    CHECK(iobufmut_capacity(&first) == 5);
-    OK(iobufsmut_from_parts(row, 0, &several));
-    CHECK(iobufsmut_capacity(&several) == 0);
-    CHECK(iobufsmut_part_count(&several) == 1);
-    iobufmut_drop(&first); iobufmut_drop(&second); iobufmut_drop(&none); iobufsmut_drop(&several);
-    iobufsmut_drop(&several); iobufs_drop(&text);
+    CHECK(iobufsmut_chunks(&parts, list, 1) == 1);
+    OK(iobufsmut_set_len(&parts, 0));
+    OK(iobufsmut_put_slice(&parts, bytes("ABCDEF"), 6));
+    CHECK(parts_are(&parts, "ABCDEF"));
+    iobufsmut_drop(&parts); iobufsmut_drop(&parts);
 }
+
+static void parts_drain(void) {
+    PARTS(parts); TEXT(text);
+    uint8_t out[3];
+    make_parts(&parts, 4, 2);
+    OK(iobufsmut_put_slice(&parts, bytes("ABCDEF"), 6));
+    OK(iobufsmut_copy_to_slice(&parts, out, 3));
+    CHECK(!memcmp(out, "ABC", 3));
+    CHECK(parts_are(&parts, "DEF"));
+    CHECK(iobufsmut_advance(&parts, 4) == IOBUFS_OUT_OF_RANGE);
+    OK(iobufsmut_advance(&parts, 2));
+    CHECK(parts_are(&parts, "F"));
+    CHECK(iobufsmut_copy_to_slice(&parts, out, 3) == IOBUFS_END_OF_BUFFER);
+    CHECK(iobufsmut_set_len(&parts, 9) == IOBUFS_OUT_OF_RANGE);
+    CHECK(parts_are(&parts, "F"));
+    OK(iobufsmut_freeze(&parts, &text));
+    CHECK(text_is(&text, "F"));
+    CHECK(iobufsmut_capacity(&parts) == 0);
+    OK(iobufsmut_freeze(&parts, &text));
+    CHECK(text_is(&text, ""));
+}
+
+static void parts_coalesce(void) {
+    PART(buffer); PARTS(parts);
+    uint8_t *at = NULL;
+    make_parts(&parts, 3, 3);
+    OK(iobufsmut_set_len(&parts, 4));
+    OK(iobufsmut_put_length(&parts, 5));
+    CHECK(iobufsmut_put_length(&parts, 300) == IOBUFS_OUT_OF_RANGE);
+    CHECK(iobufsmut_len(&parts) == 5);
+    OK(iobufsmut_coalesce(&parts, &buffer));
+    CHECK(iobufmut_chunk(&buffer, &at) == 5);
+    CHECK(!memcmp(at, "\0\0\0\0\5", 5));
+    CHECK(iobufmut_capacity(&buffer) == 5);
+    iobufmut_drop(&buffer);
+}
+
+/* ---- iobufs_builder ---- */
 
 static void builders(void) {
     BUILDER(builder); VIEW(hello); TEXT(text);
@@ -505,7 +672,7 @@ static void builders(void) {
     OK(iobufs_builder_put_length(&builder, 11));
     OK(iobufs_builder_push(&builder, &hello));
     CHECK(view_is(&hello, ""));
-    OK(iobufs_builder_push(&builder, &hello));
+    OK(iobufs_builder_push(&builder, &hello)); /* a view without bytes is no chunk */
     OK(iobufs_builder_put_slice(&builder, bytes("abc"), 3));
     OK(iobufs_builder_put_bytes(&builder, '-', 1));
     OK(iobufs_builder_put_u8(&builder, '.'));
@@ -518,20 +685,17 @@ static void builders(void) {
     CHECK(iobufs_chunk_count(&text) == 3);
     CHECK(iobufs_builder_remaining_mut(&builder) == 0);
     OK(iobufs_builder_new(6, &builder));
-    iobufs_builder_drop(&builder); iobufs_builder_drop(&builder); iobufs_drop(&text); iobuf_drop(&hello);
+    iobufs_builder_drop(&builder); iobufs_builder_drop(&builder); iobufs_drop(&text);
 }
 
-static void lengths(void) {
+/* ---- varint lengths ---- */
+
+static void text_lengths(void) {
     TEXT(text); VIEW(view);
     size_t length = 77;
-    CHECK(iobufs_length_size(0) == 1);
-    CHECK(iobufs_length_size(127) == 1);
-    CHECK(iobufs_length_size(128) == 2);
-    CHECK(iobufs_length_size(SIZE_MAX) == 10);
     CHECK(iobufs_read_length(&text, 0, 9, &length) == IOBUFS_END_OF_BUFFER);
     CHECK(length == 77);
-    put_behind(&text, "\xac");
-    put_behind(&text, "\x02\x03hi!\x80");
+    append_pieces(&text, "\xac|\x02\x03hi!\x80"); /* 300, cut in two; a frame; and half a length */
     CHECK(iobufs_read_length(&text, 0, 299, &length) == IOBUFS_INVALID_LENGTH);
     CHECK(length == 300);
     CHECK(iobufs_len(&text) == 7);
@@ -543,6 +707,16 @@ static void lengths(void) {
     CHECK(view_is(&view, "hi!"));
     CHECK(iobufs_len(&text) == 1);
     CHECK(iobufs_read_view(&text, 0, 9, &view) == IOBUFS_END_OF_BUFFER);
+    iobufs_drop(&text); iobuf_drop(&view);
+}
+
+static void view_lengths(void) {
+    VIEW(view); VIEW(body);
+    size_t length = 77;
+    CHECK(iobufs_length_size(0) == 1);
+    CHECK(iobufs_length_size(127) == 1);
+    CHECK(iobufs_length_size(128) == 2);
+    CHECK(iobufs_length_size(SIZE_MAX) == 10);
     OK(iobuf_copy_from_slice(bytes("\x80\0"), 2, &view));
     CHECK(iobuf_read_length(&view, 0, 9, &length) == IOBUFS_INVALID_VARINT);
     CHECK(iobuf_len(&view) == 2);
@@ -553,52 +727,72 @@ static void lengths(void) {
     CHECK(view_is(&view, "z"));
     CHECK(iobuf_read_length(&view, 0, 9, &length) == IOBUFS_INVALID_LENGTH);
     CHECK(length == 'z');
-    iobufs_drop(&text); iobuf_drop(&view);
+    OK(iobuf_copy_from_slice(bytes("\3hi!\4no"), 7, &view));
+    CHECK(iobuf_read_view(&view, 4, 9, &body) == IOBUFS_INVALID_LENGTH);
+    CHECK(iobuf_len(&view) == 7);
+    OK(iobuf_read_view(&view, 0, 3, &body));
+    CHECK(view_is(&body, "hi!"));
+    CHECK(view_is(&view, "\4no"));
+    CHECK(iobuf_read_view(&view, 0, 9, &body) == IOBUFS_END_OF_BUFFER);
+    CHECK(view_is(&body, "hi!"));
+    CHECK(view_is(&view, "\4no"));
+    iobuf_drop(&view); iobuf_drop(&body);
 }
 
-static void numbers(void) {
+/* ---- big-endian numbers: the bytes of TWO, FOUR and EIGHT count from 1 to 14 ---- */
+
+#define TWO 0x0102
+#define FOUR 0x03040506
+#define EIGHT 0x0708090a0b0c0d0e
+
+static void buffer_numbers(void) {
     static const uint8_t all[] = { 1, 2, 3, 4, 5, 6, 7, 8, 9, 10, 11, 12, 13, 14 };
-    PART(buffer); PART(second); PARTS(several); BUILDER(builder); VIEW(view); TEXT(text);
-    uint8_t one = 0, *at;
-    uint16_t two = 0;
-    uint32_t four = 0;
-    uint64_t eight = 0;
+    PART(buffer); VIEW(view);
+    const uint8_t *at = NULL;
+    uint8_t one = 0; uint16_t two = 0; uint32_t four = 0; uint64_t eight = 0;
     CHECK(iobufmut_put_u16(&buffer, 1) == IOBUFS_OUT_OF_RANGE);
-    CHECK(iobufsmut_put_u32(&several, 1) == IOBUFS_OUT_OF_RANGE);
-    CHECK(iobufs_builder_put_u64(&builder, 1) == IOBUFS_OUT_OF_RANGE);
     OK(iobufmut_with_capacity(15, &buffer));
-    OK(iobufmut_put_u16(&buffer, 0x0102));
-    OK(iobufmut_put_u32(&buffer, 0x03040506));
-    OK(iobufmut_put_u64(&buffer, 0x0708090a0b0c0d0e));
-    CHECK(iobufmut_chunk(&buffer, &at) == 14);
-    CHECK(!memcmp(at, all, 14));
+    OK(iobufmut_put_u16(&buffer, TWO));
+    OK(iobufmut_put_u32(&buffer, FOUR));
+    OK(iobufmut_put_u64(&buffer, EIGHT));
     CHECK(iobufmut_put_u16(&buffer, 1) == IOBUFS_OUT_OF_RANGE);
     CHECK(iobufmut_put_u32(&buffer, 1) == IOBUFS_OUT_OF_RANGE);
     CHECK(iobufmut_put_u64(&buffer, 1) == IOBUFS_OUT_OF_RANGE);
-    CHECK(iobufmut_len(&buffer) == 14);
     OK(iobufmut_freeze(&buffer, &view));
+    CHECK(iobuf_chunk(&view, &at) == sizeof all);
+    CHECK(!memcmp(at, all, sizeof all));
     OK(iobuf_get_u16(&view, &two));
     OK(iobuf_get_u32(&view, &four));
     OK(iobuf_get_u64(&view, &eight));
-    CHECK(two == 0x0102);
-    CHECK(four == 0x03040506);
-    CHECK(eight == 0x0708090a0b0c0d0e);
-    CHECK(iobuf_len(&view) == 0);
+    CHECK(two == TWO);
+    CHECK(four == FOUR);
+    CHECK(eight == EIGHT);
     CHECK(iobufs_swap16(two) == 0x0201);
     CHECK(iobufs_swap32(four) == 0x06050403);
     CHECK(iobufs_swap64(eight) == 0x0e0d0c0b0a090807);
     CHECK(iobuf_get_u8(&view, &one) == IOBUFS_END_OF_BUFFER);
     CHECK(one == 0);
-    OK(iobufmut_with_capacity(5, &buffer));
-    OK(iobufmut_with_capacity(10, &second));
-    struct iobufmut_at row[2] = { buffer, second };
-    OK(iobufsmut_from_parts(row, 2, &several));
-    OK(iobufsmut_put_u16(&several, 0x0102));
-    OK(iobufsmut_put_u32(&several, 0x03040506));
-    OK(iobufsmut_put_u64(&several, 0x0708090a0b0c0d0e));
-    CHECK(iobufsmut_put_u16(&several, 1) == IOBUFS_OUT_OF_RANGE);
-    CHECK(iobufsmut_put_u64(&several, 1) == IOBUFS_OUT_OF_RANGE);
-    OK(iobufsmut_freeze(&several, &text));
+    OK(iobuf_copy_from_slice(bytes("\3hi"), 3, &view));
+    CHECK(iobuf_get_u32(&view, &four) == IOBUFS_END_OF_BUFFER);
+    CHECK(iobuf_get_u64(&view, &eight) == IOBUFS_END_OF_BUFFER);
+    CHECK(iobuf_len(&view) == 3);
+    OK(iobuf_get_u8(&view, &one));
+    CHECK(one == 3);
+    iobuf_drop(&view);
+}
+
+/* Numbers that are cut by the ends of parts, and then of chunks. */
+static void parts_numbers(void) {
+    PARTS(parts); TEXT(text);
+    uint8_t one = 0; uint16_t two = 0; uint32_t four = 0; uint64_t eight = 0;
+    CHECK(iobufsmut_put_u32(&parts, 1) == IOBUFS_OUT_OF_RANGE);
+    make_parts(&parts, 5, 10);
+    OK(iobufsmut_put_u16(&parts, TWO));
+    OK(iobufsmut_put_u32(&parts, FOUR));
+    OK(iobufsmut_put_u64(&parts, EIGHT));
+    CHECK(iobufsmut_put_u16(&parts, 1) == IOBUFS_OUT_OF_RANGE);
+    CHECK(iobufsmut_put_u64(&parts, 1) == IOBUFS_OUT_OF_RANGE);
+    OK(iobufsmut_freeze(&parts, &text));
     CHECK(iobufs_chunk_count(&text) == 2);
     OK(iobufs_get_u8(&text, &one));
     OK(iobufs_get_u16(&text, &two));
@@ -608,50 +802,41 @@ static void numbers(void) {
     CHECK(four == 0x04050607);
     CHECK(iobufs_get_u64(&text, &eight) == IOBUFS_END_OF_BUFFER);
     CHECK(iobufs_len(&text) == 7);
+    iobufs_drop(&text);
+}
+
+static void builder_numbers(void) {
+    BUILDER(builder); TEXT(text);
+    uint64_t eight = 0;
+    CHECK(iobufs_builder_put_u64(&builder, 1) == IOBUFS_OUT_OF_RANGE);
     OK(iobufs_builder_new(15, &builder));
-    OK(iobufs_builder_put_u16(&builder, 0x0102));
-    OK(iobufs_builder_put_u32(&builder, 0x03040506));
-    OK(iobufs_builder_put_u64(&builder, 0x0708090a0b0c0d0e));
+    OK(iobufs_builder_put_u16(&builder, TWO));
+    OK(iobufs_builder_put_u32(&builder, FOUR));
+    OK(iobufs_builder_put_u64(&builder, EIGHT));
     CHECK(iobufs_builder_put_u16(&builder, 1) == IOBUFS_OUT_OF_RANGE);
     CHECK(iobufs_builder_put_u32(&builder, 1) == IOBUFS_OUT_OF_RANGE);
     OK(iobufs_builder_finish(&builder, &text));
     OK(iobufs_get_u64(&text, &eight));
     CHECK(eight == 0x0102030405060708);
     CHECK(iobufs_len(&text) == 6);
-    OK(iobuf_copy_from_slice(bytes("\3hi!\4no"), 7, &view));
-    OK(iobuf_get_u8(&view, &one));
-    CHECK(one == 3);
-    OK(iobuf_copy_from_slice(bytes("\3hi!\4no"), 7, &view));
-    VIEW(body);
-    CHECK(iobuf_read_view(&view, 4, 9, &body) == IOBUFS_INVALID_LENGTH);
-    CHECK(iobuf_len(&view) == 7);
-    OK(iobuf_read_view(&view, 0, 3, &body));
-    CHECK(view_is(&body, "hi!"));
-    CHECK(view_is(&view, "\4no"));
-    CHECK(iobuf_read_view(&view, 0, 9, &body) == IOBUFS_END_OF_BUFFER);
-    CHECK(view_is(&body, "hi!"));
-    CHECK(view_is(&view, "\4no"));
-    CHECK(iobuf_get_u32(&view, &four) == IOBUFS_END_OF_BUFFER);
-    CHECK(iobuf_get_u64(&view, &eight) == IOBUFS_END_OF_BUFFER);
-    CHECK(iobuf_len(&view) == 3);
-    iobufmut_drop(&buffer); iobufmut_drop(&second); iobufsmut_drop(&several); iobufs_builder_drop(&builder);
-    iobufs_drop(&text); iobuf_drop(&view); iobuf_drop(&body);
+    iobufs_drop(&text);
 }
+
+/* ---- iobufs_frames and iobufs_received ---- */
 
 static void frames(void) {
     FRAMES(fed); VIEW(body); TEXT(rest);
     size_t wrong = 0;
-    const char *pieces[] = { "\x05" "hel", "lo\x00" "x" };
     CHECK(iobufs_frames_len(&fed) == 0);
     CHECK(iobufs_frames_next(&fed, 0, 9, &body, &wrong) == IOBUFS_END_OF_BUFFER);
-    OK(iobuf_copy_from_slice(bytes(pieces[0]), 4, &body));
+    OK(iobuf_copy_from_slice(bytes("\5hel"), 4, &body));
     OK(iobufs_frames_feed(&fed, &body));
     CHECK(view_is(&body, ""));
     CHECK(iobufs_frames_next(&fed, 0, 9, &body, &wrong) == IOBUFS_END_OF_BUFFER);
     CHECK(iobufs_frames_len(&fed) == 4);
     CHECK(iobufs_frames_next(&fed, 0, 4, &body, &wrong) == IOBUFS_INVALID_LENGTH);
     CHECK(wrong == 5);
-    OK(iobuf_copy_from_slice(bytes(pieces[1]), 4, &body));
+    OK(iobuf_copy_from_slice(bytes("lo\0x"), 4, &body));
     OK(iobufs_frames_feed(&fed, &body));
     OK(iobufs_frames_next(&fed, 0, 9, &body, &wrong));
     CHECK(view_is(&body, "hello"));
@@ -664,22 +849,30 @@ static void frames(void) {
     CHECK(iobufs_frames_len(&fed) == 0);
 }
 
-/* What no contract says of the space: where it is, and that what is written there is received. */
-static void received(void) {
-    RECEIVED(block); VIEW(first); VIEW(second);
-    uint8_t *at = NULL, *again = NULL;
-    size_t space = 7, more = 0, wrong = 0;
-    CHECK(iobufs_frames_space(&block, &at, &space) == IOBUFS_DECLINED);
+static void received_of_none(void) {
+    RECEIVED(none); VIEW(body);
+    uint8_t *at = NULL;
+    size_t space = 7, wrong = 0;
+    CHECK(iobufs_frames_space(&none, &at, &space) == IOBUFS_DECLINED);
     CHECK(at == NULL);
     CHECK(space == 7);
-    CHECK(iobufs_received_len(&block) == 0);
-    CHECK(iobufs_frames_filled(&block, 1) == IOBUFS_OUT_OF_RANGE);
-    CHECK(iobufs_received_next(&block, 0, 9, &first, &wrong) == IOBUFS_END_OF_BUFFER);
-    OK(iobufs_frames_filled(&block, 0));
-    CHECK(iobufs_received_new(10, &block) == IOBUFS_BAD_KIND);
-    CHECK(iobufs_frames_space(&block, &at, &space) == IOBUFS_DECLINED);
+    CHECK(iobufs_received_len(&none) == 0);
+    CHECK(iobufs_frames_filled(&none, 1) == IOBUFS_OUT_OF_RANGE);
+    CHECK(iobufs_received_next(&none, 0, 9, &body, &wrong) == IOBUFS_END_OF_BUFFER);
+    OK(iobufs_frames_filled(&none, 0));
+    CHECK(iobufs_received_new(10, &none) == IOBUFS_BAD_KIND);
+    CHECK(iobufs_received_new(255, &none) == IOBUFS_BAD_KIND);
+    CHECK(iobufs_frames_space(&none, &at, &space) == IOBUFS_DECLINED);
+}
+
+/* No contract says where the space is, and that bytes that are written there are received. */
+static void received_space(void) {
+    RECEIVED(block); VIEW(body);
+    uint8_t *at = NULL, *again = NULL;
+    const uint8_t *taken = NULL;
+    size_t space = 0, more = 0, wrong = 0;
     OK(iobufs_received_new(IOBUFS_VARINT, &block));
-    CHECK(iobufs_frames_filled(&block, 1) == IOBUFS_OUT_OF_RANGE);
+    CHECK(iobufs_frames_filled(&block, 1) == IOBUFS_OUT_OF_RANGE); /* none was lent */
     OK(iobufs_frames_space(&block, &at, &space));
     CHECK(space >= 12);
     CHECK(at[0] == 0);
@@ -691,20 +884,29 @@ static void received(void) {
     CHECK(iobufs_received_len(&block) == 0);
     OK(iobufs_frames_filled(&block, 4));
     CHECK(iobufs_received_len(&block) == 4);
-    CHECK(iobufs_received_next(&block, 0, 9, &first, &wrong) == IOBUFS_END_OF_BUFFER);
-    CHECK(iobufs_received_next(&block, 0, 4, &first, &wrong) == IOBUFS_INVALID_LENGTH);
+    CHECK(iobufs_received_next(&block, 0, 9, &body, &wrong) == IOBUFS_END_OF_BUFFER);
+    CHECK(iobufs_received_next(&block, 0, 4, &body, &wrong) == IOBUFS_INVALID_LENGTH);
     CHECK(wrong == 5);
     CHECK(iobufs_received_len(&block) == 4);
     OK(iobufs_frames_space(&block, &again, &more));
     CHECK(again == at + 4);
     CHECK(more == space - 4);
     OK(iobufs_frames_filled(&block, 2));
-    OK(iobufs_received_next(&block, 5, 5, &first, &wrong));
-    const uint8_t *body = NULL;
-    CHECK(view_is(&first, "hello"));
-    CHECK(iobuf_chunk(&first, &body) == 5);
-    CHECK(body == at + 1);
+    OK(iobufs_received_next(&block, 5, 5, &body, &wrong));
+    CHECK(view_is(&body, "hello"));
+    CHECK(iobuf_chunk(&body, &taken) == 5);
+    CHECK(taken == at + 1);
     CHECK(iobufs_received_len(&block) == 0);
+    iobufs_received_drop(&block); iobuf_drop(&body);
+}
+
+static void received_frames(void) {
+    RECEIVED(block); VIEW(first); VIEW(second);
+    size_t wrong = 0;
+    OK(iobufs_received_new(IOBUFS_VARINT, &block));
+    receive(&block, "\5hello", 6);
+    OK(iobufs_received_next(&block, 0, 9, &first, &wrong));
+    CHECK(view_is(&first, "hello"));
     receive(&block, "\0\2hi\x80\0", 6);
     OK(iobufs_received_next(&block, 0, 9, &second, &wrong));
     CHECK(view_is(&second, ""));
@@ -720,9 +922,45 @@ static void received(void) {
     iobuf_drop(&first); iobuf_drop(&second);
 }
 
-/* A frame of each prefix: `abc` behind its length, and a length outside the range. */
+/* ---- prefixes ---- */
+
+/* A frame: a head, and the body "abc". */
+struct prefix_case { uint8_t prefix; const char *bytes; size_t n; };
+
+static void check_head(const struct prefix_case *frame) {
+    uint8_t head[10];
+    size_t n = 99, other = 99;
+    OK(iobufs_frames_head(frame->prefix, 3, head, sizeof head, &n));
+    CHECK(n == frame->n - 3);
+    CHECK(!memcmp(head, frame->bytes, n));
+    CHECK(iobufs_frames_head(frame->prefix, 4, head, n - 1, &other) == IOBUFS_OUT_OF_RANGE);
+    CHECK(!memcmp(head, frame->bytes, n));
+    CHECK(other == 99);
+}
+
+/* `fed` and `read` hold nothing, before and after. */
+static void check_frame(const struct prefix_case *frame, struct iobufs_frames_at *fed,
+                        struct iobufs_received_at *read) {
+    VIEW(body);
+    size_t wrong = 0;
+    OK(iobufs_received_new(frame->prefix, read));
+    receive(read, frame->bytes, frame->n);
+    OK(iobufs_received_next(read, 0, 3, &body, &wrong));
+    CHECK(view_is(&body, "abc"));
+    CHECK(iobufs_received_len(read) == 0);
+    OK(iobufs_frames_set_prefix(fed, frame->prefix));
+    OK(iobuf_copy_from_slice(bytes(frame->bytes), frame->n, &body));
+    OK(iobufs_frames_feed(fed, &body));
+    CHECK(iobufs_frames_next(fed, 0, 2, &body, &wrong) == IOBUFS_INVALID_LENGTH);
+    CHECK(wrong == 3);
+    OK(iobufs_frames_next(fed, 0, 3, &body, &wrong));
+    CHECK(view_is(&body, "abc"));
+    CHECK(iobufs_frames_len(fed) == 0);
+    iobuf_drop(&body);
+}
+
 static void prefixes(void) {
-    static const struct { uint8_t prefix; const char *bytes; size_t n; } cases[] = {
+    static const struct prefix_case cases[] = {
         { IOBUFS_VARINT, "\3abc", 4 },
         { IOBUFS_U8, "\3abc", 4 },
         { IOBUFS_U16_BE, "\0\3abc", 5 },
@@ -734,40 +972,27 @@ static void prefixes(void) {
         { IOBUFS_U32_LE, "\3\0\0\0abc", 7 },
         { IOBUFS_U64_LE, "\3\0\0\0\0\0\0\0abc", 11 },
     };
-    FRAMES(fed); RECEIVED(read); VIEW(body);
-    size_t wrong = 0, n = 99;
-    uint8_t head[10];
-    for (size_t i = 0; i < sizeof cases / sizeof *cases; i++, wrong = 0) {
-        OK(iobufs_frames_head(cases[i].prefix, 3, head, sizeof head, &n));
-        CHECK(n == cases[i].n - 3);
-        CHECK(!memcmp(head, cases[i].bytes, n));
-        CHECK(iobufs_frames_head(cases[i].prefix, 4, head, n - 1, &wrong) == IOBUFS_OUT_OF_RANGE);
-        CHECK(!memcmp(head, cases[i].bytes, n));
-        CHECK(wrong == 0);
-        OK(iobufs_received_new(cases[i].prefix, &read));
-        receive(&read, cases[i].bytes, cases[i].n);
-        OK(iobufs_received_next(&read, 0, 3, &body, &wrong));
-        CHECK(view_is(&body, "abc"));
-        CHECK(iobufs_received_len(&read) == 0);
-        OK(iobufs_frames_set_prefix(&fed, cases[i].prefix));
-        OK(iobuf_copy_from_slice(bytes(cases[i].bytes), cases[i].n, &body));
-        OK(iobufs_frames_feed(&fed, &body));
-        CHECK(iobufs_frames_next(&fed, 0, 2, &body, &wrong) == IOBUFS_INVALID_LENGTH);
-        CHECK(wrong == 3);
-        OK(iobufs_frames_next(&fed, 0, 3, &body, &wrong));
-        CHECK(view_is(&body, "abc"));
-        CHECK(iobufs_frames_len(&fed) == 0);
+    FRAMES(fed); RECEIVED(read);
+    for (size_t i = 0; i < sizeof cases / sizeof *cases; i++) {
+        check_head(&cases[i]);
+        check_frame(&cases[i], &fed, &read);
     }
     CHECK(iobufs_frames_set_prefix(&fed, 10) == IOBUFS_BAD_KIND);
     CHECK(iobufs_frames_set_prefix(&fed, 255) == IOBUFS_BAD_KIND);
+    iobufs_frames_drop(&fed); iobufs_received_drop(&read);
+}
+
+/* Lengths that a prefix can't write, and the longest that a varint can. */
+static void long_heads(void) {
+    uint8_t head[10];
+    size_t n = 99;
     CHECK(iobufs_frames_head(10, 0, head, sizeof head, &n) == IOBUFS_BAD_KIND);
-    CHECK(iobufs_received_new(255, &read) == IOBUFS_BAD_KIND);
     CHECK(iobufs_frames_head(IOBUFS_U8, 256, head, sizeof head, &n) == IOBUFS_TOO_LONG);
     CHECK(iobufs_frames_head(IOBUFS_U24_LE, 1 << 24, head, sizeof head, &n) == IOBUFS_TOO_LONG);
+    CHECK(n == 99);
     OK(iobufs_frames_head(IOBUFS_VARINT, SIZE_MAX, head, sizeof head, &n));
     CHECK(n == 10);
     CHECK(head[9] == 1);
-    iobufs_frames_drop(&fed); iobufs_received_drop(&read); iobuf_drop(&body);
 }
 
 static void statuses(void) {
@@ -779,19 +1004,16 @@ static void statuses(void) {
 
 int main(void) {
     sizes();
-    views();
-    lent();
-    in_place();
-    moved();
-    buffers();
-    texts();
-    parts();
+    view_clones(); view_cuts(); view_slices(); view_copies_out(); lent(); moved();
+    views_in_place(); texts_in_place();
+    buffer_of_none(); buffer_puts(); buffer_writes(); buffer_drains(); buffer_freezes(); buffer_from_views();
+    text_chunks(); text_lists(); text_slices(); text_truncates(); text_cuts(); text_copies_out(); text_takes();
+    text_single(); text_append_all();
+    parts_of_few(); parts_put(); parts_drain(); parts_coalesce();
     builders();
-    lengths();
-    numbers();
-    frames();
-    received();
-    prefixes();
-    statuses();
+    text_lengths(); view_lengths();
+    buffer_numbers(); parts_numbers(); builder_numbers();
+    frames(); received_of_none(); received_space(); received_frames();
+    prefixes(); long_heads(); statuses();
     return 0;
 }

@@ -3,15 +3,24 @@
  * every byte, and which views can be written again has to agree. The seed is fixed; the arguments are how many calls
  * are made, and after how many seconds it stops before.
  *
- * Each case first compares the status, if the model says that the call fails: then the model stays. Else it makes the
- * call, and then changes the model.
+ * The function of a call first compares the status, if the model says that the call fails: then the model stays. Else
+ * it makes the call, and then changes the model.
  */
 #include "test.h"
 #include <time.h>
 
-/* At most MOST bytes in a buffer, PIECES views in a text, ROW_PARTS buffers in a row, BLOCKS of storage, and BODY bytes
- * in a frame. There are VIEWS views and as many writable buffers, TEXTS texts, and ROWS rows. */
-enum { MOST = 240, PIECES = 40, ROW_PARTS = 8, VIEWS = 6, TEXTS = 4, ROWS = 3, BLOCKS = 8192, BODY = 40 };
+/* There are VIEWS views and as many writable buffers, TEXTS texts, and ROWS rows. */
+enum { VIEWS = 6, TEXTS = 4, ROWS = 3 };
+
+/* The model has memory for so many bytes of a buffer, views of a text, buffers of a row, blocks, and bytes of a frame's
+ * body. */
+enum { MOST = 240, PIECES = 40, ROW_PARTS = 8, BLOCKS = 8192, BODY = 40 };
+
+/* Sizes of new ones are below these: the bytes of a view, of a writable buffer, of a builder's own, and of a body. */
+enum { NEW_VIEW = 60, NEW_PART = 80, MOST_ROOM = 40, NEW_BODY = 30 };
+
+/* Nothing is added to a text or a builder of more pieces than this, or to frames of so many. */
+enum { FULL_TEXT = 12, MOST_BUILT = 10, MOST_FED = 20 };
 
 /* ---- the model ---- */
 
@@ -26,12 +35,14 @@ struct part { int there; uint8_t at[MOST]; size_t len, capacity; };
 /* A text: its views. An empty text has one, without bytes. */
 struct text { struct view piece[PIECES]; size_t count; };
 /* Several writable buffers. */
-struct row { int there; struct part part[ROW_PARTS]; size_t count; };
+struct row { struct part part[ROW_PARTS]; size_t count; };
 /* A builder: how many bytes it may still write, how many it has written since the last pushed view, and all of them. */
 struct builder { int there; size_t room, inline_len; struct text text; };
 
 static int holders[BLOCKS]; /* how many views share each block */
 static const struct view no_bytes;
+static const struct part no_part;
+static const struct builder no_builder;
 
 static int new_block(void) {
     static int last = 1;
@@ -55,12 +66,19 @@ static void advanced(struct view *v, size_t n) {
     v->len -= n;
     if (v->block) v->room -= n;
 }
+/* The bytes from `from` to `to`, in the block that the view has. */
 static struct view between(const struct view *v, size_t from, size_t to) {
     if (from == to) return no_bytes;
     struct view part = shared(v);
     part.len = to;
     advanced(&part, from);
     return part;
+}
+/* A writable buffer of these bytes. */
+static struct part part_of(const uint8_t *at, size_t len, size_t capacity) {
+    struct part p = { 1, { 0 }, len, capacity };
+    memcpy(p.at, at, len);
+    return p;
 }
 /* A buffer becomes a view, and none is left. */
 static struct view frozen(struct part *p) {
@@ -71,8 +89,7 @@ static struct view frozen(struct part *p) {
         v.room = p->capacity;
         v.block = new_block();
     }
-    p->there = 0;
-    p->len = p->capacity = 0;
+    *p = no_part;
     return v;
 }
 static size_t text_len(const struct text *t) {
@@ -85,18 +102,25 @@ static void drop_text(struct text *t) {
     for (size_t i = 0; i < t->count; i++) let_go(&t->piece[i]);
     no_text(t);
 }
+/* Another text of the same views. */
+static struct text shared_text(const struct text *t) {
+    struct text out = *t;
+    for (size_t i = 0; i < t->count; i++) out.piece[i] = shared(&t->piece[i]);
+    return out;
+}
 static void drop_first(struct text *t) {
     let_go(&t->piece[0]);
     memmove(t->piece, t->piece + 1, --t->count * sizeof *t->piece);
 }
-/* What a copy of the first n bytes leaves. */
+/* The first n bytes are copied out: they leave the text. */
 static void text_rest(struct text *t, size_t n) {
     if (n == 0) return;
     if (n == text_len(t)) { drop_text(t); return; }
     while (n >= t->piece[0].len) { n -= t->piece[0].len; drop_first(t); }
     advanced(&t->piece[0], n);
 }
-static void text_advance(struct text *t, size_t n) {
+/* An advance by n bytes. It keeps the block of a text's only view, even if it has no byte left. */
+static void text_advanced(struct text *t, size_t n) {
     if (t->count == 1 && n == t->piece[0].len) { advanced(&t->piece[0], n); return; }
     text_rest(t, n);
 }
@@ -112,31 +136,23 @@ static void bytes_of(const struct text *t, uint8_t *out) {
         out += t->piece[i].len;
     }
 }
-/* n bytes behind `skip` as one view. */
-static struct view taken(const struct text *t, size_t skip, size_t n) {
+/* The piece that has the byte at `offset`, which the text has, and where the piece starts. */
+static size_t piece_at(const struct text *t, size_t offset, size_t *start) {
+    size_t i = 0;
+    for (*start = 0; *start + t->piece[i].len <= offset; i++) *start += t->piece[i].len;
+    return i;
+}
+/* The n bytes from offset `from`, which the text has: shared within a piece, else a copy. The text stays. */
+static struct view view_of_range(const struct text *t, size_t from, size_t n) {
     uint8_t all[PIECES * MOST];
+    size_t start;
     if (n == 0) return no_bytes;
-    size_t at = 0, i = 0;
-    while (i + 1 < t->count && at + t->piece[i].len <= skip) at += t->piece[i++].len;
-    if (skip + n <= at + t->piece[i].len) return between(&t->piece[i], skip - at, skip - at + n);
+    const struct view *piece = &t->piece[piece_at(t, from, &start)];
+    if (from + n <= start + piece->len) return between(piece, from - start, from - start + n);
     bytes_of(t, all);
-    return copied(all + skip, n);
+    return copied(all + from, n);
 }
-static struct text split(struct text *t, size_t at) {
-    struct text front;
-    no_text(&front);
-    if (at == 0) return front;
-    if (at == text_len(t)) { front = *t; no_text(t); return front; }
-    size_t left = at;
-    for (size_t i = 0; left; i++) {
-        size_t n = left < t->piece[i].len ? left : t->piece[i].len;
-        struct view v = between(&t->piece[i], 0, n);
-        push(&front, &v);
-        left -= n;
-    }
-    text_rest(t, at);
-    return front;
-}
+/* The bytes from `lo` to `hi`, shared. The text stays. */
 static struct text sliced(const struct text *t, size_t lo, size_t hi) {
     struct text out;
     no_text(&out);
@@ -147,6 +163,14 @@ static struct text sliced(const struct text *t, size_t lo, size_t hi) {
         push(&out, &v);
     }
     return out;
+}
+/* The first `at` bytes; `t` keeps the rest. All of them move, fewer are shared. */
+static struct text split(struct text *t, size_t at) {
+    struct text front = *t;
+    if (at > 0 && at == text_len(t)) { no_text(t); return front; }
+    front = sliced(t, 0, at);
+    text_rest(t, at);
+    return front;
 }
 static size_t row_len(const struct row *r) {
     size_t n = 0;
@@ -160,7 +184,7 @@ static size_t row_capacity(const struct row *r) {
 }
 /* No row is left: that reads as one buffer without bytes. */
 static void no_row(struct row *r) {
-    memset(r, 0, sizeof *r);
+    r->part[0] = no_part;
     r->count = 1;
 }
 /* Buffers without capacity are left out of a row; if all are, it has one that is there. */
@@ -170,11 +194,7 @@ static void keep_parts(struct row *r) {
         struct part p = r->part[i];
         if (p.capacity) r->part[kept++] = p;
     }
-    if (kept == 0) {
-        memset(&r->part[0], 0, sizeof r->part[0]);
-        r->part[0].there = 1;
-        kept = 1;
-    }
+    if (kept == 0) r->part[kept++] = part_of(no_part.at, 0, 0);
     r->count = kept;
 }
 static void row_bytes(const struct row *r, uint8_t *out) {
@@ -183,21 +203,27 @@ static void row_bytes(const struct row *r, uint8_t *out) {
         out += r->part[i].len;
     }
 }
+/* Bytes are put behind those that are there; they fit. */
+static void part_put(struct part *p, const uint8_t *at, size_t n) {
+    memcpy(p->at + p->len, at, n);
+    p->len += n;
+}
 static void row_put(struct row *r, const uint8_t *at, size_t n) {
     for (size_t i = 0; i < r->count; i++) {
         struct part *p = &r->part[i];
         size_t some = n < p->capacity - p->len ? n : p->capacity - p->len;
-        memcpy(p->at + p->len, at, some);
-        p->len += some; at += some; n -= some;
+        part_put(p, at, some);
+        at += some; n -= some;
     }
 }
+/* The first n bytes are dropped, with their room. */
 static void part_drain(struct part *p, size_t n) {
     memmove(p->at, p->at + n, p->len - n);
     p->len -= n; p->capacity -= n;
 }
 static void row_drain(struct row *r, size_t n) {
     if (n == 0) return;
-    size_t several = r->count > 1;
+    const int several = r->count > 1; /* a buffer alone stays, even if it has no capacity left */
     for (size_t i = 0; i < r->count; i++) {
         size_t some = n < r->part[i].len ? n : r->part[i].len;
         part_drain(&r->part[i], some);
@@ -205,14 +231,15 @@ static void row_drain(struct row *r, size_t n) {
     }
     if (several) keep_parts(r);
 }
-static void part_set_len(struct part *p, size_t n) {
+/* n bytes are readable: the new ones are zeros. */
+static void part_resize(struct part *p, size_t n) {
     if (n > p->len) memset(p->at + p->len, 0, n - p->len);
     p->len = n;
 }
-static void row_set_len(struct row *r, size_t n) {
+static void row_resize(struct row *r, size_t n) {
     for (size_t i = 0; i < r->count; i++) {
         size_t part = n < r->part[i].capacity ? n : r->part[i].capacity;
-        part_set_len(&r->part[i], part);
+        part_resize(&r->part[i], part);
         n -= part;
     }
 }
@@ -240,11 +267,11 @@ static struct builder builder;
 static struct iobufs_builder builder_memory;
 static struct iobufs_builder_at builder_at;
 
-static struct text frames; /* what was fed and not taken */
+static struct text frames; /* fed and not taken */
 static struct iobufs_frames frames_memory;
 static struct iobufs_frames_at frames_at;
 
-static uint8_t came[2 * MOST]; /* what was received and not taken */
+static uint8_t came[2 * MOST]; /* received and not taken */
 static size_t came_len;
 static struct iobufs_received received_memory;
 static struct iobufs_received_at received_at;
@@ -276,13 +303,6 @@ static size_t about(size_t n) {
     }
 }
 
-/* The bytes of a number, the highest first. */
-static void number_bytes(uint8_t *at, uint64_t n, size_t size) {
-    while (size) {
-        at[--size] = (uint8_t)n;
-        n >>= 8;
-    }
-}
 /* The number of so many bytes. */
 static uint64_t number_of(const uint8_t *at, size_t size) {
     uint64_t n = 0;
@@ -293,58 +313,143 @@ static uint64_t number_of(const uint8_t *at, size_t size) {
 /* Buffer i of each kind reads as its model. */
 static void same_view(int i) {
     const uint8_t *at;
-    CHECK(iobuf_chunk(&view_at[i], &at) == views[i].len && iobuf_len(&view_at[i]) == views[i].len);
+    CHECK(iobuf_len(&view_at[i]) == views[i].len);
+    CHECK(iobuf_chunk(&view_at[i], &at) == views[i].len);
     CHECK(views[i].len == 0 || !memcmp(at, views[i].at, views[i].len));
 }
 static void same_part(int i) {
     uint8_t *at;
-    CHECK(iobufmut_chunk(&part_at[i], &at) == parts[i].len && iobufmut_capacity(&part_at[i]) == parts[i].capacity);
+    CHECK(iobufmut_chunk(&part_at[i], &at) == parts[i].len);
+    CHECK(iobufmut_capacity(&part_at[i]) == parts[i].capacity);
     CHECK(iobufmut_remaining_mut(&part_at[i]) == parts[i].capacity - parts[i].len);
     CHECK(parts[i].len == 0 || !memcmp(at, parts[i].at, parts[i].len));
 }
-static void same_pieces(struct iobufs_at *at, const struct text *t) {
+static void same_text(int i) {
     struct iobufs_iovec list[PIECES];
-    size_t len = text_len(t), n = iobufs_chunks(at, list, PIECES);
-    CHECK(iobufs_len(at) == len && n == (len ? t->count : 0) && iobufs_chunk_count(at) == n);
-    for (size_t i = 0; i < n; i++) {
-        CHECK(list[i].len == t->piece[i].len && !memcmp(list[i].base, t->piece[i].at, list[i].len));
+    const struct text *t = &texts[i];
+    size_t len = text_len(t), n = iobufs_chunks(&text_at[i], list, PIECES);
+    CHECK(iobufs_len(&text_at[i]) == len);
+    CHECK(iobufs_chunk_count(&text_at[i]) == n);
+    CHECK(n == (len ? t->count : 0));
+    for (size_t k = 0; k < n; k++) {
+        CHECK(list[k].len == t->piece[k].len);
+        CHECK(!memcmp(list[k].base, t->piece[k].at, list[k].len));
     }
 }
-static void same_text(int i) { same_pieces(&text_at[i], &texts[i]); }
 static void same_row(int i) {
-    struct row *r = &rows[i];
-    CHECK(iobufsmut_part_count(&row_at[i]) == r->count);
-    CHECK(iobufsmut_len(&row_at[i]) == row_len(r) && iobufsmut_capacity(&row_at[i]) == row_capacity(r));
     struct iobufs_iovec list[PIECES];
+    const struct row *r = &rows[i];
     size_t n = iobufsmut_chunks(&row_at[i], list, PIECES), seen = 0;
+    CHECK(iobufsmut_part_count(&row_at[i]) == r->count);
+    CHECK(iobufsmut_len(&row_at[i]) == row_len(r));
+    CHECK(iobufsmut_capacity(&row_at[i]) == row_capacity(r));
     for (size_t k = 0; k < r->count; k++) {
         if (r->part[k].len == 0) continue;
-        CHECK(seen < n && list[seen].len == r->part[k].len && !memcmp(list[seen].base, r->part[k].at, r->part[k].len));
-        seen++;
+        CHECK(seen < n);
+        CHECK(list[seen].len == r->part[k].len);
+        CHECK(!memcmp(list[seen++].base, r->part[k].at, r->part[k].len));
     }
     CHECK(seen == n);
 }
 
-/* ---- the calls: i, j and k are the numbers of buffers ---- */
+/* ---- shared by the calls ---- */
 
-static uint8_t some[2 * MOST]; /* what a call is given, or copies out */
+static uint8_t some[2 * MOST]; /* a call is given these, or copies them out */
 static void any_bytes(size_t n) {
     for (size_t i = 0; i < n; i++) some[i] = (uint8_t)number();
 }
+/* As many bytes as `some` has room for: still more than a buffer has, if n is. */
+static size_t in_some(size_t n) { return n < sizeof some ? n : sizeof some; }
 
+/* Fills `some` with the bytes of a number, the highest first. */
+static const uint8_t *number_bytes(uint64_t n, size_t size) {
+    for (size_t i = size; i > 0; n >>= 8) some[--i] = (uint8_t)n;
+    return some;
+}
+
+/* A view or a text becomes another one: what it held is dropped. */
+static void replace_view(int view, struct view by) { let_go(&views[view]); views[view] = by; }
+static void replace_text(int text, struct text by) { drop_text(&texts[text]); texts[text] = by; }
+
+/* ---- calls: `view`, `part`, `text`, `row` and `out` are the numbers of buffers ---- */
+
+static void view_copy(int out) {
+    size_t n = below(NEW_VIEW);
+    any_bytes(n);
+    OK(iobuf_copy_from_slice(some, n, &view_at[out]));
+    replace_view(out, copied(some, n));
+}
+static void view_of_static(int out) {
+    size_t n = below(NEW_VIEW);
+    iobuf_from_static(fixed, n, &view_at[out]);
+    replace_view(out, no_bytes);
+    memcpy(views[out].at, fixed, n);
+    views[out].len = n;
+}
+static void view_clone(int view, int out) {
+    OK(iobuf_clone(&view_at[view], &view_at[out]));
+    replace_view(out, shared(&views[view]));
+}
+static void view_advance(int view, size_t n) {
+    if (n > views[view].len) { CHECK(iobuf_advance(&view_at[view], n) == IOBUFS_OUT_OF_RANGE); return; }
+    OK(iobuf_advance(&view_at[view], n));
+    advanced(&views[view], n);
+}
+static void view_split(int view, int out, size_t n) {
+    struct view *v = &views[view];
+    if (n > v->len) { CHECK(iobuf_split_to(&view_at[view], n, &view_at[out]) == IOBUFS_OUT_OF_RANGE); return; }
+    OK(iobuf_split_to(&view_at[view], n, &view_at[out]));
+    if (n == 0) replace_view(out, no_bytes);
+    else if (n == v->len) { replace_view(out, *v); *v = no_bytes; }
+    else { replace_view(out, between(v, 0, n)); advanced(v, n); }
+}
+static void view_slice(int view, int out, size_t lo, size_t hi) {
+    struct iobuf_at *at = &view_at[view], *to = &view_at[out];
+    if (lo > hi || hi > views[view].len) {
+        CHECK(iobuf_slice(at, IOBUFS_INCLUDED, lo, IOBUFS_EXCLUDED, hi, to) == IOBUFS_OUT_OF_RANGE);
+        return;
+    }
+    OK(iobuf_slice(at, IOBUFS_INCLUDED, lo, IOBUFS_EXCLUDED, hi, to));
+    replace_view(out, between(&views[view], lo, hi));
+}
+static void view_copy_out(int view, size_t n) {
+    struct view *v = &views[view];
+    if (n > v->len) { CHECK(iobuf_copy_to_slice(&view_at[view], some, in_some(n)) == IOBUFS_END_OF_BUFFER); return; }
+    OK(iobuf_copy_to_slice(&view_at[view], some, n));
+    CHECK(!memcmp(some, v->at, n));
+    advanced(v, n);
+}
+static void view_get_u32(int view) {
+    uint32_t four;
+    if (views[view].len < 4) { CHECK(iobuf_get_u32(&view_at[view], &four) == IOBUFS_END_OF_BUFFER); return; }
+    OK(iobuf_get_u32(&view_at[view], &four));
+    CHECK(four == number_of(views[view].at, 4));
+    advanced(&views[view], 4);
+}
+static void view_get_u64(int view) {
+    uint64_t eight;
+    if (views[view].len < 8) { CHECK(iobuf_get_u64(&view_at[view], &eight) == IOBUFS_END_OF_BUFFER); return; }
+    OK(iobuf_get_u64(&view_at[view], &eight));
+    CHECK(eight == number_of(views[view].at, 8));
+    advanced(&views[view], 8);
+}
 /* A view is written again, if nobody shares its block. */
-static void view_into_part(int i, int j) {
-    struct view *v = &views[i];
-    struct part *p = &parts[j];
+static void view_into_part(int view, int part) {
+    struct view *v = &views[view];
     int can = v->block ? holders[v->block] == 1 : v->len == 0;
-    CHECK(iobuf_try_into_mut(&view_at[i], &part_at[j]) == (can ? IOBUFS_OK : IOBUFS_DECLINED));
+    CHECK(iobuf_try_into_mut(&view_at[view], &part_at[part]) == (can ? IOBUFS_OK : IOBUFS_DECLINED));
     if (!can) return;
-    p->there = 1;
-    p->len = v->len;
-    p->capacity = v->block ? v->room : 0;
-    memcpy(p->at, v->at, v->len);
+    parts[part] = part_of(v->at, v->len, v->block ? v->room : 0);
     let_go(v);
-    same_part(j);
+    same_part(part);
+}
+static void view_eq(int view, int other) {
+    const struct view *v = &views[view], *w = &views[other];
+    CHECK(iobuf_eq(&view_at[view], &view_at[other]) == (v->len == w->len && !memcmp(v->at, w->at, v->len)));
+}
+static void view_drop(int view) {
+    iobuf_drop(&view_at[view]);
+    let_go(&views[view]);
 }
 
 enum {
@@ -352,260 +457,269 @@ enum {
     VIEW_INTO_PART, VIEW_EQ, VIEW_GET_U32, VIEW_DROP, VIEW_CALLS
 };
 
-static void view_call(int i, int j) {
-    struct view *v = &views[i], *out = &views[j];
-    struct iobuf_at *at = &view_at[i], *to = &view_at[j];
-    size_t n = about(v->len), m;
-    uint32_t four;
-    uint64_t eight;
+static void view_call(int view, int out) {
+    size_t len = views[view].len, n = about(len);
     switch (below(VIEW_CALLS)) {
-    case VIEW_COPY:
-        n = below(60);
-        any_bytes(n);
-        OK(iobuf_copy_from_slice(some, n, to));
-        let_go(out);
-        *out = copied(some, n);
-        break;
-    case VIEW_OF_STATIC:
-        n = below(60);
-        iobuf_from_static(fixed, n, to);
-        let_go(out);
-        memcpy(out->at, fixed, n);
-        out->len = n;
-        break;
-    case VIEW_CLONE:
-        OK(iobuf_clone(at, to));
-        let_go(out);
-        *out = shared(v);
-        break;
-    case VIEW_ADVANCE:
-        if (n > v->len) { CHECK(iobuf_advance(at, n) == IOBUFS_OUT_OF_RANGE); break; }
-        OK(iobuf_advance(at, n));
-        advanced(v, n);
-        break;
-    case VIEW_SPLIT:
-        if (n > v->len) { CHECK(iobuf_split_to(at, n, to) == IOBUFS_OUT_OF_RANGE); break; }
-        OK(iobuf_split_to(at, n, to));
-        let_go(out);
-        if (n == v->len && n) { *out = *v; *v = no_bytes; }
-        else if (n) { *out = between(v, 0, n); advanced(v, n); }
-        break;
-    case VIEW_GET_U64:
-        if (v->len < 8) { CHECK(iobuf_get_u64(at, &eight) == IOBUFS_END_OF_BUFFER); break; }
-        OK(iobuf_get_u64(at, &eight));
-        CHECK(eight == number_of(v->at, 8));
-        advanced(v, 8);
-        break;
-    case VIEW_COPY_OUT:
-        if (n > v->len) { CHECK(iobuf_copy_to_slice(at, some, n > MOST ? MOST : n) == IOBUFS_END_OF_BUFFER); break; }
-        OK(iobuf_copy_to_slice(at, some, n));
-        CHECK(!memcmp(some, v->at, n));
-        advanced(v, n);
-        break;
-    case VIEW_SLICE:
-        m = about(v->len);
-        if (n > m || m > v->len) {
-            CHECK(iobuf_slice(at, IOBUFS_INCLUDED, n, IOBUFS_EXCLUDED, m, to) == IOBUFS_OUT_OF_RANGE);
-            break;
-        }
-        OK(iobuf_slice(at, IOBUFS_INCLUDED, n, IOBUFS_EXCLUDED, m, to));
-        let_go(out);
-        *out = between(v, n, m);
-        break;
-    case VIEW_INTO_PART:
-        view_into_part(i, j);
-        break;
-    case VIEW_EQ:
-        CHECK(iobuf_eq(at, to) == (v->len == out->len && !memcmp(v->at, out->at, v->len)));
-        break;
-    case VIEW_GET_U32:
-        if (v->len < 4) { CHECK(iobuf_get_u32(at, &four) == IOBUFS_END_OF_BUFFER); break; }
-        OK(iobuf_get_u32(at, &four));
-        CHECK(four == number_of(v->at, 4));
-        advanced(v, 4);
-        break;
-    case VIEW_DROP:
-        iobuf_drop(at);
-        let_go(v);
-        break;
+    case VIEW_COPY: view_copy(out); break;
+    case VIEW_OF_STATIC: view_of_static(out); break;
+    case VIEW_CLONE: view_clone(view, out); break;
+    case VIEW_ADVANCE: view_advance(view, n); break;
+    case VIEW_SPLIT: view_split(view, out, n); break;
+    case VIEW_GET_U64: view_get_u64(view); break;
+    case VIEW_COPY_OUT: view_copy_out(view, n); break;
+    case VIEW_SLICE: view_slice(view, out, n, about(len)); break;
+    case VIEW_INTO_PART: view_into_part(view, out); break;
+    case VIEW_EQ: view_eq(view, out); break;
+    case VIEW_GET_U32: view_get_u32(view); break;
+    case VIEW_DROP: view_drop(view); break;
     }
-    same_view(i);
-    same_view(j);
+    same_view(view);
+    same_view(out);
 }
 
+static void part_new(int part) {
+    size_t n = below(NEW_PART);
+    OK(iobufmut_with_capacity(n, &part_at[part]));
+    parts[part] = part_of(some, 0, n);
+}
+static void part_zeroed(int part) {
+    size_t n = below(NEW_PART);
+    OK(iobufmut_zeroed(n, &part_at[part]));
+    parts[part] = part_of(some, 0, n);
+    part_resize(&parts[part], n);
+}
+static void part_copy(int part) {
+    size_t n = below(NEW_PART);
+    any_bytes(n);
+    OK(iobufmut_copy_from_slice(some, n, &part_at[part]));
+    parts[part] = part_of(some, n, n);
+}
 /* A buffer of the bytes of a view: in its block, if nobody shares it, or copied. */
-static void part_of_view(int i, int j) {
-    struct part *p = &parts[i];
-    struct view *v = &views[j];
-    int can = v->block ? holders[v->block] == 1 : 0;
-    OK(iobufmut_from_view(&view_at[j], &part_at[i]));
-    p->there = 1;
-    p->len = v->len;
-    p->capacity = can ? v->room : v->len;
-    memcpy(p->at, v->at, v->len);
+static void part_of_view(int part, int view) {
+    struct view *v = &views[view];
+    int can = v->block && holders[v->block] == 1;
+    OK(iobufmut_from_view(&view_at[view], &part_at[part]));
+    parts[part] = part_of(v->at, v->len, can ? v->room : v->len);
     let_go(v);
-    same_view(j);
+    same_view(view);
+}
+static void part_put_slice(int part, size_t n, size_t room) {
+    if (n > room) { CHECK(iobufmut_put_slice(&part_at[part], some, n) == IOBUFS_OUT_OF_RANGE); return; }
+    any_bytes(n);
+    OK(iobufmut_put_slice(&part_at[part], some, n));
+    part_put(&parts[part], some, n);
+}
+static void part_put_bytes(int part, size_t n, size_t room) {
+    if (n > room) { CHECK(iobufmut_put_bytes(&part_at[part], 9, n) == IOBUFS_OUT_OF_RANGE); return; }
+    OK(iobufmut_put_bytes(&part_at[part], 9, n));
+    memset(some, 9, n);
+    part_put(&parts[part], some, n);
+}
+static void part_put_u8(int part, size_t room) {
+    CHECK(iobufmut_put_u8(&part_at[part], 8) == (room < 1 ? IOBUFS_OUT_OF_RANGE : IOBUFS_OK));
+    if (room >= 1) part_put(&parts[part], number_bytes(8, 1), 1);
+}
+static void part_put_u16(int part, uint16_t two, size_t room) {
+    CHECK(iobufmut_put_u16(&part_at[part], two) == (room < 2 ? IOBUFS_OUT_OF_RANGE : IOBUFS_OK));
+    if (room >= 2) part_put(&parts[part], number_bytes(two, 2), 2);
+}
+static void part_put_u64(int part, uint64_t eight, size_t room) {
+    CHECK(iobufmut_put_u64(&part_at[part], eight) == (room < 8 ? IOBUFS_OUT_OF_RANGE : IOBUFS_OK));
+    if (room >= 8) part_put(&parts[part], number_bytes(eight, 8), 8);
+}
+static void part_set_len(int part, size_t n) {
+    if (n > parts[part].capacity) { CHECK(iobufmut_set_len(&part_at[part], n) == IOBUFS_OUT_OF_RANGE); return; }
+    OK(iobufmut_set_len(&part_at[part], n));
+    part_resize(&parts[part], n);
+}
+static void part_truncate(int part, size_t n) {
+    iobufmut_truncate(&part_at[part], n);
+    if (n < parts[part].len) parts[part].len = n;
+}
+static void part_advance(int part, size_t n) {
+    if (n > parts[part].len) { CHECK(iobufmut_advance(&part_at[part], n) == IOBUFS_OUT_OF_RANGE); return; }
+    OK(iobufmut_advance(&part_at[part], n));
+    part_drain(&parts[part], n);
+}
+static void part_copy_out(int part, size_t n) {
+    struct part *p = &parts[part];
+    if (n > p->len) { CHECK(iobufmut_copy_to_slice(&part_at[part], some, in_some(n)) == IOBUFS_END_OF_BUFFER); return; }
+    OK(iobufmut_copy_to_slice(&part_at[part], some, n));
+    CHECK(!memcmp(some, p->at, n));
+    part_drain(p, n);
+}
+static void part_write_at(int part, size_t at) {
+    size_t n = below(4), len = parts[part].len;
+    any_bytes(n);
+    if (at > len || n > len - at) {
+        CHECK(iobufmut_write_at(&part_at[part], at, some, n) == IOBUFS_OUT_OF_RANGE);
+        return;
+    }
+    OK(iobufmut_write_at(&part_at[part], at, some, n));
+    memcpy(parts[part].at + at, some, n);
+}
+static void part_freeze(int part, int out) {
+    OK(iobufmut_freeze(&part_at[part], &view_at[out]));
+    replace_view(out, frozen(&parts[part]));
+    same_view(out);
 }
 
 enum {
-    PART_NEW, PART_ZEROED, PART_COPY, PART_OF_VIEW, PART_PUT, PART_FILL, PART_PUT_U8, PART_SET_LEN, PART_TRUNCATE,
-    PART_PUT_U64, PART_ADVANCE, PART_COPY_OUT, PART_WRITE_AT, PART_FREEZE, PART_PUT_U16, PART_CALLS
+    PART_NEW, PART_ZEROED, PART_COPY, PART_OF_VIEW, PART_PUT_SLICE, PART_PUT_BYTES, PART_PUT_U8, PART_SET_LEN,
+    PART_TRUNCATE, PART_PUT_U64, PART_ADVANCE, PART_COPY_OUT, PART_WRITE_AT, PART_FREEZE, PART_PUT_U16, PART_CALLS
 };
 
-static void part_call(int i, int j) {
-    struct part *p = &parts[i];
-    struct iobufmut_at *at = &part_at[i];
-    size_t room = p->capacity - p->len, n = about(room), m = about(p->len);
-    uint64_t eight = number();
+static void part_call(int part, int view) {
+    const size_t len = parts[part].len, capacity = parts[part].capacity, room = capacity - len;
+    const size_t put = about(room), taken = about(len);
+    const uint64_t eight = number();
     switch (below(PART_CALLS)) {
-    case PART_NEW:
-        n = below(80);
-        OK(iobufmut_with_capacity(n, at));
-        p->there = 1;
-        p->len = 0;
-        p->capacity = n;
-        break;
-    case PART_ZEROED:
-        n = below(80);
-        OK(iobufmut_zeroed(n, at));
-        p->there = 1;
-        p->len = p->capacity = n;
-        memset(p->at, 0, n);
-        break;
-    case PART_COPY:
-        n = below(80);
-        any_bytes(n);
-        OK(iobufmut_copy_from_slice(some, n, at));
-        p->there = 1;
-        p->len = p->capacity = n;
-        memcpy(p->at, some, n);
-        break;
-    case PART_OF_VIEW:
-        part_of_view(i, j);
-        break;
-    case PART_PUT:
-        if (n > room) { CHECK(iobufmut_put_slice(at, some, n) == IOBUFS_OUT_OF_RANGE); break; }
-        any_bytes(n);
-        OK(iobufmut_put_slice(at, some, n));
-        memcpy(p->at + p->len, some, n);
-        p->len += n;
-        break;
-    case PART_FILL:
-        if (n > room) { CHECK(iobufmut_put_bytes(at, 9, n) == IOBUFS_OUT_OF_RANGE); break; }
-        OK(iobufmut_put_bytes(at, 9, n));
-        memset(p->at + p->len, 9, n);
-        p->len += n;
-        break;
-    case PART_PUT_U8:
-        CHECK(iobufmut_put_u8(at, 8) == (room ? IOBUFS_OK : IOBUFS_OUT_OF_RANGE));
-        if (room) p->at[p->len++] = 8;
-        break;
-    case PART_SET_LEN:
-        n = about(p->capacity);
-        if (n > p->capacity) { CHECK(iobufmut_set_len(at, n) == IOBUFS_OUT_OF_RANGE); break; }
-        OK(iobufmut_set_len(at, n));
-        part_set_len(p, n);
-        break;
-    case PART_TRUNCATE:
-        iobufmut_truncate(at, m);
-        if (m < p->len) p->len = m;
-        break;
-    case PART_PUT_U64:
-        CHECK(iobufmut_put_u64(at, eight) == (room < 8 ? IOBUFS_OUT_OF_RANGE : IOBUFS_OK));
-        if (room >= 8) { number_bytes(p->at + p->len, eight, 8); p->len += 8; }
-        break;
-    case PART_ADVANCE:
-        if (m > p->len) { CHECK(iobufmut_advance(at, m) == IOBUFS_OUT_OF_RANGE); break; }
-        OK(iobufmut_advance(at, m));
-        part_drain(p, m);
-        break;
-    case PART_COPY_OUT:
-        if (m > p->len) { CHECK(iobufmut_copy_to_slice(at, some, m > MOST ? MOST : m) == IOBUFS_END_OF_BUFFER); break; }
-        OK(iobufmut_copy_to_slice(at, some, m));
-        CHECK(!memcmp(some, p->at, m));
-        part_drain(p, m);
-        break;
-    case PART_WRITE_AT:
-        n = below(4);
-        any_bytes(n);
-        if (m > p->len || n > p->len - m) { CHECK(iobufmut_write_at(at, m, some, n) == IOBUFS_OUT_OF_RANGE); break; }
-        OK(iobufmut_write_at(at, m, some, n));
-        memcpy(p->at + m, some, n);
-        break;
-    case PART_FREEZE:
-        OK(iobufmut_freeze(at, &view_at[j]));
-        let_go(&views[j]);
-        views[j] = frozen(p);
-        same_view(j);
-        break;
-    case PART_PUT_U16:
-        CHECK(iobufmut_put_u16(at, (uint16_t)eight) == (room < 2 ? IOBUFS_OUT_OF_RANGE : IOBUFS_OK));
-        if (room >= 2) { number_bytes(p->at + p->len, eight, 2); p->len += 2; }
-        break;
+    case PART_NEW: part_new(part); break;
+    case PART_ZEROED: part_zeroed(part); break;
+    case PART_COPY: part_copy(part); break;
+    case PART_OF_VIEW: part_of_view(part, view); break;
+    case PART_PUT_SLICE: part_put_slice(part, put, room); break;
+    case PART_PUT_BYTES: part_put_bytes(part, put, room); break;
+    case PART_PUT_U8: part_put_u8(part, room); break;
+    case PART_SET_LEN: part_set_len(part, about(capacity)); break;
+    case PART_TRUNCATE: part_truncate(part, taken); break;
+    case PART_PUT_U64: part_put_u64(part, eight, room); break;
+    case PART_ADVANCE: part_advance(part, taken); break;
+    case PART_COPY_OUT: part_copy_out(part, taken); break;
+    case PART_WRITE_AT: part_write_at(part, taken); break;
+    case PART_FREEZE: part_freeze(part, view); break;
+    case PART_PUT_U16: part_put_u16(part, (uint16_t)eight, room); break;
     }
-    same_part(i);
+    same_part(part);
 }
 
-/* A text of a view alone, and no view is left. */
-static void text_of_view(int i, int k) {
-    iobufs_from_view(&view_at[k], &text_at[i]);
-    drop_text(&texts[i]);
-    texts[i].piece[0] = views[k];
-    views[k] = no_bytes;
+static void text_append(int text, int view) {
+    OK(iobufs_append(&text_at[text], &view_at[view]));
+    push(&texts[text], &views[view]);
+    views[view] = no_bytes;
 }
-
-static void text_prepend(int i, int k) {
-    struct text *t = &texts[i];
-    struct view *v = &views[k];
-    size_t len = text_len(t);
-    OK(iobufs_prepend(&text_at[i], &view_at[k]));
+static void text_prepend(int text, int view) {
+    struct text *t = &texts[text];
+    struct view *v = &views[view];
+    OK(iobufs_prepend(&text_at[text], &view_at[view]));
     if (v->len == 0) let_go(v);
-    else if (len == 0) { drop_text(t); t->piece[0] = *v; }
+    else if (text_len(t) == 0) { drop_text(t); t->piece[0] = *v; }
     else { memmove(t->piece + 1, t->piece, t->count++ * sizeof *t->piece); t->piece[0] = *v; }
     *v = no_bytes;
 }
-
-static void text_copy_out(int i, size_t n) {
-    struct text *t = &texts[i];
+/* A text of a view alone, and no view is left. */
+static void text_of_view(int text, int view) {
+    iobufs_from_view(&view_at[view], &text_at[text]);
+    drop_text(&texts[text]);
+    texts[text].piece[0] = views[view];
+    views[view] = no_bytes;
+}
+static void text_of_part(int text, int part, int view) {
+    part_freeze(part, view);
+    same_part(part);
+    text_of_view(text, view);
+}
+static void text_split(int text, int out, size_t n) {
+    struct text *t = &texts[text];
+    if (n > text_len(t)) { CHECK(iobufs_split_to(&text_at[text], n, &text_at[out]) == IOBUFS_OUT_OF_RANGE); return; }
+    OK(iobufs_split_to(&text_at[text], n, &text_at[out]));
+    replace_text(out, split(t, n));
+}
+static void text_slice(int text, int out, size_t lo, size_t hi) {
+    const struct text *t = &texts[text];
+    if (lo > hi || hi > text_len(t)) {
+        CHECK(iobufs_slice(&text_at[text], lo, hi, &text_at[out]) == IOBUFS_OUT_OF_RANGE);
+        return;
+    }
+    OK(iobufs_slice(&text_at[text], lo, hi, &text_at[out]));
+    replace_text(out, sliced(t, lo, hi));
+}
+static void text_clone(int text, int out) {
+    OK(iobufs_clone(&text_at[text], &text_at[out]));
+    replace_text(out, shared_text(&texts[text]));
+}
+static void text_truncate(int text, size_t n) {
+    OK(iobufs_truncate(&text_at[text], n));
+    if (n < text_len(&texts[text])) replace_text(text, sliced(&texts[text], 0, n));
+}
+static void text_advance(int text, size_t n) {
+    struct text *t = &texts[text];
+    if (n > text_len(t)) { CHECK(iobufs_advance(&text_at[text], n) == IOBUFS_OUT_OF_RANGE); return; }
+    OK(iobufs_advance(&text_at[text], n));
+    text_advanced(t, n);
+}
+static void text_copy_out(int text, size_t n) {
+    struct text *t = &texts[text];
     uint8_t all[PIECES * MOST];
     if (n > text_len(t)) {
-        CHECK(iobufs_copy_to_slice(&text_at[i], some, n > 2 * MOST ? 2 * MOST : n) == IOBUFS_END_OF_BUFFER);
+        CHECK(iobufs_copy_to_slice(&text_at[text], some, in_some(n)) == IOBUFS_END_OF_BUFFER);
         return;
     }
     bytes_of(t, all);
-    OK(iobufs_copy_to_slice(&text_at[i], some, n));
+    OK(iobufs_copy_to_slice(&text_at[text], some, n));
     CHECK(!memcmp(some, all, n));
-    text_advance(t, n);
+    text_advanced(t, n);
 }
-
-/* The chunk that has byte n, and the byte. */
-static void text_locate(int i, size_t n) {
-    const struct text *t = &texts[i];
-    size_t len = text_len(t), index, offset, before = 0, p = 0;
-    uint8_t byte;
-    CHECK(iobufs_locate(&text_at[i], n, &index, &offset) == (n < len ? IOBUFS_OK : IOBUFS_OUT_OF_RANGE));
-    CHECK(iobufs_peek(&text_at[i], n, &byte, 1) == (n < len ? IOBUFS_OK : IOBUFS_END_OF_BUFFER));
-    if (n >= len) return;
-    while (before + t->piece[p].len <= n) before += t->piece[p++].len;
-    CHECK(index == p && offset == n - before && byte == t->piece[p].at[offset]);
-}
-
-static void text_get_u32(int i) {
-    struct text *t = &texts[i];
+static void text_get_u32(int text) {
+    struct text *t = &texts[text];
     uint8_t all[PIECES * MOST];
     uint32_t four;
-    if (text_len(t) < 4) { CHECK(iobufs_get_u32(&text_at[i], &four) == IOBUFS_END_OF_BUFFER); return; }
+    if (text_len(t) < 4) { CHECK(iobufs_get_u32(&text_at[text], &four) == IOBUFS_END_OF_BUFFER); return; }
     bytes_of(t, all);
-    OK(iobufs_get_u32(&text_at[i], &four));
+    OK(iobufs_get_u32(&text_at[text], &four));
     CHECK(four == number_of(all, 4));
-    text_advance(t, 4);
+    text_advanced(t, 4);
 }
-
-static void text_eq(int i, int j) {
-    size_t len = text_len(&texts[i]);
+static void text_take(int text, int view, size_t n) {
+    struct text *t = &texts[text];
+    if (n > text_len(t)) { CHECK(iobufs_take(&text_at[text], n, &view_at[view]) == IOBUFS_END_OF_BUFFER); return; }
+    OK(iobufs_take(&text_at[text], n, &view_at[view]));
+    replace_view(view, view_of_range(t, 0, n));
+    text_rest(t, n);
+}
+static void text_take_after(int text, int view, size_t skip, size_t n) {
+    struct text *t = &texts[text];
+    size_t len = text_len(t);
+    if (skip > len || n > len - skip) {
+        CHECK(iobufs_take_after(&text_at[text], skip, n, &view_at[view]) == IOBUFS_END_OF_BUFFER);
+        return;
+    }
+    OK(iobufs_take_after(&text_at[text], skip, n, &view_at[view]));
+    replace_view(view, view_of_range(t, skip, n));
+    text_rest(t, skip + n);
+}
+/* One piece moves into the view, several are copied. */
+static void text_coalesce(int text, int view) {
+    struct text *t = &texts[text];
+    OK(iobufs_coalesce(&text_at[text], &view_at[view]));
+    if (t->count == 1) { replace_view(view, t->piece[0]); no_text(t); }
+    else { replace_view(view, view_of_range(t, 0, text_len(t))); drop_text(t); }
+}
+static void text_into_single(int text, int view) {
+    struct text *t = &texts[text];
+    const int can = t->count == 1;
+    CHECK(iobufs_try_into_single(&text_at[text], &view_at[view]) == (can ? IOBUFS_OK : IOBUFS_DECLINED));
+    if (can) { replace_view(view, t->piece[0]); no_text(t); }
+}
+/* The chunk that has byte n, and the byte. */
+static void text_locate(int text, size_t n) {
+    const struct text *t = &texts[text];
+    size_t index, offset, start;
+    uint8_t byte;
+    const int has = n < text_len(t);
+    CHECK(iobufs_locate(&text_at[text], n, &index, &offset) == (has ? IOBUFS_OK : IOBUFS_OUT_OF_RANGE));
+    CHECK(iobufs_peek(&text_at[text], n, &byte, 1) == (has ? IOBUFS_OK : IOBUFS_END_OF_BUFFER));
+    if (!has) return;
+    CHECK(index == piece_at(t, n, &start));
+    CHECK(offset == n - start);
+    CHECK(byte == t->piece[index].at[offset]);
+}
+static void text_eq(int text, int other) {
+    size_t len = text_len(&texts[text]), other_len = text_len(&texts[other]);
     uint8_t ours[PIECES * MOST], theirs[PIECES * MOST];
-    bytes_of(&texts[i], ours), bytes_of(&texts[j], theirs);
-    CHECK(iobufs_eq(&text_at[i], &text_at[j]) == (len == text_len(&texts[j]) && !memcmp(ours, theirs, len)));
+    bytes_of(&texts[text], ours);
+    bytes_of(&texts[other], theirs);
+    CHECK(iobufs_eq(&text_at[text], &text_at[other]) == (len == other_len && !memcmp(ours, theirs, len)));
 }
 
 /* Those before TEXT_SPLIT add to a text or replace it: a text that is full has only the others. */
@@ -615,207 +729,141 @@ enum {
     TEXT_EQ, TEXT_CALLS
 };
 
-static void text_call(int i, int j, int k) {
-    struct text *t = &texts[i], *out = &texts[j];
-    struct iobufs_at *at = &text_at[i], *to = &text_at[j];
-    struct view *v = &views[k];
-    size_t len = text_len(t), n = about(len), m;
-    int full = t->count > 12 || len + v->len > MOST;
+static void text_call(int text, int out, int view) {
+    const size_t len = text_len(&texts[text]), n = about(len);
+    const int full = texts[text].count > FULL_TEXT || len + views[view].len > MOST;
     switch (full ? TEXT_SPLIT + below(TEXT_CALLS - TEXT_SPLIT) : below(TEXT_CALLS)) {
-    case TEXT_APPEND:
-        OK(iobufs_append(at, &view_at[k]));
-        push(t, v);
-        *v = no_bytes;
-        break;
-    case TEXT_PREPEND:
-        text_prepend(i, k);
-        break;
-    case TEXT_OF_VIEW:
-        text_of_view(i, k);
-        break;
-    case TEXT_OF_PART:
-        OK(iobufmut_freeze(&part_at[k], &view_at[k]));
-        let_go(v);
-        *v = frozen(&parts[k]);
-        same_part(k);
-        text_of_view(i, k);
-        break;
-    case TEXT_SPLIT:
-        if (n > len) { CHECK(iobufs_split_to(at, n, to) == IOBUFS_OUT_OF_RANGE); break; }
-        OK(iobufs_split_to(at, n, to));
-        drop_text(out);
-        *out = split(t, n);
-        break;
-    case TEXT_ADVANCE:
-        if (n > len) { CHECK(iobufs_advance(at, n) == IOBUFS_OUT_OF_RANGE); break; }
-        OK(iobufs_advance(at, n));
-        text_advance(t, n);
-        break;
-    case TEXT_COPY_OUT:
-        text_copy_out(i, n);
-        break;
-    case TEXT_TAKE:
-        if (n > len) { CHECK(iobufs_take(at, n, &view_at[k]) == IOBUFS_END_OF_BUFFER); break; }
-        OK(iobufs_take(at, n, &view_at[k]));
-        let_go(v);
-        *v = taken(t, 0, n);
-        text_rest(t, n);
-        break;
-    case TEXT_TAKE_AFTER:
-        m = about(len);
-        if (m > len || n > len - m) {
-            CHECK(iobufs_take_after(at, m, n, &view_at[k]) == IOBUFS_END_OF_BUFFER);
-            break;
-        }
-        OK(iobufs_take_after(at, m, n, &view_at[k]));
-        let_go(v);
-        *v = taken(t, m, n);
-        text_rest(t, m + n);
-        break;
-    case TEXT_CLONE:
-        OK(iobufs_clone(at, to));
-        drop_text(out);
-        out->count = t->count;
-        for (size_t p = 0; p < t->count; p++) out->piece[p] = shared(&t->piece[p]);
-        break;
-    case TEXT_COALESCE:
-        OK(iobufs_coalesce(at, &view_at[k]));
-        let_go(v);
-        if (t->count == 1) { *v = t->piece[0]; no_text(t); } else { *v = taken(t, 0, len); drop_text(t); }
-        break;
-    case TEXT_INTO_SINGLE:
-        CHECK(iobufs_try_into_single(at, &view_at[k]) == (t->count == 1 ? IOBUFS_OK : IOBUFS_DECLINED));
-        if (t->count == 1) { let_go(v); *v = t->piece[0]; no_text(t); }
-        break;
-    case TEXT_LOCATE:
-        text_locate(i, n);
-        break;
-    case TEXT_GET_U32:
-        text_get_u32(i);
-        break;
-    case TEXT_SLICE:
-        m = about(len);
-        if (n > m || m > len) { CHECK(iobufs_slice(at, n, m, to) == IOBUFS_OUT_OF_RANGE); break; }
-        OK(iobufs_slice(at, n, m, to));
-        drop_text(out);
-        *out = sliced(t, n, m);
-        break;
-    case TEXT_TRUNCATE:
-        if (n < len) { struct text kept = sliced(t, 0, n); drop_text(t); *t = kept; }
-        OK(iobufs_truncate(at, n));
-        break;
-    case TEXT_EQ:
-        text_eq(i, j);
-        break;
+    case TEXT_APPEND: text_append(text, view); break;
+    case TEXT_PREPEND: text_prepend(text, view); break;
+    case TEXT_OF_VIEW: text_of_view(text, view); break;
+    case TEXT_OF_PART: text_of_part(text, view, view); break;
+    case TEXT_SPLIT: text_split(text, out, n); break;
+    case TEXT_ADVANCE: text_advance(text, n); break;
+    case TEXT_COPY_OUT: text_copy_out(text, n); break;
+    case TEXT_TAKE: text_take(text, view, n); break;
+    case TEXT_TAKE_AFTER: text_take_after(text, view, about(len), n); break;
+    case TEXT_CLONE: text_clone(text, out); break;
+    case TEXT_COALESCE: text_coalesce(text, view); break;
+    case TEXT_INTO_SINGLE: text_into_single(text, view); break;
+    case TEXT_LOCATE: text_locate(text, n); break;
+    case TEXT_GET_U32: text_get_u32(text); break;
+    case TEXT_SLICE: text_slice(text, out, n, about(len)); break;
+    case TEXT_TRUNCATE: text_truncate(text, n); break;
+    case TEXT_EQ: text_eq(text, out); break;
     }
-    same_text(i);
-    same_text(j);
-    same_view(k);
+    same_text(text);
+    same_text(out);
+    same_view(view);
 }
 
 /* A row of some of the writable buffers, none of which is left. One that is too long is dropped. */
-static void row_of_parts(int i) {
-    struct row *r = &rows[i];
+static void row_of_parts(int row) {
+    struct row *r = &rows[row];
     struct iobufmut_at places[VIEWS];
     size_t count = below(VIEWS + 1);
-    memset(r, 0, sizeof *r);
-    r->there = 1;
+    r->count = 0;
     for (size_t p = 0; p < count; p++) {
         places[p] = part_at[p];
         if (parts[p].there) r->part[r->count++] = parts[p];
-        memset(&parts[p], 0, sizeof parts[p]);
+        parts[p] = no_part;
     }
     keep_parts(r);
-    OK(iobufsmut_from_parts(places, count, &row_at[i]));
+    OK(iobufsmut_from_parts(places, count, &row_at[row]));
     for (size_t p = 0; p < count; p++) same_part((int)p);
-    if (row_capacity(r) > MOST) { iobufsmut_drop(&row_at[i]); no_row(r); }
+    if (row_capacity(r) > MOST) { iobufsmut_drop(&row_at[row]); no_row(r); }
 }
-
+static void row_of_part(int row, int part) {
+    iobufsmut_from_mut(&part_at[part], &row_at[row]);
+    no_row(&rows[row]);
+    rows[row].part[0] = parts[part];
+    parts[part] = no_part;
+    same_part(part);
+}
+static void row_put_slice(int row, size_t n, size_t room) {
+    if (n > room) { CHECK(iobufsmut_put_slice(&row_at[row], some, n) == IOBUFS_OUT_OF_RANGE); return; }
+    any_bytes(n);
+    OK(iobufsmut_put_slice(&row_at[row], some, n));
+    row_put(&rows[row], some, n);
+}
+static void row_put_bytes(int row, size_t n, size_t room) {
+    if (n > room) { CHECK(iobufsmut_put_bytes(&row_at[row], 5, n) == IOBUFS_OUT_OF_RANGE); return; }
+    OK(iobufsmut_put_bytes(&row_at[row], 5, n));
+    memset(some, 5, n);
+    row_put(&rows[row], some, n);
+}
+static void row_put_u64(int row, uint64_t eight, size_t room) {
+    CHECK(iobufsmut_put_u64(&row_at[row], eight) == (room < 8 ? IOBUFS_OUT_OF_RANGE : IOBUFS_OK));
+    if (room >= 8) row_put(&rows[row], number_bytes(eight, 8), 8);
+}
+static void row_set_len(int row, size_t n) {
+    struct row *r = &rows[row];
+    if (n > row_capacity(r)) { CHECK(iobufsmut_set_len(&row_at[row], n) == IOBUFS_OUT_OF_RANGE); return; }
+    OK(iobufsmut_set_len(&row_at[row], n));
+    row_resize(r, n);
+}
+static void row_advance(int row, size_t n) {
+    struct row *r = &rows[row];
+    if (n > row_len(r)) { CHECK(iobufsmut_advance(&row_at[row], n) == IOBUFS_OUT_OF_RANGE); return; }
+    OK(iobufsmut_advance(&row_at[row], n));
+    row_drain(r, n);
+}
+static void row_copy_out(int row, size_t n) {
+    struct row *r = &rows[row];
+    uint8_t all[ROW_PARTS * MOST];
+    if (n > row_len(r)) {
+        CHECK(iobufsmut_copy_to_slice(&row_at[row], some, in_some(n)) == IOBUFS_END_OF_BUFFER);
+        return;
+    }
+    row_bytes(r, all);
+    OK(iobufsmut_copy_to_slice(&row_at[row], some, n));
+    CHECK(!memcmp(some, all, n));
+    row_drain(r, n);
+}
 /* The views of the buffers are a text, and no row is left. */
-static void row_freeze(int i, int j) {
-    struct row *r = &rows[i];
-    OK(iobufsmut_freeze(&row_at[i], &text_at[j]));
-    drop_text(&texts[j]);
+static void row_freeze(int row, int text) {
+    struct row *r = &rows[row];
+    OK(iobufsmut_freeze(&row_at[row], &text_at[text]));
+    drop_text(&texts[text]);
     for (size_t p = 0; p < r->count; p++) {
         struct view v = frozen(&r->part[p]);
-        push(&texts[j], &v);
+        push(&texts[text], &v);
     }
     no_row(r);
-    same_text(j);
+    same_text(text);
+}
+/* One buffer moves, several are copied, and no row is left. */
+static void row_coalesce(int row, int part) {
+    struct row *r = &rows[row];
+    uint8_t all[ROW_PARTS * MOST];
+    OK(iobufsmut_coalesce(&row_at[row], &part_at[part]));
+    row_bytes(r, all);
+    parts[part] = r->count == 1 ? r->part[0] : part_of(all, row_len(r), row_len(r));
+    no_row(r);
+    same_part(part);
 }
 
 enum {
-    ROW_OF_PARTS, ROW_OF_PART, ROW_PUT, ROW_FILL, ROW_SET_LEN, ROW_ADVANCE, ROW_COPY_OUT, ROW_PUT_U64, ROW_FREEZE,
-    ROW_COALESCE, ROW_CALLS
+    ROW_OF_PARTS, ROW_OF_PART, ROW_PUT_SLICE, ROW_PUT_BYTES, ROW_SET_LEN, ROW_ADVANCE, ROW_COPY_OUT, ROW_PUT_U64,
+    ROW_FREEZE, ROW_COALESCE, ROW_CALLS
 };
 
-static void row_call(int i, int j, int k) {
-    struct row *r = &rows[i];
-    struct iobufsmut_at *at = &row_at[i];
-    size_t len = row_len(r), room = row_capacity(r) - len, n = about(room), m = about(len);
-    uint8_t all[ROW_PARTS * MOST];
-    row_bytes(r, all);
-    uint64_t eight = number();
+static void row_call(int row, int text, int part) {
+    const size_t len = row_len(&rows[row]), capacity = row_capacity(&rows[row]), room = capacity - len;
+    const size_t put = about(room), taken = about(len);
+    const uint64_t eight = number();
     switch (below(ROW_CALLS)) {
-    case ROW_OF_PARTS:
-        row_of_parts(i);
-        break;
-    case ROW_OF_PART:
-        iobufsmut_from_mut(&part_at[k], at);
-        no_row(r);
-        r->there = parts[k].there;
-        r->part[0] = parts[k];
-        memset(&parts[k], 0, sizeof parts[k]);
-        same_part(k);
-        break;
-    case ROW_PUT:
-        if (n > room) { CHECK(iobufsmut_put_slice(at, some, n) == IOBUFS_OUT_OF_RANGE); break; }
-        any_bytes(n);
-        OK(iobufsmut_put_slice(at, some, n));
-        row_put(r, some, n);
-        break;
-    case ROW_FILL:
-        if (n > room) { CHECK(iobufsmut_put_bytes(at, 5, n) == IOBUFS_OUT_OF_RANGE); break; }
-        OK(iobufsmut_put_bytes(at, 5, n));
-        memset(some, 5, n);
-        row_put(r, some, n);
-        break;
-    case ROW_SET_LEN:
-        n = about(len + room);
-        if (n > len + room) { CHECK(iobufsmut_set_len(at, n) == IOBUFS_OUT_OF_RANGE); break; }
-        OK(iobufsmut_set_len(at, n));
-        row_set_len(r, n);
-        break;
-    case ROW_ADVANCE:
-        if (m > len) { CHECK(iobufsmut_advance(at, m) == IOBUFS_OUT_OF_RANGE); break; }
-        OK(iobufsmut_advance(at, m));
-        row_drain(r, m);
-        break;
-    case ROW_COPY_OUT:
-        if (m > len) {
-            CHECK(iobufsmut_copy_to_slice(at, some, m > 2 * MOST ? 2 * MOST : m) == IOBUFS_END_OF_BUFFER);
-            break;
-        }
-        OK(iobufsmut_copy_to_slice(at, some, m));
-        CHECK(!memcmp(some, all, m));
-        row_drain(r, m);
-        break;
-    case ROW_PUT_U64:
-        CHECK(iobufsmut_put_u64(at, eight) == (room < 8 ? IOBUFS_OUT_OF_RANGE : IOBUFS_OK));
-        if (room >= 8) { number_bytes(some, eight, 8); row_put(r, some, 8); }
-        break;
-    case ROW_FREEZE:
-        row_freeze(i, j);
-        break;
-    case ROW_COALESCE:
-        OK(iobufsmut_coalesce(at, &part_at[k]));
-        if (r->count == 1) parts[k] = r->part[0];
-        else { memcpy(parts[k].at, all, len); parts[k].len = parts[k].capacity = len; parts[k].there = 1; }
-        no_row(r);
-        same_part(k);
-        break;
+    case ROW_OF_PARTS: row_of_parts(row); break;
+    case ROW_OF_PART: row_of_part(row, part); break;
+    case ROW_PUT_SLICE: row_put_slice(row, put, room); break;
+    case ROW_PUT_BYTES: row_put_bytes(row, put, room); break;
+    case ROW_SET_LEN: row_set_len(row, about(capacity)); break;
+    case ROW_ADVANCE: row_advance(row, taken); break;
+    case ROW_COPY_OUT: row_copy_out(row, taken); break;
+    case ROW_PUT_U64: row_put_u64(row, eight, room); break;
+    case ROW_FREEZE: row_freeze(row, text); break;
+    case ROW_COALESCE: row_coalesce(row, part); break;
     }
-    same_row(i);
+    same_row(row);
 }
 
 /* Bytes are written into the model: after the last ones, or, after a pushed view, into a new piece. */
@@ -833,12 +881,42 @@ static void builder_put(const uint8_t *at, size_t n) {
     last->len += n;
     builder.inline_len += n;
 }
-
+static void builder_new(void) {
+    if (builder.there) return;
+    size_t n = below(MOST_ROOM);
+    OK(iobufs_builder_new(n, &builder_at));
+    builder = no_builder;
+    builder.there = 1;
+    builder.room = n;
+}
+static void builder_put_slice(size_t n) {
+    if (n > builder.room) { CHECK(iobufs_builder_put_slice(&builder_at, some, n) == IOBUFS_OUT_OF_RANGE); return; }
+    any_bytes(n);
+    OK(iobufs_builder_put_slice(&builder_at, some, n));
+    builder_put(some, n);
+}
+static void builder_put_u32(uint32_t four) {
+    const int fits = builder.room >= 4;
+    CHECK(iobufs_builder_put_u32(&builder_at, four) == (fits ? IOBUFS_OK : IOBUFS_OUT_OF_RANGE));
+    if (fits) builder_put(number_bytes(four, 4), 4);
+}
+/* A view is a piece of its own, and bytes that are put after it begin another. An empty view is dropped, and divides
+ * nothing: bytes that are put after it continue the piece before it. */
+static void builder_push(int view) {
+    struct view *v = &views[view];
+    if (builder.text.count > MOST_BUILT) return;
+    CHECK(iobufs_builder_push(&builder_at, &view_at[view]) == (builder.there ? IOBUFS_OK : IOBUFS_DECLINED));
+    if (!builder.there) return;
+    if (v->len == 0) { let_go(v); return; }
+    builder.text.piece[builder.text.count++] = *v;
+    builder.inline_len = 0;
+    *v = no_bytes;
+}
 /* The builder's text: all that it wrote shares one block. */
-static void builder_finish(int j) {
+static void builder_finish(int text) {
     int block = NO_BLOCK;
-    OK(iobufs_builder_finish(&builder_at, &text_at[j]));
-    drop_text(&texts[j]);
+    OK(iobufs_builder_finish(&builder_at, &text_at[text]));
+    drop_text(&texts[text]);
     for (size_t p = 0; p < builder.text.count; p++) {
         struct view v = builder.text.piece[p];
         if (v.block == BUILDERS_BLOCK) {
@@ -846,58 +924,30 @@ static void builder_finish(int j) {
             else holders[block]++;
             v.block = block;
         }
-        push(&texts[j], &v);
+        push(&texts[text], &v);
     }
-    memset(&builder, 0, sizeof builder);
-    if (text_len(&texts[j]) > MOST) { iobufs_drop(&text_at[j]); drop_text(&texts[j]); }
-    same_text(j);
+    builder = no_builder;
+    if (text_len(&texts[text]) > MOST) { iobufs_drop(&text_at[text]); drop_text(&texts[text]); }
+    same_text(text);
 }
 
-enum { BUILDER_NEW, BUILDER_PUT, BUILDER_PUSH, BUILDER_FINISH, BUILDER_ROOM, BUILDER_PUT_U32, BUILDER_CALLS };
+enum { BUILDER_NEW, BUILDER_PUT_SLICE, BUILDER_PUSH, BUILDER_FINISH, BUILDER_ROOM, BUILDER_PUT_U32, BUILDER_CALLS };
 
-static void builder_call(int j, int k) {
-    size_t n = about(builder.room);
-    uint64_t eight = number();
+static void builder_call(int text, int view) {
+    const size_t n = about(builder.room);
+    const uint32_t four = (uint32_t)number();
     switch (below(BUILDER_CALLS)) {
-    case BUILDER_NEW:
-        if (builder.there) break;
-        n = below(40);
-        OK(iobufs_builder_new(n, &builder_at));
-        memset(&builder, 0, sizeof builder);
-        builder.there = 1;
-        builder.room = n;
-        break;
-    case BUILDER_PUT:
-        if (n > builder.room) { CHECK(iobufs_builder_put_slice(&builder_at, some, n) == IOBUFS_OUT_OF_RANGE); break; }
-        any_bytes(n);
-        OK(iobufs_builder_put_slice(&builder_at, some, n));
-        builder_put(some, n);
-        break;
-    case BUILDER_PUSH:
-        if (builder.text.count > 10) break;
-        CHECK(iobufs_builder_push(&builder_at, &view_at[k]) == (builder.there ? IOBUFS_OK : IOBUFS_DECLINED));
-        if (!builder.there) break;
-        if (views[k].len == 0) { let_go(&views[k]); break; }
-        builder.text.piece[builder.text.count++] = views[k];
-        builder.inline_len = 0;
-        views[k] = no_bytes;
-        break;
-    case BUILDER_FINISH:
-        if (below(4) == 0) builder_finish(j);
-        break;
-    case BUILDER_ROOM:
-        CHECK(iobufs_builder_remaining_mut(&builder_at) == builder.room);
-        break;
-    case BUILDER_PUT_U32:
-        CHECK(iobufs_builder_put_u32(&builder_at, (uint32_t)eight)
-              == (builder.room < 4 ? IOBUFS_OUT_OF_RANGE : IOBUFS_OK));
-        if (builder.room >= 4) { number_bytes(some, eight, 4); builder_put(some, 4); }
-        break;
+    case BUILDER_NEW: builder_new(); break;
+    case BUILDER_PUT_SLICE: builder_put_slice(n); break;
+    case BUILDER_PUSH: builder_push(view); break;
+    case BUILDER_FINISH: if (below(4) == 0) builder_finish(text); break; /* seldom, so that builders grow */
+    case BUILDER_ROOM: CHECK(iobufs_builder_remaining_mut(&builder_at) == builder.room); break;
+    case BUILDER_PUT_U32: builder_put_u32(four); break;
     }
-    same_view(k);
+    same_view(view);
 }
 
-/* What taking the first frame answers, of a body up to BODY bytes; of a whole one, where its body is, and its length.
+/* The status of taking the first frame, of a body up to BODY bytes; of a whole one, where its body is, and its length.
  * The prefix is a varint: the last of several bytes isn't 0, and a tenth byte is 1. */
 static iobufs_status front_of(const uint8_t *all, size_t len, size_t *at, size_t *body) {
     size_t i = 0, shift = 0, n = 0;
@@ -911,46 +961,49 @@ static iobufs_status front_of(const uint8_t *all, size_t len, size_t *at, size_t
     return len - i - 1 < n ? IOBUFS_END_OF_BUFFER : IOBUFS_OK;
 }
 
-/* Fills `some` with a frame of a body below 30 bytes, and answers where it is cut. */
+/* Fills `some` with a frame, and answers where it is cut. */
 static size_t any_front(void) {
-    size_t n = below(30);
+    size_t n = below(NEW_BODY);
     any_bytes(n + 1);
     some[0] = (uint8_t)n;
     return below(n + 2);
 }
 
-/* Frames are fed with the fronts of frames. */
-static void frames_call(int k) {
-    size_t len = text_len(&frames), n, at, body;
+/* Feeds the front of a frame, by way of a view that is empty then. */
+static void frames_feed(int view) {
+    struct view *v = &views[view];
+    size_t n = any_front();
+    OK(iobuf_copy_from_slice(some, n, &view_at[view]));
+    OK(iobufs_frames_feed(&frames_at, &view_at[view]));
+    let_go(v);
+    *v = copied(some, n);
+    push(&frames, v);
+    *v = no_bytes;
+    same_view(view);
+    CHECK(iobufs_frames_len(&frames_at) == text_len(&frames));
+}
+
+static void frames_take(int view) {
     uint8_t all[PIECES * MOST];
-    struct view *v = &views[k];
-    if (below(2) && frames.count < 20) {
-        n = any_front();
-        OK(iobuf_copy_from_slice(some, n, &view_at[k]));
-        let_go(v);
-        OK(iobufs_frames_feed(&frames_at, &view_at[k]));
-        *v = copied(some, n);
-        push(&frames, v);
-        *v = no_bytes;
-        same_view(k);
-        CHECK(iobufs_frames_len(&frames_at) == text_len(&frames));
-        return;
-    }
+    size_t at, body, wrong;
     bytes_of(&frames, all);
-    size_t wrong;
-    iobufs_status status = iobufs_frames_next(&frames_at, 0, BODY, &view_at[k], &wrong);
-    CHECK(status == front_of(all, len, &at, &body));
-    if (status == IOBUFS_END_OF_BUFFER) return;
+    iobufs_status status = iobufs_frames_next(&frames_at, 0, BODY, &view_at[view], &wrong);
+    CHECK(status == front_of(all, text_len(&frames), &at, &body));
     if (status == IOBUFS_OK) {
-        let_go(v);
-        *v = taken(&frames, at, body);
+        replace_view(view, view_of_range(&frames, at, body));
         text_rest(&frames, at + body);
-        same_view(k);
-        CHECK(iobufs_frames_len(&frames_at) == text_len(&frames));
-        return;
+    } else if (status != IOBUFS_END_OF_BUFFER) {
+        /* No later bytes make such a frame whole: begin again. */
+        iobufs_frames_drop(&frames_at);
+        drop_text(&frames);
     }
-    iobufs_frames_drop(&frames_at);
-    drop_text(&frames);
+    same_view(view);
+    CHECK(iobufs_frames_len(&frames_at) == text_len(&frames));
+}
+
+static void frames_call(int view) {
+    if (below(2) && frames.count < MOST_FED) frames_feed(view);
+    else frames_take(view);
 }
 
 /* A body that was taken is as it was. */
@@ -960,32 +1013,41 @@ static void same_kept(int i) {
     CHECK(kept[i].len == 0 || !memcmp(at, kept[i].bytes, kept[i].len));
 }
 
-/* The fronts of frames are received, and bodies stay as they are while more is. */
-static void received_call(int k) {
-    size_t n, space, wrong, body;
-    uint8_t *to;
-    if (below(2) && came_len < MOST) {
-        OK(iobufs_frames_space(&received_at, &to, &space));
-        n = any_front();
-        if (n > space) n = space;
-        CHECK(space > 0 && iobufs_frames_filled(&received_at, space + 1 + below(9)) == IOBUFS_OUT_OF_RANGE);
-        memcpy(to, some, n);
-        memcpy(came + came_len, some, n);
-        OK(iobufs_frames_filled(&received_at, n));
-        came_len += n;
-    } else {
-        iobufs_status status = iobufs_received_next(&received_at, 0, BODY, &kept_at[k], &wrong);
-        CHECK(status == front_of(came, came_len, &n, &body));
-        if (status == IOBUFS_OK) {
-            kept[k].len = body;
-            memcpy(kept[k].bytes, came + n, body);
-            came_len -= n + body;
-            memmove(came, came + n + body, came_len);
-        } else if (status != IOBUFS_END_OF_BUFFER) {
-            OK(iobufs_received_new(IOBUFS_VARINT, &received_at));
-            came_len = 0;
-        }
+/* Receives the front of a frame, or less if the space is short. */
+static void received_fill(void) {
+    size_t space = 0;
+    uint8_t *to = NULL;
+    OK(iobufs_frames_space(&received_at, &to, &space));
+    CHECK(space > 0);
+    size_t n = any_front();
+    if (n > space) n = space;
+    CHECK(iobufs_frames_filled(&received_at, space + 1 + below(9)) == IOBUFS_OUT_OF_RANGE);
+    memcpy(to, some, n);
+    OK(iobufs_frames_filled(&received_at, n));
+    memcpy(came + came_len, some, n);
+    came_len += n;
+}
+
+static void received_take(int i) {
+    size_t at, body, wrong;
+    iobufs_status status = iobufs_received_next(&received_at, 0, BODY, &kept_at[i], &wrong);
+    CHECK(status == front_of(came, came_len, &at, &body));
+    if (status == IOBUFS_OK) {
+        kept[i].len = body;
+        memcpy(kept[i].bytes, came + at, body);
+        came_len -= at + body;
+        memmove(came, came + at + body, came_len);
+    } else if (status != IOBUFS_END_OF_BUFFER) {
+        /* No later bytes make such a frame whole: begin again. */
+        OK(iobufs_received_new(IOBUFS_VARINT, &received_at));
+        came_len = 0;
     }
+}
+
+/* Bodies stay as they are while more is received. */
+static void received_call(int i) {
+    if (below(2) && came_len < MOST) received_fill();
+    else received_take(i);
     same_kept((int)below(VIEWS));
     CHECK(iobufs_received_len(&received_at) == came_len);
 }
@@ -1021,15 +1083,18 @@ static void begin(void) {
     OK(iobufs_received_new(IOBUFS_VARINT, &received_at));
 }
 
+/* A number below n, other than this one. */
+static int other_than(int one, int n) { return (one + 1 + (int)below((size_t)n - 1)) % n; }
+
 /* A call of any kind; those of one buffer or one text are three times as likely. */
 static void any_call(void) {
-    int i = (int)below(VIEWS), j = (i + 1 + (int)below(VIEWS - 1)) % VIEWS, t = (int)below(TEXTS);
+    int i = (int)below(VIEWS), other = other_than(i, VIEWS), text = (int)below(TEXTS);
     switch (below(13)) {
-    case 0: case 1: case 2: view_call(i, j); break;
-    case 3: case 4: case 5: part_call(i, j); break;
-    case 6: case 7: case 8: text_call(t, (t + 1 + (int)below(TEXTS - 1)) % TEXTS, i); break;
-    case 9: row_call((int)below(ROWS), t, i); break;
-    case 10: builder_call(t, i); break;
+    case 0: case 1: case 2: view_call(i, other); break;
+    case 3: case 4: case 5: part_call(i, other); break;
+    case 6: case 7: case 8: text_call(text, other_than(text, TEXTS), i); break;
+    case 9: row_call((int)below(ROWS), text, i); break;
+    case 10: builder_call(text, i); break;
     case 11: frames_call(i); break;
     case 12: received_call(i); break;
     }
@@ -1048,9 +1113,11 @@ static void end(void) {
     iobufs_received_drop(&received_at);
 }
 
+/* Ten thousand calls are made between two looks at the clock. */
 int main(int argc, char **argv) {
-    long calls = argc > 1 ? atol(argv[1]) : 100000, made = 0;
-    time_t began = time(NULL), seconds = argc > 2 ? (time_t)atol(argv[2]) : 1000000;
+    const long calls = argc > 1 ? atol(argv[1]) : 100000;
+    const time_t began = time(NULL), seconds = argc > 2 ? (time_t)atol(argv[2]) : 1000000;
+    long made = 0;
     begin();
     for (; made < calls && (made % 10000 || time(NULL) - began < seconds); made++) any_call();
     end();

@@ -21,11 +21,18 @@
 #include <time.h>
 #include <unistd.h>
 
-/* The longest body, the bytes of a batch, the most chunks of a write, the bytes of a read, and the length from which
- * a body isn't copied. */
-enum { MOST = 1 << 20, BATCH = 1 << 17, LIST = 64, PIECE = 32768, SHORT = 2048 };
+enum {
+    MOST = 1 << 20,            /* the longest body */
+    BATCH = 1 << 17,           /* the bytes of a batch */
+    LIST = 64,                 /* the most chunks of a write */
+    PIECE = 32768,             /* the bytes of a read */
+    SHORT = 2048,              /* a body from this length on isn't copied */
+    LONGEST_LENGTH = 10,       /* the bytes of the longest varint */
+    SEND_BUFFER = 16384,       /* the bytes that are asked of the sender's socket: it takes about twice as many */
+    ALWAYS_SHORT_WRITES = 4096 /* from this body on a list is more than the socket takes */
+};
 
-/* What the sender tells the reader's process. */
+/* Shared memory: the sender tells this to the reader's process. */
 struct told { uint64_t sum; size_t writes, short_writes; };
 
 static struct told *told;
@@ -62,7 +69,8 @@ static size_t write_some(int to, struct iovec *list, size_t n, size_t len) {
             told->short_writes += (size_t)wrote < len;
             return (size_t)wrote;
         }
-        CHECK(wrote < 0 && errno == EAGAIN);
+        CHECK(wrote < 0);
+        CHECK(errno == EAGAIN);
         struct pollfd ready = { to, POLLOUT, 0 };
         CHECK(poll(&ready, 1, -1) == 1);
     }
@@ -117,7 +125,7 @@ static void send_text(int to, struct iobufs_at *text) {
 
 static void send_frames(int to, size_t count) {
     BUILDER(builder); PART(part); VIEW(block); VIEW(bodies); VIEW(first); TEXT(text);
-    const size_t copied = 10 + (body < SHORT ? body : 0); /* of a frame, at most: its length, and a short body */
+    const size_t copied = LONGEST_LENGTH + (body < SHORT ? body : 0); /* of a frame, at most */
     for (size_t i = 0, n; i < count; i += n) {
         n = count - i < batch() ? count - i : batch();
         const uint8_t *at = make_bodies(&block, &part, i, n);
@@ -176,30 +184,46 @@ static size_t put_length(uint8_t *at, size_t n) {
     return used;
 }
 
+/* A body: its number, and then its filler. */
+static void fill_body(uint8_t *at, size_t number) {
+    memcpy(at, &number, sizeof number);
+    memset(at + sizeof number, filler(number), body - sizeof number);
+}
+
+/* Copies n bodies into a block, each behind its length, and answers how many bytes these are. */
+static size_t frame_all(uint8_t *block, const uint8_t *bodies, size_t n) {
+    size_t used = 0;
+    for (size_t k = 0; k < n; k++) {
+        used += put_length(block + used, body);
+        memcpy(block + used, bodies + k * body, body);
+        used += body;
+    }
+    return used;
+}
+
+static void write_all(int to, uint8_t *block, size_t used) {
+    for (size_t sent = 0; sent < used;) {
+        struct iovec rest = { block + sent, used - sent };
+        sent += write_some(to, &rest, 1, used - sent);
+    }
+}
+
 static void send_plain(int to, size_t count) {
-    uint8_t *bodies = (uint8_t *)malloc(batch() * body), *block = (uint8_t *)malloc(batch() * (body + 10));
+    uint8_t *bodies = (uint8_t *)malloc(batch() * body);
+    uint8_t *block = (uint8_t *)malloc(batch() * (body + LONGEST_LENGTH));
+    CHECK(bodies);
+    CHECK(block);
     for (size_t i = 0, n; i < count; i += n) {
         n = count - i < batch() ? count - i : batch();
-        for (size_t k = 0; k < n; k++) {
-            size_t number = i + k;
-            memcpy(bodies + k * body, &number, sizeof number);
-            memset(bodies + k * body + sizeof number, filler(number), body - sizeof number);
-        }
+        for (size_t k = 0; k < n; k++) fill_body(bodies + k * body, i + k);
         for (size_t k = 0; k < n; k++) told->sum = sum_of(told->sum, bodies + k * body, body);
-        size_t used = 0;
-        for (size_t k = 0; k < n; k++) {
-            used += put_length(block + used, body);
-            memcpy(block + used, bodies + k * body, body);
-            used += body;
-        }
-        for (size_t sent = 0; sent < used;) {
-            struct iovec rest = { block + sent, used - sent };
-            sent += write_some(to, &rest, 1, used - sent);
-        }
+        write_all(to, block, frame_all(block, bodies, n));
     }
     free(bodies); free(block);
 }
 
+/* A frame comes in pieces: `len` and `shift` are what its length is so far, byte by byte; then `taken` has `have` bytes
+ * of its body, and before it is NULL. */
 static uint64_t read_plain(int from, size_t count) {
     static uint8_t room[PIECE];
     uint8_t *taken = NULL;
@@ -214,6 +238,7 @@ static uint64_t read_plain(int from, size_t count) {
                 if (byte & 128) continue;
                 CHECK(len <= MOST);
                 taken = (uint8_t *)malloc(len);
+                CHECK(taken);
                 have = 0;
             }
             size_t part = len - have < n - at ? len - have : n - at;
@@ -229,32 +254,70 @@ static uint64_t read_plain(int from, size_t count) {
     return sum;
 }
 
-int main(int argc, char **argv) {
-    size_t mebibytes = argc > 1 ? (size_t)atol(argv[1]) : 64;
-    body = argc > 2 ? (size_t)atol(argv[2]) : 4096;
-    CHECK(body >= sizeof(size_t) && body <= MOST);
-    size_t count = mebibytes * 1048576 / body;
-    int plain = argc > 3, ends[2], size = 16384, status;
-    told = (struct told *)mmap(NULL, sizeof *told, PROT_READ | PROT_WRITE, MAP_SHARED | MAP_ANONYMOUS, -1, 0);
-    CHECK(told != MAP_FAILED && !socketpair(AF_UNIX, SOCK_STREAM, 0, ends));
-    CHECK(!setsockopt(ends[0], SOL_SOCKET, SO_SNDBUF, &size, sizeof size) && !fcntl(ends[0], F_SETFL, O_NONBLOCK));
-    struct timespec began, ended;
-    clock_gettime(CLOCK_MONOTONIC, &began);
+/* ---- both ends ---- */
+
+struct arguments { size_t mebibytes, count; int plain; };
+
+/* Reads them, and sets `body`. */
+static struct arguments read_arguments(int argc, char **argv) {
+    struct arguments given = { 64, 0, argc > 3 };
+    body = 4096;
+    if (argc > 1) given.mebibytes = (size_t)atol(argv[1]);
+    if (argc > 2) body = (size_t)atol(argv[2]);
+    CHECK(body >= sizeof(size_t)); /* it begins with its number */
+    CHECK(body <= MOST);
+    given.count = given.mebibytes * 1048576 / body;
+    return given;
+}
+
+/* The sender's end, which has a small buffer and isn't waited for, and the reader's. */
+static void open_pair(int ends[2]) {
+    const int size = SEND_BUFFER;
+    CHECK(!socketpair(AF_UNIX, SOCK_STREAM, 0, ends));
+    CHECK(!setsockopt(ends[0], SOL_SOCKET, SO_SNDBUF, &size, sizeof size));
+    CHECK(!fcntl(ends[0], F_SETFL, O_NONBLOCK));
+}
+
+/* The sender in a process of its own, and the reader in this one, whose sum is the answer. Each closes the other's end:
+ * else a reader would wait for a sender that has failed. */
+static uint64_t run_both(const int ends[2], size_t count, int plain) {
+    int status;
     pid_t child = fork();
     CHECK(child >= 0);
     if (child == 0) {
         close(ends[1]);
         (plain ? send_plain : send_frames)(ends[0], count);
-        return 0;
+        exit(0);
     }
     close(ends[0]);
     uint64_t sum = (plain ? read_plain : read_frames)(ends[1], count);
-    CHECK(waitpid(child, &status, 0) == child && status == 0);
-    clock_gettime(CLOCK_MONOTONIC, &ended);
-    /* A list of short frames is no more than the socket takes. */
-    CHECK(sum == told->sum && (body < 4096 || told->short_writes > 0));
-    double seconds = (double)(ended.tv_sec - began.tv_sec) + (double)(ended.tv_nsec - began.tv_nsec) / 1e9;
-    printf("%zu MiB in %zu frames of %zu bytes%s: %.2f s, %zu writes, %zu of them short\n", mebibytes, count, body,
-           plain ? " by plain copies" : "", seconds, told->writes, told->short_writes);
+    CHECK(waitpid(child, &status, 0) == child);
+    CHECK(status == 0);
+    return sum;
+}
+
+static double now(void) {
+    struct timespec at;
+    clock_gettime(CLOCK_MONOTONIC, &at);
+    return (double)at.tv_sec + (double)at.tv_nsec / 1e9;
+}
+
+static void report(struct arguments given, double seconds) {
+    printf("%zu MiB in %zu frames of %zu bytes%s: %.2f s, %zu writes, %zu of them short\n", given.mebibytes,
+           given.count, body, given.plain ? " by plain copies" : "", seconds, told->writes, told->short_writes);
+}
+
+int main(int argc, char **argv) {
+    const struct arguments given = read_arguments(argc, argv);
+    int ends[2];
+    told = (struct told *)mmap(NULL, sizeof *told, PROT_READ | PROT_WRITE, MAP_SHARED | MAP_ANONYMOUS, -1, 0);
+    CHECK(told != MAP_FAILED);
+    open_pair(ends);
+    const double began = now();
+    const uint64_t sum = run_both(ends, given.count, given.plain);
+    const double ended = now();
+    CHECK(sum == told->sum);
+    CHECK(body < ALWAYS_SHORT_WRITES || told->short_writes > 0);
+    report(given, ended - began);
     return 0;
 }

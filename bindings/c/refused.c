@@ -37,7 +37,14 @@ void __wrap_free(void *old) {
     __real_free(old);
 }
 
-/* What each case is given, filled again for every refusal. */
+/* The bytes of `text`, a frame and four bytes more; of `view` and `shared`, a frame; and of `out_view`. */
+#define TEXT_BYTES "\5abcdefghi"
+#define VIEW_BYTES "\3abc"
+#define OLD_BYTES "old"
+enum { TEXT_LEN = sizeof TEXT_BYTES - 1, VIEW_LEN = sizeof VIEW_BYTES - 1, OLD_LEN = sizeof OLD_BYTES - 1 };
+
+/* Each case is given these, filled again for every refusal. `frames` was fed TEXT_BYTES, `received` got VIEW_BYTES, and
+ * `fresh` nothing; `builder` has put all that fits; `out_text` is empty. */
 struct made {
     struct iobuf_at view, out_view, shared;
     struct iobufmut_at part, out_part;
@@ -101,32 +108,40 @@ static iobufs_status received(struct made *m) {
 static iobufs_status read_view(struct made *m) { return iobufs_read_view(&m->text, 0, 99, &m->out_view); }
 static iobufs_status view_read(struct made *m) { return iobuf_read_view(&m->view, 0, 99, &m->out_view); }
 
-static void view_stays(struct made *m) { CHECK(view_is(&m->view, "\3abc") && view_is(&m->out_view, "old")); }
-static void shared_stays(struct made *m) { CHECK(view_is(&m->shared, "\3abc")); }
+static void shared_stays(struct made *m) { CHECK(view_is(&m->shared, VIEW_BYTES)); }
+static void view_stays(struct made *m) {
+    CHECK(view_is(&m->view, VIEW_BYTES));
+    CHECK(view_is(&m->out_view, OLD_BYTES));
+}
 static void text_stays(struct made *m) {
-    CHECK(text_is(&m->text, "\5abcdefghi") && text_is(&m->out_text, ""));
-    CHECK(view_is(&m->view, "\3abc") && view_is(&m->out_view, "old"));
+    CHECK(text_is(&m->text, TEXT_BYTES));
+    CHECK(text_is(&m->out_text, ""));
+    view_stays(m);
 }
 /* Both, in order, hold the bytes that one of them held. */
 static void both_stay(struct made *m) {
-    uint8_t all[10];
+    uint8_t all[TEXT_LEN];
     size_t n = iobufs_len(&m->out_text);
-    CHECK(n <= 10 && iobufs_len(&m->text) == 10 - n);
+    CHECK(n <= TEXT_LEN);
+    CHECK(iobufs_len(&m->text) == TEXT_LEN - n);
     OK(iobufs_peek(&m->out_text, 0, all, n));
-    OK(iobufs_peek(&m->text, 0, all + n, 10 - n));
-    CHECK(!memcmp(all, "\5abcdefghi", 10));
+    OK(iobufs_peek(&m->text, 0, all + n, TEXT_LEN - n));
+    CHECK(!memcmp(all, TEXT_BYTES, TEXT_LEN));
 }
 static void builder_stays(struct made *m) {
-    CHECK(iobufs_builder_remaining_mut(&m->builder) == 0 && view_is(&m->view, "\3abc"));
+    CHECK(iobufs_builder_remaining_mut(&m->builder) == 0);
+    CHECK(view_is(&m->view, VIEW_BYTES));
 }
 static void frames_stay(struct made *m) {
-    CHECK(iobufs_frames_len(&m->frames) == 10 && view_is(&m->view, "\3abc") && view_is(&m->out_view, "old"));
+    CHECK(iobufs_frames_len(&m->frames) == TEXT_LEN);
+    view_stays(m);
 }
 static void received_stays(struct made *m) {
-    CHECK(iobufs_received_len(&m->received) == 4 && iobufs_received_len(&m->fresh) == 0);
-    CHECK(view_is(&m->out_view, "old"));
+    CHECK(iobufs_received_len(&m->received) == VIEW_LEN);
+    CHECK(iobufs_received_len(&m->fresh) == 0);
+    CHECK(view_is(&m->out_view, OLD_BYTES));
 }
-/* Nothing is compared. */
+/* No promise is made of what is left: nothing is compared. */
 static void given_up(struct made *m) { (void)m; }
 
 static const struct { const char *name; run *call; kept *stays; } cases[] = {
@@ -164,21 +179,22 @@ static const struct { const char *name; run *call; kept *stays; } cases[] = {
     { "view read_view", view_read, view_stays },
 };
 
-/* "\5abcdefghi" in four pieces: a frame, and four bytes more. */
-static void pieces(struct iobufs_at *text) {
-    static const char *const all[] = { "\5ab", "cde", "f", "ghi" };
-    VIEW(v);
-    for (int i = 0; i < 4; i++) {
-        OK(iobuf_copy_from_slice(bytes(all[i]), strlen(all[i]), &v));
-        OK(iobufs_append(text, &v));
+/* Appends TEXT_BYTES in four pieces to a text, and feeds the same to frames. */
+static void fill_pieces(struct iobufs_at *text, struct iobufs_frames_at *frames) {
+    static const size_t ends[] = { 3, 6, 7, TEXT_LEN };
+    VIEW(piece);
+    for (size_t i = 0, at = 0; i < sizeof ends / sizeof *ends; at = ends[i++]) {
+        OK(iobuf_copy_from_slice(bytes(TEXT_BYTES) + at, ends[i] - at, &piece));
+        OK(iobufs_append(text, &piece));
+        OK(iobuf_copy_from_slice(bytes(TEXT_BYTES) + at, ends[i] - at, &piece));
+        OK(iobufs_frames_feed(frames, &piece));
     }
+    CHECK(text_is(text, TEXT_BYTES));
+    CHECK(iobufs_chunk_count(text) == sizeof ends / sizeof *ends);
 }
 
-/* Fills what a case is given, of which all handles are empty; `other` shares the block of m->shared then. */
-static void fill(struct made *m, struct iobuf_at *other) {
-    OK(iobuf_copy_from_slice(bytes("\3abc"), 4, &m->view));
-    OK(iobuf_copy_from_slice(bytes("\3abc"), 4, &m->shared));
-    OK(iobuf_copy_from_slice(bytes("old"), 3, &m->out_view));
+/* Fills the writable buffers: `parts` with seven bytes in two, `part` with three, and `out_part` with none. */
+static void fill_parts(struct made *m) {
     OK(iobufmut_with_capacity(3, &m->part));
     OK(iobufmut_with_capacity(5, &m->out_part));
     struct iobufmut_at row[2] = { m->part, m->out_part };
@@ -186,19 +202,22 @@ static void fill(struct made *m, struct iobuf_at *other) {
     OK(iobufsmut_set_len(&m->parts, 7));
     OK(iobufmut_copy_from_slice(bytes("xyz"), 3, &m->part));
     OK(iobufmut_with_capacity(5, &m->out_part));
+}
+
+/* Fills all that a case is given, of which all handles are empty; `other` shares the block of m->shared then, so that a
+ * writable buffer of that is a copy. */
+static void fill(struct made *m, struct iobuf_at *other) {
+    OK(iobuf_copy_from_slice(bytes(VIEW_BYTES), VIEW_LEN, &m->view));
+    OK(iobuf_copy_from_slice(bytes(VIEW_BYTES), VIEW_LEN, &m->shared));
+    OK(iobuf_clone(&m->shared, other));
+    OK(iobuf_copy_from_slice(bytes(OLD_BYTES), OLD_LEN, &m->out_view));
+    fill_parts(m);
+    fill_pieces(&m->text, &m->frames);
     OK(iobufs_builder_new(1, &m->builder));
     OK(iobufs_builder_put_u8(&m->builder, 1));
-    pieces(&m->text);
-    OK(iobufs_received_new(IOBUFS_VARINT, &m->received));
     OK(iobufs_received_new(IOBUFS_VARINT, &m->fresh));
-    receive(&m->received, "\3abc", 4);
-    for (size_t i = 0; i < iobufs_chunk_count(&m->text); i++) {
-        struct iobufs_iovec chunk;
-        CHECK(iobufs_chunks_from(&m->text, i, &chunk, 1) == 1);
-        OK(iobuf_copy_from_slice(chunk.base, chunk.len, other));
-        OK(iobufs_frames_feed(&m->frames, other));
-    }
-    OK(iobuf_clone(&m->shared, other));
+    OK(iobufs_received_new(IOBUFS_VARINT, &m->received));
+    receive(&m->received, VIEW_BYTES, VIEW_LEN);
 }
 
 static void drop_all(struct made *m) {
@@ -211,8 +230,8 @@ static void drop_all(struct made *m) {
     iobufs_received_drop(&m->received); iobufs_received_drop(&m->fresh);
 }
 
-/* One case with its k-th request refused; answers whether it made so many. */
-static int refused(run *call, kept *stays, long k) {
+/* One case with its request number `refusal` refused; answers whether it made so many. */
+static int refused(run *call, kept *stays, long refusal) {
     VIEW(view); VIEW(out_view); VIEW(shared); VIEW(other);
     PART(part); PART(out_part);
     TEXT(text); TEXT(out_text);
@@ -221,11 +240,11 @@ static int refused(run *call, kept *stays, long k) {
     struct made m = { view, out_view, shared, part, out_part, text, out_text, parts, builder, frames, received, fresh };
     fill(&m, &other);
     requests = 0;
-    refuse_at = k;
+    refuse_at = refusal;
     iobufs_status status = call(&m);
     refuse_at = 0;
-    int was = requests >= k;
-    CHECK(was ? status == IOBUFS_MEMORY : status == IOBUFS_OK);
+    int was = requests >= refusal;
+    CHECK(status == (was ? IOBUFS_MEMORY : IOBUFS_OK));
     if (was) stays(&m);
     drop_all(&m);
     iobuf_drop(&other);
@@ -236,11 +255,11 @@ static int refused(run *call, kept *stays, long k) {
 int main(void) {
     long all = 0;
     for (size_t i = 0; i < sizeof cases / sizeof *cases; i++) {
-        long k = 1;
-        while (refused(cases[i].call, cases[i].stays, k)) k++;
-        all += k - 1;
-        fprintf(stderr, "%s: %ld refused\n", cases[i].name, k - 1);
+        long refusals = 0;
+        while (refused(cases[i].call, cases[i].stays, refusals + 1)) refusals++;
+        all += refusals;
+        fprintf(stderr, "%s: %ld refused\n", cases[i].name, refusals);
     }
-    CHECK(all >= 20);
+    CHECK(all >= 20); /* else the calls don't come here: they aren't linked with --wrap */
     return 0;
 }

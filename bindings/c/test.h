@@ -1,4 +1,4 @@
-/* What the tests share: buffers with their places, and checks that say where they failed. */
+/* The tests share these: buffers with their places, and checks that say where they failed. */
 #include "iobufs.h"
 #include <stdio.h>
 #include <stdlib.h>
