@@ -75,8 +75,8 @@ Halts answered written NotText =
     (count : ℕ) × (line : List ℕ) × (rest : List (List ℕ)) × answered count (line ∷ rest) written × (IsUtf8 line → ⊥)
 Halts answered written TooManyLines = (rest : List (List ℕ)) × answered most_lines rest written
 
--- At the end of the input each line was answered, at a line that says nothing each before it, and that line is text.
--- Where a session can't go on, lines were answered up to there
+-- At the end of the input each line was answered. A bad command is UTF-8 and says nothing, and each line before it was
+-- answered. If a session can't go on, lines were answered up to there.
 abbrev pub ServesBy : (answered : ℕ → List (List ℕ) → Option (List ℕ) → Type 0) → (says_nothing : ℕ → List ℕ → Type 0)
     → (written : Option (List ℕ)) → Result (Unit {0}) Stop → Type 0
 ServesBy answered says_nothing written (Ok done) = (count : ℕ) × answered count [] written

@@ -2,7 +2,7 @@
 --     ReceivedBytes    how the lengths are written, the bytes that were not taken, and how many more fit after them
 --     none_received    none of them, and no space
 --     KeepsSpace       a frame was taken: the space stays, or went with an emptied block
---     KeepsReceived    a frame was taken, which shares the block, and the space stays so; or all stays
+--     KeepsReceived    a frame was taken that shares the block, with the space of KeepsSpace; or all stays
 --     HasReceived      bytes came after those that are held, into the space
 --     block_row        a block of the crate `bytes`, for the clause on one that is lent
 use Rattle.std.specs.Prelude.{◌≡◌, ◌⊎◌, ℕ, ◌+◌, Option, Result, List, [], ◌++◌, length}
@@ -29,7 +29,7 @@ none_received prefix = record { prefix = prefix; bytes = []; space = 0 }
 abbrev pub KeepsSpace : ReceivedBytes → ReceivedBytes → Type 0
 KeepsSpace old new = (new.space ≡ old.space) ⊎ ((new.bytes ≡ []) × (new.space ≡ 0))
 
--- a frame was taken, which shares the block, and the space stays so; or none was, and all stays
+-- a frame was taken that shares the block, with the space of `KeepsSpace`; or none was, and all stays
 abbrev pub KeepsReceived : ReceivedBytes → Result (Option View) Error → ReceivedBytes → Type 0
 KeepsReceived old result new = MatchTaken result
     (λ body. (new.prefix ≡ old.prefix) × KeepsSpace old new × (body ≡ view_of_bytes body.bytes)) (new ≡ old)

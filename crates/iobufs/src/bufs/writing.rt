@@ -11,8 +11,8 @@ use super::IoBufs;
 use iobufs_core::codec::Buf;
 use std::io::{self, ErrorKind, Write};
 
-/// Writes once, and again if a signal interrupts it (own, for layers). An error is the writer's, never
-/// `ErrorKind::Interrupted`.
+/// Writes once, and again if a signal interrupts it (own, for layers). Fails as the writer does, but never with
+/// `ErrorKind::Interrupted`: after 2^64 - 1 interruptions it fails with `ErrorKind::TimedOut`.
 #[tactic(auto, using(crate::proofs::CallerFacts::again))]
 pub fn write_again<W: Write>(to: &mut W, bytes: &[u8]) -> io::Result<usize>
     ensures bound { WritesAtMost result bytes.now }
