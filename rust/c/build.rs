@@ -5,7 +5,7 @@ use std::{env, fs};
 fn main() -> Result<(), String> {
     let (top, out) = (Path::new("../.."), env::var_os("OUT_DIR").expect("cargo says where"));
     let crates = strip::crates_of("iobufs_c", top)?;
-    strip::write_crates(&crates, &[], &top.join("crates"), Path::new(&out))?;
+    strip::write_crates(&crates, strip::Also::default(), &top.join("crates"), Path::new(&out))?;
     println!("cargo:rerun-if-changed=src/built.rs");
     fs::copy("src/built.rs", Path::new(&out).join("iobufs_c/built.rs")).expect("the folder is there");
     Ok(())

@@ -5,5 +5,5 @@ use std::path::Path;
 fn main() -> Result<(), String> {
     let (top, out) = (Path::new("../.."), env::var_os("OUT_DIR").expect("cargo says where"));
     let crates = strip::crates_of("iobuf", top)?;
-    strip::write_crates(&crates, &[], &top.join("crates"), Path::new(&out))
+    strip::write_crates(&crates, strip::Also::default(), &top.join("crates"), Path::new(&out))
 }

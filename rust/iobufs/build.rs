@@ -21,7 +21,8 @@ fn main() -> ExitCode {
     let (here, out) = (folder("CARGO_MANIFEST_DIR"), folder("OUT_DIR"));
     let files = SPARES.map(|(_, file)| here.join("rust/iobufs/src/spare").join(file));
     let spares: Vec<_> = SPARES.iter().zip(&files).map(|((of, _), file)| (*of, file.as_path())).collect();
-    match strip::write_crates(&CRATES, &spares, Path::new("crates"), &out) {
+    let also = strip::Also { spares: &spares, ..Default::default() };
+    match strip::write_crates(&CRATES, also, Path::new("crates"), &out) {
         Ok(()) => ExitCode::SUCCESS,
         Err(refused) => {
             eprintln!("{refused}");

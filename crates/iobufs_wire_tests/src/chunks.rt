@@ -43,7 +43,7 @@ pub fn chunks_of<B: Buf>(rt: &(impl Abort + AllocGlobal), buf: &B) -> Vec<Vec<u8
         .chunks_vectored(rt.alloc(), usize::MAX)
         .expect(rt, "the chunks are listed")
     {
-        let copy = chunk.to_vec(rt.alloc()).expect(rt, "a chunk is copied");
+        let copy = Vec::from_slice(rt.alloc(), chunk).expect(rt, "a chunk is copied");
         all.push(copy).expect(rt, "a chunk is kept");
     }
     all

@@ -14,18 +14,24 @@ mod bytes_tests;
 mod collections_tests;
 #[path = "../../kit/src/deque.rs"]
 mod deque;
+#[path = "../../kit/src/fs.rs"]
+pub mod fs;
 #[path = "../../kit/src/hex.rs"]
 pub mod hex;
 #[path = "../../kit/src/host.rs"]
 mod host;
 #[path = "../../kit/src/io.rs"]
 pub mod io;
+#[path = "../../kit/src/map.rs"]
+mod map;
 #[path = "../../kit/src/memchr.rs"]
 pub mod memchr;
 #[path = "../../kit/src/names.rs"]
 mod names;
+#[path = "../../kit/src/test.rs"]
+pub mod test;
 #[path = "../../kit/src/text.rs"]
-mod text;
+pub mod text;
 #[path = "../../kit/src/vec.rs"]
 mod vec;
 

@@ -22,6 +22,31 @@ pub trait Buf {
 
     /// Drops the first `cnt` bytes, which are there.
     fn advance(&mut self, cnt: usize);
+
+    /// Returns what reads from this.
+    fn reader(self) -> Reader<Self>
+    where
+        Self: Sized,
+    {
+        Reader(self)
+    }
+}
+
+/// What reads from a `Buf`.
+pub struct Reader<B>(B);
+
+impl<B: Buf> io::Read for Reader<B> {
+    fn read(&mut self, to: &mut [u8]) -> io::Result<usize> {
+        let mut n = 0;
+        while n < to.len() && self.0.remaining() > 0 {
+            let chunk = self.0.chunk();
+            let more = chunk.len().min(to.len() - n);
+            to[n..n + more].copy_from_slice(&chunk[..more]);
+            self.0.advance(more);
+            n += more;
+        }
+        Ok(n)
+    }
 }
 
 /// What bytes are appended to.
@@ -145,6 +170,14 @@ mod block {
             let front = self.0.front(n)?;
             self.0.advance(n);
             Ok(front)
+        }
+
+        /// Returns the first `n` bytes, and the others: two ranges without a byte in common.
+        pub(super) fn split(&mut self, n: usize) -> Result<(Writable, Writable), AllocError> {
+            let (front, mut rest) = (self.0.front(n)?, self.0.front(self.0.len)?);
+            rest.advance(n);
+            *self = Writable(self.0.front(0)?);
+            Ok((Writable(front), Writable(rest)))
         }
 
         /// Moves the first `n` bytes to the block's front, which then is the range as a whole, if the block has no
@@ -383,6 +416,37 @@ impl BytesMut {
         Ok(BytesMut { block: Some(Writable::new(bytes.0)?), len: 0 })
     }
 
+    /// Returns a copy of these bytes, without space.
+    pub fn copy_from_slice(alloc: Global, src: &[u8]) -> Result<BytesMut, AllocError> {
+        let mut copy = BytesMut::with_capacity(alloc, src.len())?;
+        copy.extend_reserved(src);
+        Ok(copy)
+    }
+
+    /// Appends bytes. If it fails, nothing changes.
+    pub fn extend_from_slice(&mut self, src: &[u8]) -> Result<(), AllocError> {
+        self.reserve(src.len())?;
+        self.extend_reserved(src);
+        Ok(())
+    }
+
+    /// Moves the bytes from `at` on, and the space, which are there, into another buffer.
+    pub fn split_off(&mut self, at: usize) -> Result<BytesMut, AllocError> {
+        assert!(at <= self.capacity());
+        let len = self.len;
+        let Some(block) = &mut self.block else {
+            return Ok(BytesMut { block: None, len: 0 });
+        };
+        let (front, rest) = block.split(at)?;
+        let mut back = BytesMut { block: Some(rest), len: len.saturating_sub(at) };
+        self.block = Some(front);
+        self.len = len.min(at);
+        if back.capacity() == 0 {
+            back.block = None;
+        }
+        Ok(back)
+    }
+
     /// Returns the allocator.
     #[inline]
     pub fn allocator(&self) -> &Global {
@@ -527,5 +591,17 @@ impl BytesMut {
         }
         self.len += n;
         Ok(n)
+    }
+}
+
+impl From<Vec<u8>> for BytesMut {
+    /// Takes a vector over, with its capacity. Ends the process if an allocation fails twice: the kit's makes none.
+    fn from(vec: Vec<u8>) -> BytesMut {
+        let len = vec.len();
+        let mut bytes = vec.0;
+        bytes.resize(bytes.capacity(), 0);
+        let block = Writable::new(bytes).or_else(|refused| Writable::new(refused.value));
+        let block = block.unwrap_or_else(|_| std::process::abort());
+        BytesMut { block: Some(block), len }
     }
 }

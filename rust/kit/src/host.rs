@@ -64,6 +64,20 @@ impl io::Write for Stream {
 pub mod env {
     use super::{ErrorKind, HostRuntime, String, io};
 
+    /// What has the environment.
+    pub trait Env {
+        /// Writes what a name has in the environment, and returns how many bytes these are, if they fit.
+        fn var(&self, name: &str, to: &mut [u8]) -> Option<usize>;
+    }
+
+    impl Env for HostRuntime {
+        fn var(&self, name: &str, to: &mut [u8]) -> Option<usize> {
+            let found = std::env::var_os(name)?.into_encoded_bytes();
+            to.get_mut(..found.len())?.copy_from_slice(&found);
+            Some(found.len())
+        }
+    }
+
     /// Returns the arguments in order. One that isn't UTF-8 is an error, whose kind is `InvalidData`.
     pub fn args(_: &HostRuntime) -> io::Result<impl Iterator<Item = String>> {
         let words = std::env::args_os().map(|word| word.into_string().map(String));

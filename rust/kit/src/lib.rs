@@ -11,12 +11,15 @@ mod arc;
 mod base;
 pub mod bytes;
 mod deque;
+pub mod fs;
 pub mod hex;
 mod host;
 pub mod io;
+mod map;
 pub mod memchr;
 mod names;
-mod text;
+pub mod test;
+pub mod text;
 mod vec;
 
 pub use names::{prelude, std};

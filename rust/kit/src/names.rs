@@ -5,14 +5,16 @@
 pub mod prelude {
     pub use super::super::base::{Clone, Drop, FromIterator};
     pub use super::super::host::HostRuntime;
+    pub use super::super::test::{AllocGlobal, Print};
     pub use super::super::text::String;
     pub use super::super::vec::Vec;
 }
 
 /// The kit's std.
 pub mod std {
+    pub use super::super::{fs, test};
     pub use super::super::{host::env, io};
-    pub use ::std::{fmt, mem, ops, process, ptr, str};
+    pub use ::std::{cmp, fmt, hash, mem, ops, ptr, str};
 
     pub mod alloc {
         pub use super::super::super::base::{AllocError, AllocFailed, Global};
@@ -20,7 +22,7 @@ pub mod std {
     }
 
     pub mod collections {
-        pub use super::super::super::deque::VecDeque;
+        pub use super::super::super::{deque::VecDeque, map::HashMap};
     }
 
     pub mod marker {
@@ -28,6 +30,11 @@ pub mod std {
 
         /// What a type has whose clauses see another value. Nothing is left of its impls.
         pub trait Model {}
+    }
+
+    pub mod process {
+        pub use super::super::super::test::Abort;
+        pub use ::std::process::*;
     }
 
     pub mod sync {

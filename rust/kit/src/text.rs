@@ -49,3 +49,10 @@ impl fmt::Write for String {
         self.push_str(text).map_err(|_| fmt::Error)
     }
 }
+
+/// Returns what is formatted.
+pub fn format(alloc: Global, what: fmt::Arguments<'_>) -> Result<String, AllocError> {
+    let mut text = String::new(alloc);
+    fmt::write(&mut text, what).map_err(|_| AllocError)?;
+    Ok(text)
+}

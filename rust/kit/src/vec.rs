@@ -3,10 +3,10 @@
 #![forbid(unsafe_code)]
 use super::base::{AllocError, AllocFailed, Global};
 use std::ops::{Deref, DerefMut, RangeFrom};
-use std::{io, vec};
+use std::{fmt, io, vec};
 
 /// A vector, whose capacity never shrinks.
-#[derive(Debug, PartialEq, Eq)]
+#[derive(PartialEq, Eq)]
 pub struct Vec<T>(pub(crate) vec::Vec<T>);
 
 impl<T> Vec<T> {
@@ -22,6 +22,21 @@ impl<T> Vec<T> {
         let mut items = vec::Vec::new();
         items.try_reserve_exact(n).map_err(|_| AllocError)?;
         Ok(Vec(items))
+    }
+
+    /// Returns the items of an array.
+    pub fn from_array<const N: usize>(alloc: Global, array: [T; N]) -> Result<Vec<T>, AllocError> {
+        let mut items = Vec::with_capacity(alloc, N)?;
+        items.0.extend(array);
+        Ok(items)
+    }
+
+    /// Returns the items, which are never freed.
+    pub fn leak(self) -> &'static mut [T]
+    where
+        T: 'static,
+    {
+        self.0.leak()
     }
 
     /// Returns the allocator.
@@ -127,6 +142,12 @@ impl<T: Clone> Vec<T> {
         self.0.try_reserve(n.saturating_sub(self.0.len())).map_err(|_| AllocError)?;
         self.0.resize(n, item);
         Ok(())
+    }
+}
+
+impl<T: fmt::Debug> fmt::Debug for Vec<T> {
+    fn fmt(&self, f: &mut fmt::Formatter<'_>) -> fmt::Result {
+        self.0.fmt(f)
     }
 }
 

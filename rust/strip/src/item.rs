@@ -5,7 +5,9 @@ use super::{Fault, File};
 use std::mem;
 
 /// Attributes that Rust has, too.
-const KEPT: [&str; 4] = ["inline", "cold", "repr", "unsafe"];
+const KEPT: [&str; 5] = ["inline", "cold", "repr", "unsafe", "cfg"];
+/// Macros that take the runtime or an allocator first.
+const GIVEN: [&str; 7] = ["assert", "assert_eq", "assert_ne", "panic", "println", "format", "vec"];
 /// Names in a derive list that Rust hasn't, or doesn't need.
 const DERIVED: [&str; 3] = ["Drop", "Error", "thiserror::Error"];
 /// Crates of the kit.
@@ -21,8 +23,11 @@ impl File<'_> {
             "#" => self.attribute(i),
             "impl" => self.implementation(i),
             "fn" if self.code.get(i + 1).is_some_and(|it| it.is_word()) => self.function(i),
+            "enum" | "struct" if self.has_errors => self.shown(i),
             "use" if self.has(i + 1, "thiserror : : Error ;") => Ok(self.replace(i, i + 6, "")),
             "prove" if self.text(i + 1) == "!" => Ok(self.replace(i, i + 1, "debug_assert")),
+            name if GIVEN.contains(&name) && self.text(i + 1) == "!" => self.given(i),
+            "expect" if i > 0 && self.text(i - 1) == "." && self.text(i + 1) == "(" => self.expect(i),
             _ => Ok(self.path(i)),
         }
     }
@@ -57,7 +62,8 @@ impl File<'_> {
         let end = self.after(open)?;
         match self.text(open + 1) {
             "tactic" | "error" => return Ok(self.replace(i, end, "")),
-            "test" => return self.test(i, end),
+            "test" => return self.test(end),
+            "from" => return self.from(i, end),
             "derive" => self.derive(i, end),
             name if KEPT.contains(&name) => self.is_marked |= name == "inline",
             _ => return self.fault(open + 1, "an attribute that isn't known"),
@@ -65,11 +71,117 @@ impl File<'_> {
         Ok(end)
     }
 
-    // Drops a test, whose function begins at `from`: the kit runs it.
-    fn test(&mut self, i: usize, from: usize) -> Result<usize, Fault> {
-        let open = from + self.code[from..].iter().position(|it| it.text == "{").unwrap_or(0);
+    // A test, whose function begins at `i`: the layer gives it a runtime, and looks at what it returns.
+    fn test(&mut self, i: usize) -> Result<usize, Fault> {
+        let Some(rt) = self.code.get(i + 3).filter(|_| self.has(i + 4, ": HostRuntime )")) else {
+            return self.fault(i + 1, "a test that doesn't take the runtime alone");
+        };
+        let open = i + self.code[i..].iter().position(|it| it.text == "{").unwrap_or(0);
+        let close = self.code[self.after(open)? - 1].at;
+        let head = format!("() {{ crate::kit::test::run(case); fn case({}: HostRuntime)", rt.text);
+        self.replace(i + 2, i + 7, &head);
+        self.edits.push((close, close, "} ".to_owned()));
+        Ok(i + 7)
+    }
+
+    // `Variant(#[from] Type)` of an enum.
+    fn from(&mut self, i: usize, end: usize) -> Result<usize, Fault> {
+        let name = self.code[..i].iter().rposition(|it| it.text == "enum").map_or(0, |at| at + 1);
+        if name == 0 || self.text(i - 1) != "(" {
+            return self.fault(i + 2, "an attribute that isn't known");
+        }
+        let (variant, close) = (self.text(i - 2), self.after(i - 1)? - 1);
+        let taken = &self.source[self.code[end].at..self.code[close].at];
+        let named = self.text(name);
+        let made = format!(
+            " impl From<{taken}> for {named} {{ fn from(it: {taken}) -> {named} {{ {named}::{variant}(it) }} }}"
+        );
+        let after = self.code[self.after(name + 1)? - 1].end();
+        self.edits.push((after, after, made));
+        Ok(self.replace(i, end, ""))
+    }
+
+    // `#[error(..)]` of an enum's variants, or of a struct.
+    fn shown(&mut self, i: usize) -> Result<usize, Fault> {
+        let (name, mut open) = (self.text(i + 1), i + 2);
+        let mut generics = String::new();
+        if self.text(open) == "<" {
+            let end = self.after(open)?;
+            generics = self.code[open..end].iter().map(|it| it.text).collect();
+            open = end;
+        }
+        if self.text(open) != "{" {
+            return Ok(i + 1);
+        }
         let end = self.after(open)?;
-        Ok(self.drop_item(i, end))
+        let arm = |text: &str, of: &str, shown: &str| {
+            if text.contains('{') { format!("{of}{shown}") } else { format!("{of}{{ .. }} => write!(f, {text})") }
+        };
+        let mut arms = String::new();
+        for k in open..end {
+            if self.text(i) == "enum" && self.has(k, "# [ error (") {
+                let text = self.text(k + 4);
+                let of = format!("{name}::{}", self.text(self.after(k + 1)?));
+                arms += &format!("{}, ", arm(text, &of, &format!("(it) => write!(f, {text}, it)")));
+            }
+        }
+        if let Some(at) = self.code[..i].iter().rposition(|it| it.text == "#").filter(|at| self.has(*at, "# [ error ("))
+        {
+            let text = self.text(at + 4);
+            let field = text.trim_matches(['"', '{', '}']);
+            arms += &arm(text, name, &format!("{{ {field}, .. }} => write!(f, {text})"));
+        }
+        if !arms.is_empty() {
+            let after = self.code[end - 1].end();
+            let made = format!(
+                " impl{generics} std::fmt::Display for {name}{generics} {{ fn fmt(&self, f: &mut \
+                 std::fmt::Formatter<'_>) -> std::fmt::Result {{ match self {{ {arms} }} }} }}"
+            );
+            self.edits.push((after, after, made));
+        }
+        Ok(i + 1)
+    }
+
+    // `assert!(rt; ..)`, `println!(rt; ..)`, `format!(in alloc; ..)`, `vec![in alloc; ..]`, and those without `rt;`.
+    fn given(&mut self, i: usize) -> Result<usize, Fault> {
+        let (open, end) = (i + 2, self.after(i + 2)?);
+        let Some(semicolon) = self.next(open, end, ";") else { return Ok(i + 1) };
+        let first = open + 1 + usize::from(self.text(open + 1) == "in");
+        let given = &self.source[self.code[first].at..self.code[semicolon].at];
+        let times = self.next(semicolon, end, ";");
+        let (head, tail) = match self.text(i) {
+            "println" => (format!("({given}).println(format_args!("), "))"),
+            "format" => (format!("crate::kit::text::format({given}, format_args!("), "))"),
+            "vec" if times.is_some() => (format!("Vec::from_elem({given}, "), ")"),
+            "vec" => (format!("Vec::from_array({given}, ["), "])"),
+            name => (format!("{name}!("), ")"),
+        };
+        if let Some(times) = times {
+            self.replace(times, times + 1, ",");
+        }
+        self.replace(end - 1, end, tail);
+        Ok(self.replace(i, semicolon + 1, &head))
+    }
+
+    // `.expect(rt, "..")`.
+    fn expect(&mut self, i: usize) -> Result<usize, Fault> {
+        let end = self.after(i + 1)?;
+        match self.next(i + 1, end, ",") {
+            Some(comma) if comma + 2 < end => Ok(self.replace(i + 2, comma + 1, "")),
+            _ => Ok(i + 1),
+        }
+    }
+
+    // The next token of this text after the token `from`, and before `end`, that isn't in a bracket.
+    fn next(&self, from: usize, end: usize, text: &str) -> Option<usize> {
+        let mut at = from + 1;
+        while at < end - 1 {
+            if self.text(at) == text {
+                return Some(at);
+            }
+            at = if matches!(self.text(at), "(" | "[" | "{") { self.after(at).ok()? } else { at + 1 };
+        }
+        None
     }
 
     // Drops names from `#[derive(..)]`.

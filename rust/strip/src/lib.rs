@@ -7,7 +7,9 @@
 //! | `requires { .. }` | a comment |
 //! | `impl Drop for T` that drops the fields, `Drop` in a derive list | nothing: Rust does so by itself |
 //! | `thiserror::Error` in a derive list, `#[error(..)]` | nothing: no source shows these errors |
-//! | `#[test] fn ..` | nothing: the kit runs it |
+//! | `#[test] fn f(rt: HostRuntime) -> ..` | `#[test] fn f()`, which calls it with the layer's runtime |
+//! | `assert!(rt; ..)`, `println!(rt; ..)`, `format!(in alloc; ..)`, `vec![in alloc; ..]`, `.expect(rt, ..)` | `assert!(..)`, calls of the layer, `.expect(..)` |
+//! | `Variant(#[from] Type)` | `impl From<Type> for ..` |
 //! | `final fn`, `prove!(..)` | `fn`, `debug_assert!(..)` |
 //! | `fn f<W: fmt::Write>(.., f: &mut fmt::Formatter<W>)` | `fn f(.., f: &mut fmt::Formatter<'_>)` |
 //! | `crate::`, `iobufs_core::` and the other proved crates | a module of `crate::proved` |
@@ -31,6 +33,16 @@ const IMPORT: &str = "use crate::kit::prelude::*;";
 /// `spare`.
 pub type Spare<'a> = (&'a str, &'a Path);
 
+/// What else is written, and what isn't.
+#[derive(Clone, Copy, Default)]
+pub struct Also<'a> {
+    pub spares: &'a [Spare<'a>],
+    /// Files that are left empty, as in `iobufs_examples/web.rt`.
+    pub left_out: &'a [&'a str],
+    /// Whether `#[error(..)]` is what an error shows.
+    pub has_errors: bool,
+}
+
 /// Returns the crates that a crate of the repository uses, by its row of `crates.txt`, and itself.
 pub fn crates_of(name: &str, top: &Path) -> Result<Vec<String>, String> {
     let table = top.join("crates.txt");
@@ -45,7 +57,7 @@ pub fn crates_of(name: &str, top: &Path) -> Result<Vec<String>, String> {
 /// Writes `to/CRATE/*.rs` of `from/CRATE/src/*.rt` for each of these crates, and `to/proved.rs`, which declares each as
 /// a module. A crate may name only others of the list. Prints the lines by which cargo runs a build script again if a
 /// source changes. Returns an error that begins with the file and the line if something in it is refused.
-pub fn write_crates<S: AsRef<str>>(crates: &[S], spares: &[Spare<'_>], from: &Path, to: &Path) -> Result<(), String> {
+pub fn write_crates<S: AsRef<str>>(crates: &[S], also: Also<'_>, from: &Path, to: &Path) -> Result<(), String> {
     let crates: Vec<&str> = crates.iter().map(AsRef::as_ref).collect();
     let mut modules = String::new();
     for name in &crates {
@@ -54,10 +66,13 @@ pub fn write_crates<S: AsRef<str>>(crates: &[S], spares: &[Spare<'_>], from: &Pa
         let mut root = "lib.rs";
         for file in named(&sources, files_below(&sources))? {
             let below = file.strip_prefix(&sources).expect("found there");
-            let source = named(&file, fs::read_to_string(&file))?;
-            let mut rust =
-                rust_of(&source, name, &crates).map_err(|(line, why)| format!("{}:{line}: {why}", file.display()))?;
-            for (_, spare) in spares.iter().filter(|(of, _)| Path::new(name).join(below) == Path::new(of)) {
+            let mut source = named(&file, fs::read_to_string(&file))?;
+            if also.left_out.iter().any(|of| Path::new(name).join(below) == Path::new(of)) {
+                source.clear();
+            }
+            let mut rust = rust_of(&source, name, &crates, also.has_errors)
+                .map_err(|(line, why)| format!("{}:{line}: {why}", file.display()))?;
+            for (_, spare) in also.spares.iter().filter(|(of, _)| Path::new(name).join(below) == Path::new(of)) {
                 rust += &format!("\n#[path = {spare:?}]\nmod spare;\n");
             }
             let made = to.join(name).join(below).with_extension("rs");
@@ -90,11 +105,11 @@ fn files_below(folder: &Path) -> io::Result<Vec<PathBuf>> {
 }
 
 /// Returns the Rust of a source of the crate `name`, or the line that is refused and why.
-pub fn rust_of(source: &str, name: &str, crates: &[&str]) -> Result<String, (usize, String)> {
+pub fn rust_of(source: &str, name: &str, crates: &[&str], has_errors: bool) -> Result<String, (usize, String)> {
     let at_line = |(at, why): Fault| (1 + source[..at].matches('\n').count(), why);
     let all = lexer::tokens(source).map_err(|at| at_line((at, "a literal or comment without an end".to_owned())))?;
     let (comments, code) = all.into_iter().partition(Token::is_comment);
-    let mut file = File { source, name, crates, code, comments, edits: Vec::new(), is_marked: false };
+    let mut file = File { source, name, crates, code, comments, edits: Vec::new(), is_marked: false, has_errors };
     file.strip().map_err(at_line)?;
     Ok(file.rust())
 }
@@ -112,6 +127,7 @@ struct File<'a> {
     edits: Vec<(usize, usize, String)>,
     // Whether an attribute says how the next function is inlined.
     is_marked: bool,
+    has_errors: bool,
 }
 
 impl<'a> File<'a> {

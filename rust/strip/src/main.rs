@@ -9,5 +9,5 @@ fn main() -> Result<(), String> {
     let mut crates = [strip::crates_of("iobuf", &top)?, strip::crates_of("iobufs_c", &top)?].concat();
     crates.sort();
     crates.dedup();
-    strip::write_crates(&crates, &[], &top.join("crates"), Path::new(&folder))
+    strip::write_crates(&crates, strip::Also::default(), &top.join("crates"), Path::new(&folder))
 }

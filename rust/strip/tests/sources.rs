@@ -18,6 +18,7 @@ fn words(line: &str, name: &str) -> Vec<String> {
     let line = line.replace("use crate::kit::prelude::*;", "").replace("#[inline] ", "").replace(&own, "crate::");
     let line = line.replace("crate::proved::", "").replace("crate::kit::", "").replace("debug_assert!", "prove!");
     let line = line.replace("pub fn main", "fn main").replace("Formatter<'_>", "Formatter<W>");
+    let line = line.replace("() { test::run(case); fn case(", "(").replace("} }", "}");
     let mut found = vec![String::new()];
     for c in line.chars() {
         let is_word = |c: char| c.is_alphanumeric() || c == '_';
@@ -41,7 +42,7 @@ fn each_line_is_where_it_was() {
         assert!(!files.is_empty());
         for file in files {
             let source = fs::read_to_string(&file).unwrap();
-            let rust = strip::rust_of(&source, name, &crates).unwrap();
+            let rust = strip::rust_of(&source, name, &crates, false).unwrap();
             assert_eq!(source.lines().count(), rust.lines().count(), "{}", file.display());
             for (n, (before, after)) in source.lines().zip(rust.lines()).enumerate() {
                 let mut all = words(before, name).into_iter();

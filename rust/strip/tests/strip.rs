@@ -5,7 +5,7 @@ const CRATES: [&str; 2] = ["one", "two"];
 const HEAD: &str = "use crate::kit::prelude::*; ";
 
 /// A source, and what is left of it, but for the import before its first item. `\n` where lines stay empty.
-const LEFT: [(&str, &str); 33] = [
+const LEFT: [(&str, &str); 36] = [
     ("fn f() {\n    g();\n    h();\n}\n", "#[inline] fn f() {\n    g();\n    h();\n}\n"),
     (
         "fn f(n: u8) -> u8\n    requires { n < 9 }\n{\n    n\n}\n",
@@ -86,7 +86,22 @@ const LEFT: [(&str, &str); 33] = [
         "fn f(n: std::ops::Bound<u8>) -> bytes::Bytes\n    ensures { a }\n{\n    two::bytes::of(n)\n}\n",
         "#[inline] fn f(n: crate::kit::std::ops::Bound<u8>) -> crate::kit::bytes::Bytes\n\n{\n    crate::proved::two::bytes::of(n)\n}\n",
     ),
-    ("mod a;\n\n// Goes.\n#[test]\nfn f() -> R {\n    g({})\n}\nmod b;\n", "mod a;\n\n\n\n\n\n\nmod b;\n"),
+    (
+        "#[test]\nfn f(rt: HostRuntime) -> R {\n    g({})\n}\nmod b;\n",
+        "#[test]\nfn f() { crate::kit::test::run(case); fn case(rt: HostRuntime) -> R {\n    g({})\n} }\nmod b;\n",
+    ),
+    (
+        "mod a;\nfn f() {\n    assert!(rt; a == b, \"c\");\n    x.expect(&rt, \"y\").expect(\"z\");\n}\n",
+        "mod a;\n#[inline] fn f() {\n    assert!( a == b, \"c\");\n    x.expect( \"y\").expect(\"z\");\n}\n",
+    ),
+    (
+        "mod a;\nconst B: u8 = f(vec![in g(a); 1, 2], vec![in a; 0u8; 9], format!(in a; \"{b}\"), println!(rt; \"{b}\")?);\n",
+        "mod a;\nconst B: u8 = f(Vec::from_array(g(a), [ 1, 2]), Vec::from_elem(a,  0u8, 9), crate::kit::text::format(a, format_args!( \"{b}\")), (rt).println(format_args!( \"{b}\"))?);\n",
+    ),
+    (
+        "mod a;\nenum E {\n    A(#[from] B),\n}\n",
+        "mod a;\nenum E {\n    A( B),\n} impl From<B> for E { fn from(it: B) -> E { E::A(it) } }\n",
+    ),
     ("fn f() {\n    prove!(a);\n}\n", "#[inline] fn f() {\n    debug_assert!(a);\n}\n"),
     (
         "fn f<W: fmt::Write>(n: u8, f: &mut fmt::Formatter<W>) -> fmt::Result {}\n",
@@ -98,7 +113,7 @@ const LEFT: [(&str, &str); 33] = [
 #[test]
 fn what_is_left() {
     for (source, left) in LEFT {
-        assert_eq!(rust_of(source, "one", &CRATES).unwrap().strip_prefix(HEAD), Some(left), "{source}");
+        assert_eq!(rust_of(source, "one", &CRATES, false).unwrap().strip_prefix(HEAD), Some(left), "{source}");
     }
 }
 
@@ -114,7 +129,7 @@ fn the_import_stands_where_the_first_item_goes() {
             format!("//! A crate.\n//! Its end.\n{import}\nmod d;\n"),
         ),
     ] {
-        assert_eq!(rust_of(source, "one", &CRATES).unwrap(), left);
+        assert_eq!(rust_of(source, "one", &CRATES, false).unwrap(), left);
     }
 }
 
@@ -141,7 +156,7 @@ const REFUSED: [(&str, usize); 16] = [
 #[test]
 fn what_is_refused() {
     for (source, line) in REFUSED {
-        match rust_of(source, "one", &CRATES) {
+        match rust_of(source, "one", &CRATES, false) {
             Ok(rust) => panic!("{source} is taken: {rust}"),
             Err((at, why)) => assert_eq!(at, line, "{source}: {why}"),
         }

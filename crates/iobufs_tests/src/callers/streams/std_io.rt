@@ -36,9 +36,8 @@ fn a_text_is_read_by_std(rt: HostRuntime) -> Result<(), Fail> {
     let mut reader = bytes::Buf::reader(text(rt.alloc(), &[b"ab", b"cde"])?);
     let mut four = [0; 4];
     assert_same!(rt; (reader.read(&mut four).ok(), four), (Some(4), *b"abcd"));
-    let mut rest = Vec::new(rt.alloc());
-    assert_same!(rt; reader.read_to_end(&mut rest).ok(), Some(1));
-    assert_same!(rt; (rest.as_slice(), reader.read(&mut four).ok()), (b"e".as_slice(), Some(0)));
+    assert_same!(rt; (reader.read(&mut four).ok(), four[0]), (Some(1), b'e'));
+    assert_same!(rt; reader.read(&mut four).ok(), Some(0));
     Ok(())
 }
 
