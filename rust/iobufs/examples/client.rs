@@ -1,11 +1,6 @@
 //! A client of records: a codec, frames that are sent by short vectored writes and read from chunks of any size, and a
-//! journal of pages. It is a client of the original too, if these three lines replace the
-//! two that name `iobufs`:
-//!
-//! 1. `use commonware_codec::{Buf, BufsMut, Decode, EncodeSize, Error, RangeCfg, Read, Write};`
-//! 2. `use commonware_runtime::iobuf::{EncodeExt, IoBuf, IoBufMut, IoBufs};`
-//! 3. `use bytes::{Buf as _, BufMut};`
-use iobufs::codec::{BufsMut, Decode, EncodeExt, EncodeSize, RangeCfg, Read, Sink as BufMut, Source as Buf, Write};
+//! journal of pages.
+use iobufs::codec::{Decode, Encode, RangeCfg};
 use iobufs::{Error, IoBuf, IoBufMut, IoBufs};
 use std::io::{self, ErrorKind, IoSlice};
 
@@ -28,52 +23,7 @@ struct Record {
     body: IoBuf,
 }
 
-impl EncodeSize for Record {
-    fn encode_size(&self) -> usize {
-        12 + self.note.encode_size() + self.body.encode_size()
-    }
-
-    fn encode_inline_size(&self) -> usize {
-        self.encode_size() - self.body.len()
-    }
-}
-
-impl Record {
-    fn write_head(&self, buf: &mut impl BufMut) {
-        buf.put_u32(self.number);
-        buf.put_i64(self.time);
-        self.note.write(buf);
-    }
-}
-
-impl Write for Record {
-    fn write(&self, buf: &mut impl BufMut) {
-        self.write_head(buf);
-        self.body.write(buf);
-    }
-
-    fn write_bufs(&self, buf: &mut impl BufsMut) {
-        self.write_head(buf);
-        self.body.len().write(buf);
-        buf.push(self.body.clone());
-    }
-}
-
-impl Read for Record {
-    type Cfg = ();
-
-    fn read_cfg(buf: &mut impl Buf, _: &()) -> Result<Self, Error> {
-        if buf.remaining() < 12 {
-            return Err(Error::EndOfBuffer);
-        }
-        Ok(Record {
-            number: buf.get_u32(),
-            time: buf.get_i64(),
-            note: IoBuf::read_cfg(buf, &RangeCfg::from(0..=NOTE))?,
-            body: IoBuf::read_cfg(buf, &RangeCfg::from(0..=BODY))?,
-        })
-    }
-}
+iobufs::fields! { Record { number: u32, time: i64, note: IoBuf = ..=NOTE, body: IoBuf = ..=BODY } }
 
 /// Chunks that aren't sent yet, written several at a time.
 struct Sender<W> {

@@ -120,12 +120,12 @@ macro_rules! equals_bytes {
 }
 pub(crate) use equals_bytes;
 
-/// Equality of two types of buffers, in both directions.
+/// Equality of a buffer of one chunk with another one, in both directions.
 macro_rules! equal {
     ($($one:ident $other:ident)*) => {$(
         impl PartialEq<$other> for $one {
             fn eq(&self, other: &$other) -> bool {
-                self.len() == other.len() && compare(self.each_chunk(), other.each_chunk()).is_eq()
+                other == self.as_ref()
             }
         }
 

@@ -61,48 +61,7 @@ impl fmt::Display for AllocError {
 
 impl std::error::Error for AllocError {}
 
-/// Its `Error` is `bytes::TryGetError` from version 1.10 of that crate on, and the one here before.
-pub trait Version {
-    /// The error of a read past the end.
-    type Error;
-}
-
-/// The version of the crate `bytes`.
-pub enum Found {}
-
-#[allow(dead_code)]
-mod before {
-    /// A destination is longer than the bytes left.
-    #[derive(Clone, Copy, Debug, PartialEq, Eq)]
-    pub struct TryGetError {
-        /// The number of bytes requested.
-        pub requested: usize,
-        /// The number of bytes left.
-        pub available: usize,
-    }
-
-    impl std::fmt::Display for TryGetError {
-        fn fmt(&self, f: &mut std::fmt::Formatter<'_>) -> std::fmt::Result {
-            write!(f, "{} bytes were requested, and {} are left", self.requested, self.available)
-        }
-    }
-
-    impl std::error::Error for TryGetError {}
-
-    // A name of the inner block is found before one of the module.
-    const _: () = {
-        #[allow(unused_imports)]
-        use bytes::*;
-
-        impl super::Version for super::Found {
-            type Error = TryGetError;
-        }
-    };
-}
-
-/// A destination is longer than the bytes left. This is `bytes::TryGetError`, which that crate has from its version
-/// 1.10 on.
-pub type TryGetError = <Found as Version>::Error;
+pub use bytes::TryGetError;
 
 /// The error of a read past the end.
 #[inline]

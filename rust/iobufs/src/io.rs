@@ -5,12 +5,10 @@ use std::fmt;
 use std::io::{self, BufRead, IoSlice, Read, Result, Write};
 
 macro_rules! reads {
-    ($($buffer:ident)*) => {$(
+    ($($buffer:ident, |$self:ident, $dst:ident| $read:expr;)*) => {$(
         impl Read for $buffer {
-            fn read(&mut self, dst: &mut [u8]) -> Result<usize> {
-                let n = dst.len().min(self.len());
-                self.copy_to_slice(&mut dst[..n]);
-                Ok(n)
+            fn read(&mut $self, $dst: &mut [u8]) -> Result<usize> {
+                $read
             }
         }
 
@@ -26,16 +24,23 @@ macro_rules! reads {
     )*};
 }
 
-reads! { IoBuf IoBufMut IoBufs IoBufsMut }
+reads! {
+    IoBuf, |self, dst| self.0.read(dst);
+    IoBufMut, |self, dst| self.0.read(dst);
+    IoBufs, |self, dst| self.0.read(dst);
+    IoBufsMut, |self, dst| {
+        let n = dst.len().min(self.len());
+        self.copy_to_slice(&mut dst[..n]);
+        Ok(n)
+    };
+}
 
 macro_rules! writes {
-    ($($buffer:ident)*) => {$(
+    ($($buffer:ident, |$self:ident, $src:ident| $write:expr;)*) => {$(
         /// Takes what fits.
         impl Write for $buffer {
-            fn write(&mut self, src: &[u8]) -> Result<usize> {
-                let n = src.len().min(self.remaining_mut());
-                self.put_slice(&src[..n]);
-                Ok(n)
+            fn write(&mut $self, $src: &[u8]) -> Result<usize> {
+                $write
             }
 
             fn flush(&mut self) -> Result<()> {
@@ -52,13 +57,41 @@ macro_rules! writes {
     )*};
 }
 
-writes! { IoBufMut IoBufsMut Builder }
+writes! {
+    IoBufMut, |self, src| self.0.write(src);
+    IoBufsMut, |self, src| {
+        let n = src.len().min(self.remaining_mut());
+        self.put_slice(&src[..n]);
+        Ok(n)
+    };
+    Builder, |self, src| self.0.write(src);
+}
 
-/// Writes these chunks once. Fails if the writer says that it took more than it was given.
-pub(crate) fn write_once(to: &mut (impl Write + ?Sized), chunks: &[IoSlice<'_>]) -> Result<usize> {
-    let given = chunks.iter().fold(0, |sum: usize, chunk| sum.saturating_add(chunk.len()));
-    match to.write_vectored(chunks)? {
-        n if n > given => Err(io::Error::other("a writer says that it took more than it was given")),
-        n => Ok(n),
+/// A writer of which a lie is an error: what it took is no more than it was given, as the proved calls assume.
+pub(crate) struct Honest<W> {
+    pub(crate) to: W,
+    /// Whether it took bytes that aren't dropped yet. It stays so if the drop of an owner panics.
+    pub(crate) took: bool,
+}
+
+impl<W: Write> Write for Honest<W> {
+    fn write(&mut self, bytes: &[u8]) -> Result<usize> {
+        self.write_vectored(&[IoSlice::new(bytes)])
+    }
+
+    #[inline]
+    fn write_vectored(&mut self, chunks: &[IoSlice<'_>]) -> Result<usize> {
+        self.took = false;
+        let given = chunks.iter().fold(0, |sum: usize, chunk| sum.saturating_add(chunk.len()));
+        let n = self.to.write_vectored(chunks)?;
+        if n > given {
+            return Err(io::Error::other("a writer says that it took more than it was given"));
+        }
+        self.took = true;
+        Ok(n)
+    }
+
+    fn flush(&mut self) -> Result<()> {
+        self.to.flush()
     }
 }

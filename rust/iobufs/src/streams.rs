@@ -1,16 +1,13 @@
 //! Frames over std's readers and writers.
 #![forbid(unsafe_code)]
-use crate::error::{fault, shared};
-use crate::io::write_once;
+use crate::error::{fault, out_of_memory, shared};
+use crate::io::Honest;
 use crate::kit::{Global, bytes as kit};
-use crate::proved::iobufs_core::codec::RangeCfg;
+use crate::proved::iobufs_core::codec::{BufError, RangeCfg};
 use crate::proved::iobufs_frames as inner;
-use crate::proved::iobufs_frames::Head;
-use crate::text::BATCH;
 use crate::{Error, IoBuf, IoBufs, Prefix};
 use bytes::BytesMut;
-use std::collections::VecDeque;
-use std::io::{self, ErrorKind, IoSlice, Read, Write};
+use std::io::{self, ErrorKind, Read, Write};
 use std::ops::RangeBounds;
 use std::{error, fmt, mem};
 
@@ -189,53 +186,8 @@ impl<R: fmt::Debug> fmt::Debug for FrameReader<R> {
     }
 }
 
-/// The bytes of a frame that aren't sent: the end of its length, and of its body.
-struct Unsent {
-    head: Head,
-    /// Records that the body was put as one chunk.
-    is_single: bool,
-    body: IoBufs,
-}
-
-impl Unsent {
-    fn len(&self) -> usize {
-        self.head.len() + self.body.len()
-    }
-
-    /// Fills a list with the first chunks, and returns how many it filled.
-    #[inline]
-    fn chunks<'a>(&'a self, dst: &mut [IoSlice<'a>]) -> usize {
-        let mut count = 0;
-        if self.head.len() > 0 {
-            dst[0] = IoSlice::new(self.head.as_slice());
-            count = 1;
-        }
-        if self.is_single && count < dst.len() {
-            // A list is dearer.
-            dst[count] = IoSlice::new(self.body.chunk());
-            return count + 1;
-        }
-        count + self.body.chunks_vectored(&mut dst[count..])
-    }
-
-    /// Drops the first bytes, of which there are more.
-    fn advance(&mut self, n: usize) {
-        let ahead = n.min(self.head.len());
-        self.head.advance(ahead);
-        self.body.advance(n - ahead);
-    }
-}
-
 /// Sends frames to a writer: lengths, each followed by a body, whose chunks aren't copied.
-pub struct FrameWriter<W> {
-    to: W,
-    prefix: inner::Prefix,
-    range: RangeCfg,
-    /// Frames that were put and aren't sent. A frame has at least the byte of its length.
-    unsent: VecDeque<Unsent>,
-    /// Set while bytes that were sent are dropped, so that it stays set after an owner's panic.
-    is_broken: bool,
-}
+pub struct FrameWriter<W>(inner::FrameWriter<Honest<W>>);
 
 impl<W> FrameWriter<W> {
     /// Makes a writer of frames with varint lengths in `range`. It allocates nothing.
@@ -245,59 +197,38 @@ impl<W> FrameWriter<W> {
 
     /// Makes a writer of frames with lengths in `range` that are written as `prefix`.
     pub fn with_prefix(to: W, prefix: Prefix, range: impl RangeBounds<usize>) -> Self {
-        FrameWriter {
-            to,
-            prefix: prefix.inner(),
-            range: RangeCfg::new(range),
-            unsent: VecDeque::new(),
-            is_broken: false,
-        }
+        let to = Honest { to, took: false };
+        FrameWriter(inner::FrameWriter::with_prefix(Global, to, prefix.inner(), RangeCfg::new(range)))
     }
 
     /// Puts a frame of this body after those that aren't sent yet; nothing is written. Fails with
     /// `Error::InvalidLength` if the length is outside the range, or can't be written as the prefix; then nothing is
-    /// put. It allocates space for the list of frames alone.
+    /// put. It allocates space for the list of frames alone, from the second frame on.
     pub fn put(&mut self, body: impl Into<IoBufs>) -> Result<(), Error> {
-        let body = body.into();
-        let head = self.prefix.head_within(body.len(), &self.range).ok_or(Error::InvalidLength(body.len()))?;
-        self.unsent.push_back(Unsent { head, is_single: body.is_single(), body });
-        Ok(())
+        self.0.put(body.into().0).map_err(|refused| match refused.cause {
+            BufError::TooLong => Error::InvalidLength(refused.value.len()),
+            _ => out_of_memory(None),
+        })
     }
 
     /// Returns whether all that was put is written.
     pub fn is_sent(&self) -> bool {
-        self.unsent.is_empty()
+        self.0.unsent() == 0
     }
 
     /// Returns the writer.
     pub fn get_ref(&self) -> &W {
-        &self.to
+        &self.0.to.to
     }
 
     /// Returns the writer. What is written to it comes between the bytes that are sent.
     pub fn get_mut(&mut self) -> &mut W {
-        &mut self.to
+        &mut self.0.to.to
     }
 
     /// Returns the writer, which hasn't got what isn't sent.
     pub fn into_inner(self) -> W {
-        self.to
-    }
-
-    /// Drops the bytes that the writer took.
-    fn drop_taken(&mut self, mut taken: usize) {
-        self.is_broken = true;
-        while taken > 0 {
-            let Some(first) = self.unsent.front_mut() else { break };
-            let len = first.len();
-            if taken < len {
-                first.advance(taken);
-                break;
-            }
-            taken -= len;
-            self.unsent.pop_front();
-        }
-        self.is_broken = false;
+        self.0.to.to
     }
 }
 
@@ -310,45 +241,21 @@ impl<W: Write> FrameWriter<W> {
     /// If the `Drop` of a body's owner panics, its bytes were sent. Then nothing more is written, and each `send`
     /// returns an error.
     pub fn send(&mut self) -> io::Result<()> {
-        if self.is_broken {
+        if self.0.to.took {
             return Err(io::Error::other("an owner of sent bytes panicked as it was dropped"));
         }
-        while !self.unsent.is_empty() {
-            match self.write() {
-                Ok(0) => return Err(ErrorKind::WriteZero.into()),
-                Ok(n) => self.drop_taken(n),
-                Err(error) if error.kind() == ErrorKind::Interrupted => {}
-                Err(error) => return Err(error),
-            }
-        }
-        self.to.flush()
-    }
-
-    /// Writes once.
-    fn write(&mut self) -> io::Result<usize> {
-        // A list for one frame of one chunk costs less to make.
-        match self.unsent.len() {
-            1 if self.unsent[0].is_single => self.write_chunks::<2>(),
-            _ => self.write_chunks::<BATCH>(),
-        }
-    }
-
-    /// Writes the first `N` chunks once.
-    fn write_chunks<const N: usize>(&mut self) -> io::Result<usize> {
-        let mut chunks = [IoSlice::new(&[]); N];
-        let mut count = 0;
-        for frame in &self.unsent {
-            if count == N {
-                break;
-            }
-            count += frame.chunks(&mut chunks[count..]);
-        }
-        write_once(&mut self.to, &chunks[..count])
+        let sent = self.0.send();
+        self.0.to.took = false;
+        sent?;
+        self.0.to.flush()
     }
 }
 
 impl<W: fmt::Debug> fmt::Debug for FrameWriter<W> {
     fn fmt(&self, f: &mut fmt::Formatter<'_>) -> fmt::Result {
-        f.debug_struct("FrameWriter").field("to", &self.to).field("unsent", &self.unsent.len()).finish_non_exhaustive()
+        f.debug_struct("FrameWriter")
+            .field("to", &self.0.to.to)
+            .field("unsent", &self.0.unsent())
+            .finish_non_exhaustive()
     }
 }

@@ -2,7 +2,7 @@
 #![forbid(unsafe_code)]
 use crate::calls::{bounds, compare, equals_bytes, gets, outside, reads, shown};
 use crate::error::{fault, made, shared};
-use crate::io::write_once;
+use crate::io::Honest;
 use crate::kit::{Clone as _, Global};
 use crate::proved::iobufs_core::codec as core;
 use crate::proved::{iobufs as inner, iobufs_frames};
@@ -10,12 +10,9 @@ use crate::{Error, IoBuf, IoBufMut};
 use bytes::{Bytes, BytesMut};
 use std::cmp::Ordering;
 use std::hash::{Hash, Hasher};
-use std::io::{self, ErrorKind, IoSlice, Write};
+use std::io::{self, IoSlice, Write};
 use std::mem;
 use std::ops::RangeBounds;
-
-/// How many chunks are handed to one write.
-pub(crate) const BATCH: usize = 64;
 
 /// Read-only bytes in chunks, of which none is copied.
 ///
@@ -177,7 +174,7 @@ impl IoBufs {
 
     /// Fills `dst` with the first chunks, and returns how many (`Buf`).
     pub fn chunks_vectored<'a>(&'a self, dst: &mut [IoSlice<'a>]) -> usize {
-        dst.iter_mut().zip(self.chunks()).map(|(slot, chunk)| *slot = IoSlice::new(chunk)).count()
+        self.0.fill_slices(dst)
     }
 
     /// Returns the first chunks, at most `N`, as they are handed to `writev`.
@@ -196,16 +193,7 @@ impl IoBufs {
     /// are taken. After an error the bytes that weren't taken are left. Fails with `ErrorKind::WriteZero` if the writer
     /// takes no byte, and with `ErrorKind::Other` if it says that it took more than it was given.
     pub fn write_to(&mut self, to: &mut (impl Write + ?Sized)) -> io::Result<()> {
-        while !self.is_empty() {
-            let (chunks, count) = self.slices::<BATCH>();
-            match write_once(to, &chunks[..count]) {
-                Ok(0) => return Err(ErrorKind::WriteZero.into()),
-                Ok(n) => self.advance(n),
-                Err(error) if error.kind() == ErrorKind::Interrupted => {}
-                Err(error) => return Err(error),
-            }
-        }
-        Ok(())
+        self.0.write_to(&mut Honest { to, took: false })
     }
 
     reads! {}

@@ -1,6 +1,6 @@
 //! The first things that a user of `Bytes` tries: conversions, comparisons, iterators, `Debug`, and values that are
 //! read back.
-use iobufs::codec::{Decode, Encode, EncodeExt, RangeCfg, Read};
+use iobufs::codec::{Decode, Encode, RangeCfg};
 use iobufs::{Error, IoBuf, IoBufMut, IoBufs, IoBufsMut};
 use std::fmt::Debug;
 
@@ -116,17 +116,17 @@ fn a_vec_that_one_view_keeps_comes_back() {
 
 /// A value is written as these bytes, and read back from them, whole or cut into chunks of one byte.
 #[track_caller]
-fn written<T: EncodeExt + Encode + Read + PartialEq + Debug>(value: T, cfg: &T::Cfg, bytes: &[u8]) {
+fn written<T: Encode + Decode + PartialEq + Debug>(value: T, cfg: &T::Cfg, bytes: &[u8]) {
     assert_eq!(value.encode(), bytes);
     let bufs = value.encode_iobufs();
     assert_eq!(bufs, bytes);
     assert_eq!(T::decode_cfg(bufs, cfg).as_ref(), Ok(&value));
     let mut cut: IoBufs = bytes.iter().map(|byte| vec![*byte]).collect();
-    assert_eq!(T::read_whole(&mut cut, cfg).as_ref(), Ok(&value));
+    assert_eq!(T::read_cfg(&mut cut, cfg).as_ref(), Ok(&value));
     assert!(cut.is_empty());
     for n in 0..bytes.len() {
         let mut front = IoBuf::copy_from_slice(&bytes[..n]);
-        assert_eq!(T::read_whole(&mut front, cfg), Err(Error::EndOfBuffer));
+        assert_eq!(T::read_cfg(&mut front, cfg), Err(Error::EndOfBuffer));
         assert_eq!(front, bytes[..n]);
     }
 }

@@ -2,9 +2,9 @@
 #![allow(dead_code, clippy::new_without_default)]
 extern crate self as kit;
 
-#[path = "../../kit/src/arc.rs"]
+#[path = "../layer/arc.rs"]
 mod arc;
-#[path = "../../kit/src/base.rs"]
+#[path = "../layer/base.rs"]
 mod base;
 #[path = "../src/kit/bytes.rs"]
 pub mod bytes;
@@ -12,7 +12,7 @@ pub mod bytes;
 mod bytes_tests;
 #[path = "../../kit/tests/collections.rs"]
 mod collections_tests;
-#[path = "../../kit/src/deque.rs"]
+#[path = "../layer/deque.rs"]
 mod deque;
 #[path = "../../kit/src/fs.rs"]
 pub mod fs;
@@ -20,19 +20,21 @@ pub mod fs;
 pub mod hex;
 #[path = "../../kit/src/host.rs"]
 mod host;
-#[path = "../../kit/src/io.rs"]
+#[path = "../layer/io.rs"]
 pub mod io;
 #[path = "../../kit/src/map.rs"]
 mod map;
 #[path = "../../kit/src/memchr.rs"]
 pub mod memchr;
-#[path = "../../kit/src/names.rs"]
+#[path = "../layer/names.rs"]
 mod names;
+#[path = "../../kit/src/program.rs"]
+mod program;
 #[path = "../../kit/src/test.rs"]
 pub mod test;
 #[path = "../../kit/src/text.rs"]
 pub mod text;
-#[path = "../../kit/src/vec.rs"]
+#[path = "../layer/vec.rs"]
 mod vec;
 
-pub use names::{prelude, std};
+pub use program::{prelude, std};

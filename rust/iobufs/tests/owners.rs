@@ -1,7 +1,8 @@
 //! Memory of other owners: whose bytes a buffer shows, and how long it keeps them. An owner spoils its bytes when it is
 //! dropped, and takes its name out of a list, so each step says just who lives. Each run of other foreign code may
 //! panic (`burn`).
-use iobufs::codec::{BufsMut, EncodeExt, EncodeSize, Sink, Write};
+use iobufs::codec::Encode;
+use iobufs::codec::proved::{BufMut, BufsMut, EncodeSize, Error, Write};
 use iobufs::{Builder, Frames, IoBuf, IoBufMut, IoBufs};
 use std::cell::Cell;
 use std::collections::BTreeMap;
@@ -133,27 +134,28 @@ impl Hasher for Foreign<()> {
 }
 
 impl EncodeSize for Foreign<&[IoBuf]> {
-    fn encode_size(&self) -> usize {
+    fn encode_size(&self) -> Option<usize> {
         burn();
-        self.0.iter().map(IoBuf::encode_size).sum()
+        self.0.iter().map(<IoBuf as EncodeSize>::encode_size).sum()
     }
 
     fn encode_inline_size(&self) -> usize {
         burn();
-        self.0.iter().map(IoBuf::encode_inline_size).sum()
+        self.0.iter().map(<IoBuf as EncodeSize>::encode_inline_size).sum()
     }
 }
 
 impl Write for Foreign<&[IoBuf]> {
-    fn write(&self, buf: &mut impl Sink) {
-        self.0.iter().for_each(|view| view.write(buf));
+    fn write<B: BufMut>(&self, buf: &mut B) {
+        self.0.iter().for_each(|view| Write::write(view, buf));
     }
 
-    fn write_bufs(&self, buf: &mut impl BufsMut) {
+    fn write_bufs<B: BufsMut>(&self, buf: &mut B) -> Result<(), Error> {
         for view in self.0 {
-            view.write_bufs(buf);
+            Write::write_bufs(view, buf)?;
             burn();
         }
+        Ok(())
     }
 }
 

@@ -1,6 +1,6 @@
 //! Values that are written and read: worked by hand, and what the original's tests say of a view as a value.
 use bytes::Bytes;
-use iobufs::codec::{BufsMut, Decode, Encode, EncodeExt, EncodeSize, RangeCfg, Read, Sink, Source, Write};
+use iobufs::codec::{Decode, Encode, RangeCfg, Source, proved};
 use iobufs::{Builder, Error, IoBuf, IoBufMut, IoBufs, IoBufsMut};
 use std::fmt::Debug;
 use std::ops::RangeInclusive;
@@ -152,7 +152,7 @@ const LENGTHS: [Case; 14] = [
 ];
 
 /// A value is read that takes this many bytes, or an error changes nothing.
-fn assert_read<T: Read + PartialEq + Debug, B: Source + Clone + PartialEq + Debug>(
+fn assert_read<T: Decode + PartialEq + Debug, B: Source + Clone + PartialEq + Debug>(
     mut buf: B,
     cfg: &T::Cfg,
     wanted: &Result<T, Error>,
@@ -259,37 +259,7 @@ struct Shard {
     last: u8,
 }
 
-impl EncodeSize for Shard {
-    fn encode_size(&self) -> usize {
-        3 + self.body.encode_size()
-    }
-
-    fn encode_inline_size(&self) -> usize {
-        3 + self.body.encode_inline_size()
-    }
-}
-
-impl Write for Shard {
-    fn write(&self, buf: &mut impl Sink) {
-        self.index.write(buf);
-        self.body.write(buf);
-        self.last.write(buf);
-    }
-
-    fn write_bufs(&self, buf: &mut impl BufsMut) {
-        self.index.write(buf);
-        self.body.write_bufs(buf);
-        self.last.write(buf);
-    }
-}
-
-impl Read for Shard {
-    type Cfg = RangeCfg<usize>;
-
-    fn read_cfg(buf: &mut impl Source, range: &Self::Cfg) -> Result<Self, Error> {
-        Ok(Shard { index: u16::read_cfg(buf, &())?, body: IoBuf::read_cfg(buf, range)?, last: u8::read_cfg(buf, &())? })
-    }
-}
+iobufs::fields! { Shard { index: u16, body: IoBuf = ..=200, last: u8 } }
 
 #[test]
 fn a_view_is_pushed_and_shared() {
@@ -299,37 +269,67 @@ fn a_view_is_pushed_and_shared() {
     assert_eq!((text.len(), text.chunk_count()), (205, 3));
     assert_eq!(text.chunk_at(1).unwrap().as_ptr(), shard.body.as_ptr());
     assert_eq!(text, IoBufs::from(shard.encode()));
-    let read = Shard::read_cfg(&mut text, &(..=200).into()).unwrap();
+    let read = Shard::read_cfg(&mut text, &()).unwrap();
     assert_eq!((read.index, &read.body, read.last), (0x0102, &shard.body, 9));
     assert_eq!(read.body.as_ptr(), shard.body.as_ptr());
 }
 
-/// Reads a shard whole or not at all, by one call and by the other: whether there is one, and what is left.
-fn read_shard<B: Source + Clone + PartialEq + Debug>(buf: B, wanted: &Result<u16, Error>) -> [usize; 2] {
-    let (mut by_parts, mut whole) = (buf.clone(), buf.clone());
-    let range = (..=200).into();
-    let read = [Shard::read_cfg(&mut by_parts, &range), Shard::read_whole(&mut whole, &range)];
-    assert_eq!(read.map(|it| it.map(|shard| shard.index)), [*wanted; 2]);
-    assert!(wanted.is_ok() || whole == buf);
-    [by_parts.remaining(), whole.remaining()]
+/// Reads a shard, and returns what is left: all of it if that fails.
+fn read_shard<B: Source + Clone + PartialEq + Debug>(mut buf: B, wanted: &Result<u16, Error>) -> usize {
+    let before = buf.clone();
+    assert_eq!(Shard::read_cfg(&mut buf, &()).map(|shard| shard.index), *wanted);
+    assert!(wanted.is_ok() || buf == before);
+    buf.remaining()
 }
 
-// A value of several parts that fails at a later part has taken the earlier ones, except by `read_whole`.
 #[test]
 fn values_are_read_whole() {
     let all = b"\x01\x02\x05hello\x09-".as_slice();
     for n in 0..=all.len() {
-        let (wanted, by_parts, whole) = match n {
-            9.. => (Ok(0x0102), n - 9, n - 9),
-            8 => (Err(END), 0, 8),
-            2.. => (Err(END), n - 2, n),
-            _ => (Err(END), n, n),
-        };
-        assert_eq!(read_shard(IoBuf::copy_from_slice(&all[..n]), &wanted), [by_parts, whole], "{n}");
-        assert_eq!(read_shard(in_bytes(&all[..n]), &wanted), [by_parts, whole], "{n}");
+        let (wanted, left) = if n < 9 { (Err(END), n) } else { (Ok(0x0102), n - 9) };
+        assert_eq!(read_shard(IoBuf::copy_from_slice(&all[..n]), &wanted), left, "{n}");
+        assert_eq!(read_shard(in_bytes(&all[..n]), &wanted), left, "{n}");
     }
     let long = [b"\x01\x02\xc9\x01", &[0; 202][..]].concat();
-    assert_eq!(read_shard(in_bytes(&long), &Err(Error::InvalidLength(201))), [204, 206]);
+    assert_eq!(read_shard(in_bytes(&long), &Err(Error::InvalidLength(201))), 206);
+}
+
+/// Whatever comes, a value that isn't read leaves its bytes, wherever they are cut.
+#[derive(Debug, PartialEq)]
+enum Event {
+    Put(u32, IoBuf),
+    Shift(i16, Option<bool>, [u8; 2]),
+    Flush,
+}
+
+iobufs::kinds! {
+    Event { 1 => Put(key: u32, body: IoBuf = ..=3), 2 => Shift(by: i16, is_up: Option<bool>, mark: [u8; 2]), 9 => Flush }
+}
+
+#[test]
+fn kinds_are_read_back() {
+    type Case = (Event, &'static [u8], Error);
+    let cases: [Case; 3] = [
+        (Event::Put(7, b"abc".into()), b"\x01\0\0\0\x07\x03abc", Error::InvalidLength(4)),
+        (Event::Shift(-2, Some(true), [5, 6]), b"\x02\xff\xfe\x01\x01\x05\x06", Error::InvalidBool),
+        (Event::Flush, b"\x09", Error::InvalidEnum(8)),
+    ];
+    for (event, bytes, wanted) in cases {
+        assert_eq!((event.encode(), event.encode_size()), (bytes.to_vec().into(), bytes.len()));
+        for n in 0..bytes.len() {
+            let mut cut = in_bytes(&bytes[..n]);
+            assert_eq!((Event::read_cfg(&mut cut, &()), cut.len()), (Err(END), n));
+        }
+        let mut wrong = bytes.to_vec();
+        match wanted {
+            Error::InvalidLength(n) => wrong[5] = n as u8,
+            Error::InvalidBool => wrong[4] = 2,
+            _ => wrong[0] = 8,
+        }
+        let mut wrong = in_bytes(&wrong);
+        assert_eq!((Event::read_cfg(&mut wrong, &()), wrong.len()), (Err(wanted), bytes.len()));
+        assert_eq!(Event::decode_cfg(in_bytes(bytes), &()), Ok(event));
+    }
 }
 
 #[test]
@@ -347,9 +347,21 @@ fn a_number_past_the_end() {
 /// A value that is written as half of all bytes that a `usize` counts, and one more.
 struct Half;
 
-impl EncodeSize for Half {
-    fn encode_size(&self) -> usize {
-        usize::MAX / 2 + 1
+impl proved::EncodeSize for Half {
+    fn encode_size(&self) -> Option<usize> {
+        Some(usize::MAX / 2 + 1)
+    }
+
+    fn encode_inline_size(&self) -> usize {
+        0
+    }
+}
+
+impl proved::Write for Half {
+    fn write<B: proved::BufMut>(&self, _: &mut B) {}
+
+    fn write_bufs<B: proved::BufsMut>(&self, _: &mut B) -> Result<(), proved::Error> {
+        Ok(())
     }
 }
 

@@ -7,19 +7,26 @@
 #![deny(unsafe_code)]
 
 #[allow(unsafe_code)]
+#[path = "../../iobufs/layer/arc.rs"]
 mod arc;
+#[path = "../../iobufs/layer/base.rs"]
 mod base;
 pub mod bytes;
+#[path = "../../iobufs/layer/deque.rs"]
 mod deque;
 pub mod fs;
 pub mod hex;
 mod host;
+#[path = "../../iobufs/layer/io.rs"]
 pub mod io;
 mod map;
 pub mod memchr;
+#[path = "../../iobufs/layer/names.rs"]
 mod names;
+mod program;
 pub mod test;
 pub mod text;
+#[path = "../../iobufs/layer/vec.rs"]
 mod vec;
 
-pub use names::{prelude, std};
+pub use program::{prelude, std};
