@@ -122,7 +122,8 @@ impl File<'_> {
             if self.text(i) == "enum" && self.has(k, "# [ error (") {
                 let text = self.text(k + 4);
                 let of = format!("{name}::{}", self.text(self.after(k + 1)?));
-                arms += &format!("{}, ", arm(text, &of, &format!("(it) => write!(f, {text}, it)")));
+                let fields: String = (0..text.matches('{').count()).map(|n| format!("_{n}, ")).collect();
+                arms += &format!("{}, ", arm(text, &of, &format!("({fields}) => write!(f, {text}, {fields})")));
             }
         }
         if let Some(at) = self.code[..i].iter().rposition(|it| it.text == "#").filter(|at| self.has(*at, "# [ error ("))
