@@ -44,7 +44,7 @@ impl BufsMut for Builder {
 
 impl EncodeSize for IoBuf {
     fn encode_size(&self) -> usize {
-        self.encode_inline_size() + self.len()
+        self.encode_inline_size().checked_add(self.len()).expect("length overflow")
     }
 
     fn encode_inline_size(&self) -> usize {

@@ -1,9 +1,9 @@
-//! Values that are written and read: worked by hand, and what the original's tests say of a view as a value.
+//! Values that are written and read: the bytes of each by hand or by a plain model, where they are, and what an error
+//! leaves. `iobufs_wire_tests` has the tables of lengths, numbers and nested values.
 use bytes::Bytes;
-use iobufs::codec::{Decode, Encode, RangeCfg, Source, proved};
+use iobufs::codec::{ByParts, Decode, Encode, Input, RangeCfg, Written, proved};
 use iobufs::{Builder, Error, IoBuf, IoBufMut, IoBufs, IoBufsMut};
 use std::fmt::Debug;
-use std::ops::RangeInclusive;
 
 // A view as a value: it comes back, its bytes stay where they are in one chunk, and are copied once across chunks.
 #[test]
@@ -14,7 +14,7 @@ fn views_are_read_back() {
         assert_eq!(IoBuf::decode_cfg(encoded.clone(), &(..=10_000).into()).unwrap(), *body);
         let mut native = IoBuf::copy_from_slice(&encoded);
         let native_at = native[native.len() - body.len()..].as_ptr();
-        let mut sources = (IoBuf::from(encoded.clone()), IoBufs::from(encoded.clone()), in_bytes(&encoded));
+        let mut sources = (IoBuf::from(encoded.clone()), IoBufs::from(encoded.clone()), in_chunks(&encoded, 1));
         let read = [IoBuf::read_cfg(&mut sources.0, &(..).into()), IoBuf::read_cfg(&mut sources.1, &(..).into())];
         for view in read.map(Result::unwrap) {
             assert!(view == *body && (body.is_empty() || view.as_ptr() == at));
@@ -42,217 +42,85 @@ fn fields_stay_where_they_are() {
     assert_eq!(read, fields);
 }
 
-#[test]
-fn bytes_after_a_value() {
-    let text = IoBufs::from([IoBuf::from(b"\x01\x02"), IoBuf::from(b"\x03\x04\x05")]);
-    assert_eq!(u32::decode_cfg(text.clone(), &()), Err(Error::ExtraData(1)));
-    for n in 0..9 {
-        let bytes = IoBuf::copy_from_slice(&[7; 9][..n]);
-        let wanted = [Err(Error::EndOfBuffer), Ok(0x0707), Err(Error::ExtraData(n.saturating_sub(2)))]
-            [n.min(3).saturating_sub(1)];
-        assert_eq!([u16::decode_cfg(bytes.clone(), &()), u16::decode_cfg(in_bytes(&bytes), &())], [wanted; 2], "{n}");
-    }
-    let mut parts = IoBufsMut::from([IoBufMut::with_capacity(1), IoBufMut::with_capacity(3)]);
-    parts.put_u32(0x0102_0304);
-    assert_eq!(u32::decode_cfg(parts, &()), Ok(0x0102_0304));
-    assert_eq!(u64::decode_cfg(text, &()), Err(Error::EndOfBuffer));
+/// Returns these bytes in chunks of `size`.
+fn in_chunks(bytes: &[u8], size: usize) -> IoBufs {
+    bytes.chunks(size).map(IoBuf::copy_from_slice).collect()
 }
 
-/// Cut after each byte, so that every value is across chunks.
-fn in_bytes(bytes: &[u8]) -> IoBufs {
-    bytes.iter().map(|byte| IoBuf::copy_from_slice(&[*byte])).collect()
+/// Returns these bytes in a buffer of each kind, and in chunks of each size.
+fn sources(bytes: &[u8]) -> impl Iterator<Item = IoBufs> {
+    let whole = [IoBuf::copy_from_slice(bytes), Bytes::copy_from_slice(bytes).into()];
+    whole.map(IoBufs::from).into_iter().chain((1..bytes.len().min(9)).map(move |size| in_chunks(bytes, size)))
 }
 
-#[test]
-fn numbers_and_lengths() {
-    let bytes = *b"\x01\x02\x03\x04\x05\x06\x07\x08\x09\x0a\x0b\x0c\x0d\x0e\x0f\xac\x02";
-    fn read(buf: &mut impl Source) -> (u8, u16, u32, u64, usize) {
-        let numbers = (
-            u8::read_cfg(buf, &()).unwrap(),
-            u16::read_cfg(buf, &()).unwrap(),
-            u32::read_cfg(buf, &()).unwrap(),
-            u64::read_cfg(buf, &()).unwrap(),
-            usize::read_cfg(buf, &RangeCfg::exact(300)).unwrap(),
-        );
-        assert_eq!((buf.remaining(), u8::read_cfg(buf, &())), (0, Err(Error::EndOfBuffer)));
-        numbers
+/// Reads a value, which fails with this error and leaves the buffer as it was.
+fn assert_refused<T: Decode + PartialEq + Debug>(bytes: &[u8], cfg: &T::Cfg, wanted: &Error) {
+    let mut view = IoBuf::copy_from_slice(bytes);
+    assert_eq!((T::read_cfg(&mut view, cfg).as_ref(), view.as_ref()), (Err(wanted), bytes));
+    for mut source in sources(bytes) {
+        let before = source.clone();
+        let chunks = source.chunk_count();
+        assert_eq!((T::read_cfg(&mut source, cfg).as_ref(), source.chunk_count()), (Err(wanted), chunks), "{before:?}");
+        assert_eq!(source, before);
     }
-    let numbers = (1, 0x0203, 0x0405_0607, 0x0809_0a0b_0c0d_0e0f, 300);
-    assert_eq!(read(&mut IoBuf::copy_from_slice(&bytes)), numbers);
-    assert_eq!(read(&mut in_bytes(&bytes)), numbers);
+}
 
-    let mut buf = IoBufMut::with_capacity(17);
-    1u8.write(&mut buf);
-    0x0203u16.write(&mut buf);
-    0x0405_0607u32.write(&mut buf);
-    0x0809_0a0b_0c0d_0e0fu64.write(&mut buf);
-    300usize.write(&mut buf);
-    assert_eq!(buf, bytes);
-    assert_eq!((7u32.encode_size(), 127usize.encode_size(), 128usize.encode_size()), (4, 1, 2));
+/// Writes a value by each call, and reads it back from each buffer; a prefix of its bytes is no value.
+fn assert_value<T: Encode + Decode + PartialEq + Debug>(value: &T, cfg: &T::Cfg, bytes: &[u8]) {
+    let size = bytes.len();
+    assert_eq!((value.encode_size(), &value.encode()[..]), (size, bytes));
+    let (mut part, mut parts) = (IoBufMut::with_capacity(size), IoBufsMut::from([IoBufMut::with_capacity(size)]));
+    let (mut copied, mut pushed) = (Builder::new(size), Builder::new(value.encode_inline_size()));
+    value.write(&mut part);
+    value.write(&mut parts);
+    value.write(&mut copied);
+    value.write_bufs(&mut pushed);
+    assert_eq!(part.as_ref(), bytes);
+    for made in [parts.freeze(), copied.finish(), pushed.finish(), value.encode_iobufs()] {
+        assert_eq!(made, *bytes);
+    }
+
+    for mut source in sources(&[bytes, b"-"].concat()) {
+        assert_eq!(T::decode_cfg(source.clone(), cfg), Err(Error::ExtraData(1)));
+        assert_eq!((T::read_cfg(&mut source, cfg).as_ref(), source), (Ok(value), "-".into()));
+    }
+    assert_eq!(T::decode_cfg(part, cfg).as_ref(), Ok(value));
+    (0..size).for_each(|n| assert_refused::<T>(&bytes[..n], cfg, &Error::EndOfBuffer));
 }
 
 #[test]
-fn prefixes_of_a_view() {
-    let whole = IoBuf::from(IoBuf::from(vec![7; 300]).encode());
-    for n in 0..302 {
-        let mut view = whole.slice(..n);
-        let mut text = IoBufs::from([view.slice(..n / 2), view.slice(n / 2..)]);
-        assert_eq!(IoBuf::read_cfg(&mut view, &(..=1024).into()), Err(Error::EndOfBuffer), "{n}");
-        assert_eq!(IoBuf::read_cfg(&mut text, &(..=1024).into()), Err(Error::EndOfBuffer), "{n}");
-        assert_eq!((view.as_ref(), text.len()), (&whole.as_ref()[..n], n));
-    }
-    assert_eq!((whole.len(), IoBuf::read_cfg(&mut whole.clone(), &(..=1024).into()).unwrap().len()), (302, 300));
+fn values_of_each_type() {
+    assert_value(&-2i8, &(), b"\xfe");
+    assert_value(&-2i16, &(), b"\xff\xfe");
+    assert_value(&0x0102_0304i32, &(), b"\x01\x02\x03\x04");
+    assert_value(&i64::MIN, &(), b"\x80\0\0\0\0\0\0\0");
+    assert_value(&-1i128, &(), &[255; 16]);
+    assert_value(&"\u{fc}.".to_owned(), &(2..4).into(), b"\x03\xc3\xbc.");
+    assert_value(&Bytes::from_static(b"ab"), &(..3).into(), b"\x02ab");
+    assert_value(&IoBuf::from(b""), &(..).into(), b"\0");
+    assert_value(&vec![Some(7u16), None], &((..3).into(), ()), b"\x02\x01\0\x07\0");
+    assert_value(&vec!["a".to_owned(), "".into()], &((..3).into(), (..2).into()), b"\x02\x01a\0");
+    assert_value(&(300usize, [1u8, 2], true), &(RangeCfg::exact(300), (), ()), b"\xac\x02\x01\x02\x01");
 }
 
 #[test]
-fn refusals_change_nothing() {
-    let mut text = in_bytes(b"\x00\x00\x00");
-    assert_eq!(u32::read_cfg(&mut text, &()), Err(Error::EndOfBuffer));
-    assert_eq!(u64::read_cfg(&mut text, &()), Err(Error::EndOfBuffer));
-    assert_eq!((text.len(), text.try_get_u32().unwrap_err().available), (3, 3));
-    let mut text = in_bytes(b"\xac\x02");
-    assert_eq!(usize::read_cfg(&mut text, &(..300).into()), Err(Error::InvalidLength(300)));
-    assert_eq!(IoBuf::read_cfg(&mut text, &(301..).into()), Err(Error::InvalidLength(300)));
-    assert_eq!(IoBuf::read_cfg(&mut text, &(..).into()), Err(Error::EndOfBuffer));
-    assert_eq!(text.len(), 2);
-    let mut view = IoBuf::from(b"\x80\x00");
-    assert_eq!(IoBuf::read_cfg(&mut view, &(..).into()), Err(Error::InvalidVarint));
-    assert_eq!(view.len(), 2);
+fn bytes_that_are_no_value() {
+    let reason = Error::Invalid("String", "not UTF-8");
+    assert_refused::<String>(b"\x02\xc3-", &(..).into(), &reason);
+    assert_refused::<Vec<String>>(b"\x02\x01a\x01\xff", &((..).into(), (..).into()), &reason);
+    assert_refused::<Vec<bool>>(b"\x02\x01\x02", &((..).into(), ()), &Error::InvalidBool);
+    assert_refused::<Vec<u8>>(b"\x03abc", &((..3).into(), ()), &Error::InvalidLength(3));
+    assert_refused::<Bytes>(b"\xac\x02", &(..300).into(), &Error::InvalidLength(300));
+    assert_refused::<usize>(b"\xab\x02", &RangeCfg::exact(300), &Error::InvalidLength(299));
+    assert_refused::<usize>(b"\xad\x02", &RangeCfg::exact(300), &Error::InvalidLength(301));
+    assert_refused::<IoBuf>(b"\x80\0", &(..).into(), &Error::InvalidVarint);
+    assert_refused::<Event>(b"\x01\0\0\0\x07\x04abcd", &(), &Error::InvalidLength(4));
+    assert_refused::<Event>(b"\x08", &(), &Error::InvalidEnum(8));
+    assert_refused::<Even>(b"\0\x03", &(), &Error::Invalid("Even", "it is odd"));
 }
 
-const ANY: RangeInclusive<usize> = 0..=usize::MAX;
-
-const UP_TO_1024: RangeInclusive<usize> = 0..=1024;
-
-/// No length.
-const NONE: RangeInclusive<usize> = RangeInclusive::new(1, 0);
-
-const END: Error = Error::EndOfBuffer;
-
-const INVALID: Error = Error::InvalidVarint;
-
-/// Bytes, the lengths that are admitted, and what is read. A length takes all of the bytes, an error takes none.
-type Case = (&'static [u8], RangeInclusive<usize>, Result<usize, Error>);
-
-const LENGTHS: [Case; 14] = [
-    (b"\x00", ANY, Ok(0)),
-    (b"\xac\x02", ANY, Ok(300)),
-    (b"\xff\xff\xff\xff\xff\xff\xff\xff\xff\x01", ANY, Ok(usize::MAX)),
-    (b"", UP_TO_1024, Err(END)),
-    (b"\x00", UP_TO_1024, Ok(0)),
-    (b"\x00", NONE, Err(Error::InvalidLength(0))),
-    (b"\x80\x80\x80\x80\x80\x80\x80\x80\x80", UP_TO_1024, Err(END)),
-    (b"\x80\x80\x80\x80\x80\x80\x80\x80\x80\x01", UP_TO_1024, Err(Error::InvalidLength(1 << 63))),
-    (b"\x80\x80\x80\x80\x80\x80\x80\x80\x80\x01", ANY, Ok(1 << 63)),
-    (b"\x80\x80\x80\x80\x80\x80\x80\x80\x10", ANY, Ok(1 << 60)),
-    (b"\xff\xff\xff\xff\xff\xff\xff\xff\x7f", ANY, Ok((1 << 63) - 1)),
-    (b"\x80\x80\x80\x80\x80\x80\x80\x80\x80\x00", ANY, Err(INVALID)),
-    (b"\xff\xff\xff\xff\xff\xff\xff\xff\xff\x7f", ANY, Err(INVALID)),
-    (b"\xff\xff\xff\xff\xff\xff\xff\xff\xff\xff", ANY, Err(INVALID)),
-];
-
-/// A value is read that takes this many bytes, or an error changes nothing.
-fn assert_read<T: Decode + PartialEq + Debug, B: Source + Clone + PartialEq + Debug>(
-    mut buf: B,
-    cfg: &T::Cfg,
-    wanted: &Result<T, Error>,
-    taken: usize,
-) {
-    let before = buf.clone();
-    assert_eq!(&T::read_cfg(&mut buf, cfg), wanted, "{before:?}");
-    match wanted {
-        Ok(_) => assert_eq!(buf.remaining(), before.remaining() - taken),
-        Err(_) => assert_eq!(buf, before),
-    }
-}
-
-#[test]
-fn lengths_are_read() {
-    for (bytes, range, wanted) in LENGTHS {
-        let cfg = range.into();
-        assert_read(IoBuf::from(bytes), &cfg, &wanted, bytes.len());
-        assert_read(IoBufs::from(bytes), &cfg, &wanted, bytes.len());
-        assert_read(in_bytes(bytes), &cfg, &wanted, bytes.len());
-    }
-}
-
-#[test]
-fn prefixes_of_a_number() {
-    let whole = b"\x01\x02\x03\x04\x05\x06\x07\x08";
-    for n in 0..8 {
-        assert_read::<u64, _>(in_bytes(&whole[..n]), &(), &Err(END), 0);
-    }
-    assert_read(in_bytes(whole), &(), &Ok(0x0102_0304_0506_0708u64), 8);
-}
-
-/// A small generator of numbers, the same in every run.
-struct Generator(u64);
-
-impl Generator {
-    fn below(&mut self, limit: u64) -> u64 {
-        self.0 = self.0.wrapping_mul(6364136223846793005).wrapping_add(1442695040888963407);
-        (self.0 >> 32) % limit
-    }
-
-    /// A number near a power of 128, or any.
-    fn length(&mut self) -> u64 {
-        let power = 128u64.wrapping_pow(self.below(10) as u32);
-        match self.below(3) {
-            0 => self.below(40),
-            1 => power.wrapping_sub(1).wrapping_add(self.below(3)),
-            _ => power.wrapping_mul(self.below(128)),
-        }
-    }
-
-    /// A varint, perhaps one that is too long or not whole, and some bytes after it.
-    fn bytes(&mut self) -> Vec<u8> {
-        let (mut bytes, mut rest) = (Vec::new(), self.length());
-        while rest >= 128 && bytes.len() < 9 {
-            bytes.push(128 | rest as u8);
-            rest /= 128;
-        }
-        match self.below(8) {
-            0 => {}
-            1 => bytes.extend([128 | rest as u8, self.below(3) as u8]),
-            _ => bytes.push(rest as u8),
-        }
-        bytes.extend((0..self.below(40)).map(|_| self.below(256) as u8));
-        bytes
-    }
-}
-
-/// The bytes after a length in a range, and how many the length takes, by the rules of varints.
-fn plain(bytes: &[u8], range: RangeInclusive<usize>) -> Result<(&[u8], usize), Error> {
-    let end = bytes.iter().take(10).position(|byte| *byte < 128);
-    let end = end.ok_or(if bytes.len() < 10 { END } else { INVALID })?;
-    if (end > 0 && bytes[end] == 0) || (end == 9 && bytes[end] > 1) {
-        return Err(INVALID);
-    }
-    let n = bytes[..=end].iter().rev().fold(0, |n, byte| n << 7 | usize::from(byte & 127));
-    if !range.contains(&n) {
-        return Err(Error::InvalidLength(n));
-    }
-    Ok((bytes[end + 1..].get(..n).ok_or(END)?, end + 1))
-}
-
-#[test]
-fn generated_bytes_are_read_by_the_rules() {
-    let mut generator = Generator(20261122);
-    for i in 0..10_000 {
-        let range = [UP_TO_1024, 2..=19, ANY][i % 3].clone();
-        let bytes = generator.bytes();
-        let found = plain(&bytes, range.clone());
-        let taken = found.as_ref().map_or(0, |(body, length)| body.len() + length);
-        let (cfg, wanted) = (range.into(), found.map(|(body, _)| IoBuf::copy_from_slice(body)));
-        let view = IoBuf::copy_from_slice(&bytes);
-        let pieces: IoBufs = (0..bytes.len()).map(|i| view.slice(i..=i)).collect();
-        assert_read(pieces, &cfg, &wanted, taken);
-        assert_read(IoBufs::from(view.clone()), &cfg, &wanted, taken);
-        assert_read(view, &cfg, &wanted, taken);
-    }
-}
-
-/// A value of a caller: a view between a number and a byte.
+/// Types of a caller.
+#[derive(Debug, PartialEq)]
 struct Shard {
     index: u16,
     body: IoBuf,
@@ -261,40 +129,6 @@ struct Shard {
 
 iobufs::fields! { Shard { index: u16, body: IoBuf = ..=200, last: u8 } }
 
-#[test]
-fn a_view_is_pushed_and_shared() {
-    let body = IoBuf::from(vec![5; 200]);
-    let shard = Shard { index: 0x0102, body, last: 9 };
-    let mut text = shard.encode_iobufs();
-    assert_eq!((text.len(), text.chunk_count()), (205, 3));
-    assert_eq!(text.chunk_at(1).unwrap().as_ptr(), shard.body.as_ptr());
-    assert_eq!(text, IoBufs::from(shard.encode()));
-    let read = Shard::read_cfg(&mut text, &()).unwrap();
-    assert_eq!((read.index, &read.body, read.last), (0x0102, &shard.body, 9));
-    assert_eq!(read.body.as_ptr(), shard.body.as_ptr());
-}
-
-/// Reads a shard, and returns what is left: all of it if that fails.
-fn read_shard<B: Source + Clone + PartialEq + Debug>(mut buf: B, wanted: &Result<u16, Error>) -> usize {
-    let before = buf.clone();
-    assert_eq!(Shard::read_cfg(&mut buf, &()).map(|shard| shard.index), *wanted);
-    assert!(wanted.is_ok() || buf == before);
-    buf.remaining()
-}
-
-#[test]
-fn values_are_read_whole() {
-    let all = b"\x01\x02\x05hello\x09-".as_slice();
-    for n in 0..=all.len() {
-        let (wanted, left) = if n < 9 { (Err(END), n) } else { (Ok(0x0102), n - 9) };
-        assert_eq!(read_shard(IoBuf::copy_from_slice(&all[..n]), &wanted), left, "{n}");
-        assert_eq!(read_shard(in_bytes(&all[..n]), &wanted), left, "{n}");
-    }
-    let long = [b"\x01\x02\xc9\x01", &[0; 202][..]].concat();
-    assert_eq!(read_shard(in_bytes(&long), &Err(Error::InvalidLength(201))), 206);
-}
-
-/// Whatever comes, a value that isn't read leaves its bytes, wherever they are cut.
 #[derive(Debug, PartialEq)]
 enum Event {
     Put(u32, IoBuf),
@@ -306,30 +140,93 @@ iobufs::kinds! {
     Event { 1 => Put(key: u32, body: IoBuf = ..=3), 2 => Shift(by: i16, is_up: Option<bool>, mark: [u8; 2]), 9 => Flush }
 }
 
-#[test]
-fn kinds_are_read_back() {
-    type Case = (Event, &'static [u8], Error);
-    let cases: [Case; 3] = [
-        (Event::Put(7, b"abc".into()), b"\x01\0\0\0\x07\x03abc", Error::InvalidLength(4)),
-        (Event::Shift(-2, Some(true), [5, 6]), b"\x02\xff\xfe\x01\x01\x05\x06", Error::InvalidBool),
-        (Event::Flush, b"\x09", Error::InvalidEnum(8)),
-    ];
-    for (event, bytes, wanted) in cases {
-        assert_eq!((event.encode(), event.encode_size()), (bytes.to_vec().into(), bytes.len()));
-        for n in 0..bytes.len() {
-            let mut cut = in_bytes(&bytes[..n]);
-            assert_eq!((Event::read_cfg(&mut cut, &()), cut.len()), (Err(END), n));
-        }
-        let mut wrong = bytes.to_vec();
-        match wanted {
-            Error::InvalidLength(n) => wrong[5] = n as u8,
-            Error::InvalidBool => wrong[4] = 2,
-            _ => wrong[0] = 8,
-        }
-        let mut wrong = in_bytes(&wrong);
-        assert_eq!((Event::read_cfg(&mut wrong, &()), wrong.len()), (Err(wanted), bytes.len()));
-        assert_eq!(Event::decode_cfg(in_bytes(bytes), &()), Ok(event));
+#[derive(Debug, PartialEq)]
+struct Even(u16);
+
+impl ByParts for Even {
+    type Parts = u16;
+    type Cfg = ();
+
+    fn cfg(_: &()) {}
+
+    fn from_parts(n: u16) -> Result<Self, Error> {
+        if n % 2 == 0 { Ok(Even(n)) } else { Err(Error::Invalid("Even", "it is odd")) }
     }
+
+    fn parts(&self) -> impl Written {
+        self.0
+    }
+}
+
+iobufs::by_parts! { Even }
+
+/// A small generator of numbers, the same in every run.
+struct Generator(u64);
+
+impl Generator {
+    fn below(&mut self, limit: u64) -> u64 {
+        self.0 = self.0.wrapping_mul(6364136223846793005).wrapping_add(1442695040888963407);
+        (self.0 >> 32) % limit
+    }
+
+    /// A view of at most `most` bytes.
+    fn view(&mut self, most: u64) -> IoBuf {
+        (0..self.below(most + 1)).map(|_| self.below(256) as u8).collect::<Vec<_>>().into()
+    }
+
+    /// An event and its bytes.
+    fn event(&mut self) -> (Event, Vec<u8>) {
+        match self.below(3) {
+            0 => {
+                let (key, body) = (self.below(1 << 32) as u32, self.view(3));
+                let bytes = [&[1], &key.to_be_bytes()[..], &[body.len() as u8], body.as_ref()].concat();
+                (Event::Put(key, body), bytes)
+            }
+            1 => {
+                let (by, n) = (self.below(1 << 16) as i16, self.below(3) as u8);
+                let is_up = [None, Some(false), Some(true)][usize::from(n)];
+                let is_up_bytes = [&b"\0"[..], b"\x01\0", b"\x01\x01"][usize::from(n)];
+                let bytes = [&[2], &by.to_be_bytes()[..], is_up_bytes, &[n, 7]].concat();
+                (Event::Shift(by, is_up, [n, 7]), bytes)
+            }
+            _ => (Event::Flush, vec![9]),
+        }
+    }
+}
+
+#[test]
+fn drawn_values() {
+    let mut drawn = Generator(20261130);
+    for _ in 0..200 {
+        let (events, bytes): (Vec<_>, Vec<_>) = (0..drawn.below(5)).map(|_| drawn.event()).unzip();
+        let (body, last) = (drawn.view(20), drawn.below(256) as u8);
+        let shard = [&[0, last, body.len() as u8], body.as_ref(), &[last]].concat();
+        let bytes = [&[events.len() as u8], &bytes.concat()[..], &shard].concat();
+        let value = (events, Shard { index: u16::from(last), body, last });
+        assert_value(&value, &(((..5).into(), ()), ()), &bytes);
+    }
+}
+
+#[test]
+fn a_view_is_pushed_and_shared() {
+    let shard = Shard { index: 0x0102, body: vec![5; 200].into(), last: 9 };
+    let mut bufs = shard.encode_iobufs();
+    assert_eq!((bufs.len(), bufs.chunk_count(), shard.encode_inline_size()), (205, 3, 5));
+    assert_eq!(bufs.chunk_at(1).unwrap().as_ptr(), shard.body.as_ptr());
+    let read = Shard::read_cfg(&mut bufs, &()).unwrap();
+    assert_eq!((read.body.as_ptr(), read), (shard.body.as_ptr(), shard));
+}
+
+#[test]
+fn writable_buffers_are_read() {
+    fn read(from: impl Input) -> Result<u32, Error> {
+        u32::decode_cfg(from, &())
+    }
+    let mut parts = IoBufsMut::from([IoBufMut::with_capacity(1), IoBufMut::with_capacity(3)]);
+    parts.put_u32(0x0102_0304);
+    let part = IoBufMut::from(b"\x01\x02\x03\x04");
+    let bytes = bytes::BytesMut::from(part.as_ref());
+    assert_eq!([read(parts), read(part), read(bytes)], [const { Ok(0x0102_0304) }; 3]);
 }
 
 #[test]
