@@ -27,6 +27,7 @@ def words():
     for text in [*texts().values(), *of_kit]:
         found.update(WORD.findall(text))
     others = [*(ROOT / "tests").rglob("*"), *(ROOT / "bindings").rglob("*"), *(ROOT / "bench").iterdir()]
+    others += [file for file in (ROOT / "rust").rglob("*.rs") if "target" not in file.parts]
     for file in [*others, *CRATES.glob("*/stdout"), ROOT / "crates.txt", ROOT / "HANDLES"]:
         is_ours = file.name == "docs" or "pages" in file.relative_to(ROOT).parts
         if file.is_file() and file.suffix != ".md" and not is_ours:

@@ -22,8 +22,8 @@ RULES = [
     ("word of place", 2, PLACE),
     ("figure in prose", 4, re.compile(r"(?<![\w`^.\-])\d+[.,]\d+(?![\w`.])")),  # 0.65
 ]
-# Words that a sentence may have, and words of README and of all pages, without what is generated.
-LONGEST, MOST = 40, {"README.md": 1100, "all": 15000}
+# Words that a sentence may have, and words of README, without what is generated.
+LONGEST, MOST = 40, {"README.md": 1100}
 SCRIPTS = "bindings costs docs program refuse rust trusted try_mutants *.py pages/*.py ../bench/compare"
 # How many columns a line may have, and how many have more.
 LONG = {
@@ -65,7 +65,6 @@ def faults_of_length():
     """Pages with more words than they may have. One that is near its limit is told."""
     pages = [page for page in PAGES if page.name != "RESULTS.md"]
     words = {str(page.relative_to(ROOT)): len(MARKED.sub("", page.read_text()).split()) for page in pages}
-    words["all"] = sum(words.values())
     for name, most in MOST.items():
         if words[name] > most:
             yield f"{name} has {words[name]} words, more than {most}"

@@ -5,7 +5,8 @@ from functools import cache
 import common
 from common import CRATES, TOP as ROOT
 
-PAGES = [ROOT / "README.md", *sorted((ROOT / "docs").glob("*.md")), *sorted((ROOT / "bench").glob("*.md"))]
+PAGES = [ROOT / it for it in ("README.md", "rust/iobufs/README.md")]
+PAGES += [page for folder in ("docs", "bench") for page in sorted((ROOT / folder).glob("*.md"))]
 # A generated part of a page: <!-- generated: crates -->\n..\n<!-- end -->
 MARKED = re.compile(r"<!-- generated: ([^>]*) -->\n(.*?)<!-- end -->", re.S)
 BLOCK = re.compile(r"^```\w*\n(.*?)^```$", re.M | re.S)  # A block of code: ```rust\n..\n```
