@@ -1,8 +1,6 @@
 //! Calls that several buffers have.
 #![forbid(unsafe_code)]
 use crate::{IoBuf, IoBufMut, IoBufs};
-use std::cmp::Ordering;
-use std::fmt;
 use std::ops::{Bound, RangeBounds};
 
 /// Returns the start and the end of a range, the length if it has no end.
@@ -29,57 +27,12 @@ pub(crate) fn outside(lo: usize, hi: usize) -> ! {
     panic!("{}", if lo > hi { "slice start must be <= end" } else { "slice out of bounds" })
 }
 
-/// Compares the bytes of two lists of chunks, for every chunking, without a copy.
-pub(crate) fn compare<'a>(
-    mut ours: impl Iterator<Item = &'a [u8]>,
-    mut theirs: impl Iterator<Item = &'a [u8]>,
-) -> Ordering {
-    let (mut a, mut b): (&[u8], &[u8]) = (&[], &[]);
-    loop {
-        if a.is_empty() {
-            a = ours.next().unwrap_or_default();
-        }
-        if b.is_empty() {
-            b = theirs.next().unwrap_or_default();
-        }
-        let n = a.len().min(b.len());
-        if n == 0 {
-            return a.len().cmp(&b.len());
-        }
-        let (front, other) = (&a[..n], &b[..n]);
-        if front != other {
-            return front.cmp(other);
-        }
-        (a, b) = (&a[n..], &b[n..]);
-    }
-}
-
-/// How many bytes `Debug` shows.
-const SHOWN: usize = 64;
-
-/// Shows bytes as a literal, `b"ab\n"`, as `bytes` does, and after the first of many how many there are.
-pub(crate) fn show<'a>(f: &mut fmt::Formatter<'_>, len: usize, chunks: impl Iterator<Item = &'a [u8]>) -> fmt::Result {
-    f.write_str("b\"")?;
-    for byte in chunks.flatten().take(SHOWN) {
-        match byte {
-            0 => f.write_str("\\0")?,
-            b'\'' => f.write_str("'")?,
-            _ => write!(f, "{}", byte.escape_ascii())?,
-        }
-    }
-    f.write_str("\"")?;
-    match len {
-        0..=SHOWN => Ok(()),
-        _ => write!(f, ".. ({len} bytes)"),
-    }
-}
-
-/// `Debug` and hexadecimal digits of a buffer's bytes.
+/// `Debug`, which shows no byte, and hexadecimal digits of a buffer's bytes.
 macro_rules! shown {
-    ($buffer:ident) => {
+    ($buffer:ident, $($field:ident: $value:ident),*) => {
         impl std::fmt::Debug for $buffer {
             fn fmt(&self, f: &mut std::fmt::Formatter<'_>) -> std::fmt::Result {
-                crate::calls::show(f, self.len(), self.each_chunk())
+                f.debug_struct(stringify!($buffer))$(.field(stringify!($field), &self.$value()))*.finish()
             }
         }
 

@@ -39,9 +39,6 @@
 //!   name.
 //! - An aligned buffer begins after a gap in a larger block.
 //! - A `Vec` of a view has the view's storage, if nothing else shares it; the original copies.
-//!
-//! A view has interior mutability, which clippy reports at a `HashMap<IoBuf, _>`: its hash and order are those of the
-//! bytes, which never change. `ignore-interior-mutability = ["iobufs::IoBuf"]` in `clippy.toml` says so.
 #![deny(unsafe_code)]
 #![warn(missing_docs)]
 

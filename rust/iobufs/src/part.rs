@@ -168,7 +168,7 @@ impl AsMut<[u8]> for IoBufMut {
 
 derefs!(IoBufMut);
 equals_bytes!(IoBufMut);
-shown!(IoBufMut);
+shown!(IoBufMut, len: len, cap: capacity);
 
 impl std::ops::DerefMut for IoBufMut {
     #[inline]

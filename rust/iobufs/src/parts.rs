@@ -124,7 +124,7 @@ impl Default for IoBufsMut {
     }
 }
 
-shown!(IoBufsMut);
+shown!(IoBufsMut, len: len, cap: capacity);
 
 impl From<IoBufMut> for IoBufsMut {
     #[inline]

@@ -1,6 +1,6 @@
 //! `IoBufs` and `Frames`.
 #![forbid(unsafe_code)]
-use crate::calls::{bounds, compare, equals_bytes, gets, outside, reads, shown};
+use crate::calls::{bounds, equals_bytes, gets, outside, reads, shown};
 use crate::error::{fault, made, shared};
 use crate::io::Honest;
 use crate::kit::{Clone as _, Global};
@@ -8,8 +8,6 @@ use crate::proved::iobufs_core::codec as core;
 use crate::proved::{iobufs as inner, iobufs_frames};
 use crate::{Error, IoBuf, IoBufMut};
 use bytes::{Bytes, BytesMut};
-use std::cmp::Ordering;
-use std::hash::{Hash, Hasher};
 use std::io::{self, IoSlice, Write};
 use std::mem;
 use std::ops::RangeBounds;
@@ -226,28 +224,7 @@ impl PartialEq for IoBufs {
 
 impl Eq for IoBufs {}
 equals_bytes!(IoBufs);
-shown!(IoBufs);
-
-impl PartialOrd for IoBufs {
-    fn partial_cmp(&self, other: &Self) -> Option<Ordering> {
-        Some(self.cmp(other))
-    }
-}
-
-/// The order of the bytes.
-impl Ord for IoBufs {
-    fn cmp(&self, other: &Self) -> Ordering {
-        compare(self.chunks(), other.chunks())
-    }
-}
-
-/// One hash for every chunking, so it takes the bytes one by one.
-impl Hash for IoBufs {
-    fn hash<H: Hasher>(&self, state: &mut H) {
-        state.write_usize(self.len());
-        self.chunks().flatten().for_each(|byte| state.write_u8(*byte));
-    }
-}
+shown!(IoBufs, len: len, chunks: chunk_count);
 
 impl From<IoBuf> for IoBufs {
     #[inline]

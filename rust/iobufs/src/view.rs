@@ -7,9 +7,6 @@ use crate::kit::{self, Clone as _, Global};
 use crate::proved::iobufs_core::{self as inner, codec as core};
 use crate::traits::vec_of;
 use bytes::Bytes;
-use std::borrow::Borrow;
-use std::cmp::Ordering;
-use std::hash::{Hash, Hasher};
 use std::mem;
 use std::ops::{Bound, RangeBounds};
 
@@ -19,6 +16,30 @@ use std::ops::{Bound, RangeBounds};
 /// let mut view = iobufs::IoBuf::from(vec![1, 2, 3]);
 /// assert_eq!(view.split_to(1), [1]);
 /// assert_eq!(view.slice(1..), [3]);
+/// ```
+///
+/// A buffer has no order and no hash, as in the original. A key of a map says which it has:
+///
+/// ```
+/// use std::{borrow::Borrow, collections::HashMap, hash::{Hash, Hasher}};
+///
+/// #[derive(PartialEq, Eq)]
+/// struct Key(iobufs::IoBuf);
+///
+/// impl Hash for Key {
+///     fn hash<H: Hasher>(&self, state: &mut H) {
+///         self.0.as_ref().hash(state);
+///     }
+/// }
+///
+/// impl Borrow<[u8]> for Key {
+///     fn borrow(&self) -> &[u8] {
+///         self.0.as_ref()
+///     }
+/// }
+///
+/// let numbers = HashMap::from([(Key("one".into()), 1)]);
+/// assert_eq!(numbers.get(&b"one"[..]), Some(&1));
 /// ```
 #[derive(Default)]
 #[repr(transparent)]
@@ -145,32 +166,7 @@ impl AsRef<[u8]> for IoBuf {
 
 derefs!(IoBuf);
 equals_bytes!(IoBuf);
-shown!(IoBuf);
-
-impl PartialOrd for IoBuf {
-    fn partial_cmp(&self, other: &Self) -> Option<Ordering> {
-        Some(self.cmp(other))
-    }
-}
-
-impl Ord for IoBuf {
-    fn cmp(&self, other: &Self) -> Ordering {
-        self.as_ref().cmp(other.as_ref())
-    }
-}
-
-impl Hash for IoBuf {
-    fn hash<H: Hasher>(&self, state: &mut H) {
-        self.as_ref().hash(state);
-    }
-}
-
-/// A view equals its bytes, is ordered as they are, and has their hash.
-impl Borrow<[u8]> for IoBuf {
-    fn borrow(&self) -> &[u8] {
-        self.as_ref()
-    }
-}
+shown!(IoBuf, len: len);
 
 impl From<&'static [u8]> for IoBuf {
     fn from(bytes: &'static [u8]) -> Self {

@@ -40,31 +40,26 @@ fn buffers_equal_bytes_and_each_other() {
 }
 
 #[test]
-fn debug_shows_bytes() {
-    let bufs: IoBufs = ["a\"", "\n\u{e9}"].into_iter().collect();
-    let parts = IoBufsMut::from([IoBufMut::from(b"x"), IoBufMut::from(b"y")]);
-    let long = IoBuf::from(vec![b'z'; 65]);
+fn debug_shows_lengths() {
+    let bufs: IoBufs = ["a\"", "\n\u{e9}"].into_iter().map(IoBuf::from).collect();
+    let parts = IoBufsMut::from([IoBufMut::from(b"x"), IoBufMut::with_capacity(2)]);
+    let mut part = IoBufMut::with_capacity(8);
+    part.put_slice(b"key");
     let cases: [(&dyn Debug, &str); 6] = [
-        (&IoBuf::from("ab\n"), r#"b"ab\n""#),
-        (&IoBuf::new(), r#"b"""#),
-        (&IoBufMut::from(b"\x00'\x01"), r#"b"\0'\x01""#),
-        (&bufs, r#"b"a\"\n\xc3\xa9""#),
-        (&parts, r#"b"xy""#),
-        (&long, &format!("b\"{}\".. (65 bytes)", "z".repeat(64))),
+        (&IoBuf::from("ab\n"), "IoBuf { len: 3 }"),
+        (&IoBuf::new(), "IoBuf { len: 0 }"),
+        (&part, "IoBufMut { len: 3, cap: 8 }"),
+        (&bufs, "IoBufs { len: 5, chunks: 2 }"),
+        (&parts, "IoBufsMut { len: 1, cap: 3 }"),
+        (&Some(IoBuf::from("a")), "Some(IoBuf { len: 1 })"),
     ];
     for (value, shown) in cases {
         assert_eq!(format!("{value:?}"), shown);
     }
-    let all: Vec<u8> = (0..=255).collect();
-    for bytes in all.chunks(64) {
-        assert_eq!(
-            format!("{:?}", IoBuf::copy_from_slice(bytes)),
-            format!("{:?}", bytes::Bytes::copy_from_slice(bytes))
-        );
-    }
+    assert_eq!(format!("{part:#?}"), "IoBufMut {\n    len: 3,\n    cap: 8,\n}");
     assert_eq!(
-        (format!("{bufs:x}"), format!("{parts:X}"), format!("{:X}", IoBuf::from("\u{e9}"))),
-        ("61220ac3a9".into(), "7879".into(), "C3A9".into())
+        (format!("{bufs:x}"), format!("{part:X}"), format!("{:X}", IoBuf::from("\u{e9}"))),
+        ("61220ac3a9".into(), "6B6579".into(), "C3A9".into())
     );
 }
 

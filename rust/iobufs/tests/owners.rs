@@ -6,7 +6,6 @@ use iobufs::codec::proved::{BufMut, BufsMut, EncodeSize, Error, Write};
 use iobufs::{Builder, Frames, IoBuf, IoBufMut, IoBufs};
 use std::cell::Cell;
 use std::collections::BTreeMap;
-use std::hash::{Hash, Hasher};
 use std::ops::{Bound, Range, RangeBounds};
 use std::panic::{AssertUnwindSafe, catch_unwind, panic_any, set_hook, take_hook};
 use std::sync::{Arc, Mutex, Once};
@@ -120,16 +119,6 @@ impl RangeBounds<usize> for Foreign<Range<usize>> {
     fn end_bound(&self) -> Bound<&usize> {
         burn();
         self.0.end_bound()
-    }
-}
-
-impl Hasher for Foreign<()> {
-    fn write(&mut self, _: &[u8]) {
-        burn();
-    }
-
-    fn finish(&self) -> u64 {
-        0
     }
 }
 
@@ -652,7 +641,6 @@ impl World {
                 let mut copy = Vec::new();
                 self.tried(|world| world.texts[t].0.for_each_chunk(|chunk| (burn(), copy.extend_from_slice(chunk)).1));
                 assert!(self.texts[t].1.starts_with(&copy));
-                self.tried(|world| world.texts[t].0.hash(&mut Foreign(())));
             }
             10 => {
                 let chunks = self.texts[t].0.chunks().map(IoBuf::copy_from_slice);
