@@ -336,10 +336,7 @@ fn workloads() -> Vec<Workload> {
             mark(text.chunk())
         };
         add(format!("text{n}_advance100"), Box::new(move || drained(n, 100, advance, 1)));
-        add(
-            format!("text{n}_take300"),
-            Box::new(move || drained(n, 300, |text| mark(text.take_owned(300).chunk()), 0)),
-        );
+        add(format!("text{n}_take300"), Box::new(move || drained(n, 300, |text| mark(text.take_view(300).chunk()), 0)));
         add(
             format!("text{n}_split1000"),
             Box::new(move || drained(n, 1000, |text| mark(text.split_to(1000).chunk()), 0)),

@@ -40,7 +40,7 @@ impl<W: io::Write> Sender<W> {
         self.unsent.append(head.freeze());
         while body.has_remaining() {
             let len = body.chunk().len();
-            self.unsent.append(body.take_owned(len));
+            self.unsent.append(body.take_view(len));
         }
     }
 

@@ -20,6 +20,13 @@ pub(crate) fn bounds(range: impl RangeBounds<usize>, len: impl FnOnce() -> usize
     (lo, hi)
 }
 
+/// Panics as the original does at a split past the end.
+#[cold]
+#[track_caller]
+pub(crate) fn split_outside(at: usize, len: usize) -> ! {
+    panic!("split_to out of bounds: {at} <= {len}")
+}
+
 /// Panics as the original does at a range that isn't within the bytes.
 #[cold]
 #[track_caller]
@@ -125,12 +132,12 @@ macro_rules! derefs {
 }
 pub(crate) use derefs;
 
-/// Puts at the end: for writable buffers and a builder.
+/// Puts at the end: for writable buffers and a builder, which panic by a function of what is asked and what fits.
 macro_rules! puts {
-    () => {
-        crate::calls::puts! { u16, put_u16; u32, put_u32; u64, put_u64; }
+    ($past:path) => {
+        crate::calls::puts! { $past, u16, put_u16; u32, put_u32; u64, put_u64; }
     };
-    ($($number:ty, $put:ident;)*) => {
+    ($past:path, $($number:ty, $put:ident;)*) => {
         /// Returns how many bytes may still be put (`BufMut`).
         #[inline]
         pub fn remaining_mut(&self) -> usize {
@@ -141,7 +148,9 @@ macro_rules! puts {
         #[inline]
         #[track_caller]
         pub fn put_slice(&mut self, src: &[u8]) {
-            assert!(self.try_put(src), "{}", crate::error::PAST);
+            if !self.try_put(src) {
+                $past(src.len(), self.remaining_mut());
+            }
         }
 
         /// Puts bytes, and returns whether they fit; otherwise nothing changes.
@@ -154,7 +163,9 @@ macro_rules! puts {
         #[inline]
         #[track_caller]
         pub fn put_bytes(&mut self, value: u8, n: usize) {
-            assert!(core::BufMut::try_put_bytes(&mut self.0, value, n), "{}", crate::error::PAST);
+            if !core::BufMut::try_put_bytes(&mut self.0, value, n) {
+                $past(n, self.remaining_mut());
+            }
         }
 
         /// Puts a length as a varint. Panics if it doesn't fit (`usize::write`).
@@ -183,9 +194,9 @@ macro_rules! puts {
 }
 pub(crate) use puts;
 
-/// Reads from the front: for every buffer but a builder.
+/// Reads from the front: for every buffer but a builder. A copy of more bytes than there are panics by a function.
 macro_rules! reads {
-    () => {
+    ($short:path) => {
         /// Returns how many bytes are left (`Buf`).
         #[inline]
         pub fn remaining(&self) -> usize {
@@ -215,7 +226,9 @@ macro_rules! reads {
         #[inline]
         #[track_caller]
         pub fn copy_to_slice(&mut self, dst: &mut [u8]) {
-            assert!(self.try_copy_to_slice(dst).is_ok(), "{}", crate::error::SHORT);
+            if let Err(error) = self.try_copy_to_slice(dst) {
+                $short(error);
+            }
         }
 
         /// Acts as `copy_to_slice`, if there are enough bytes; else nothing changes, and the error has both lengths
@@ -240,18 +253,18 @@ macro_rules! gets {
     };
     ($($number:ty, $get:ident, $try_get:ident;)*) => {
         /// Takes the first `n` bytes as one view: shared within a chunk, copied across chunks. Panics if there are
-        /// fewer (`Buf`).
+        /// fewer.
         #[inline]
         #[track_caller]
-        pub fn take_owned(&mut self, n: usize) -> IoBuf {
+        pub fn take_view(&mut self, n: usize) -> IoBuf {
             self.taken(n, "take_owned out of bounds")
         }
 
-        /// Takes the first `n` bytes, as `take_owned` does. Panics if there are fewer (`Buf`).
+        /// Takes the first `n` bytes, as `take_view` does, as a `T`. Panics if there are fewer (`Buf`).
         #[inline]
         #[track_caller]
-        pub fn copy_to_bytes(&mut self, n: usize) -> bytes::Bytes {
-            self.taken(n, "copy_to_bytes out of bounds").into()
+        pub fn take_owned<T: From<IoBuf>>(&mut self, n: usize) -> T {
+            self.take_view(n).into()
         }
 
         #[inline]
@@ -271,9 +284,7 @@ macro_rules! gets {
             pub fn $get(&mut self) -> $number {
                 match self.$try_get() {
                     Ok(n) => n,
-                    Err(crate::TryGetError { requested, available }) => {
-                        panic!("advance out of bounds: the len is {available} but advancing by {requested}")
-                    }
+                    Err(error) => crate::error::past(error.requested, error.available),
                 }
             }
 

@@ -17,13 +17,13 @@ fn owned<T: OwnedBytes>(view: IoBuf) -> T {
 
 impl Buf for IoBuf {
     fn take_owned<T: OwnedBytes>(&mut self, n: usize) -> T {
-        owned(IoBuf::take_owned(self, n))
+        owned(IoBuf::take_view(self, n))
     }
 }
 
 impl Buf for IoBufs {
     fn take_owned<T: OwnedBytes>(&mut self, n: usize) -> T {
-        owned(IoBufs::take_owned(self, n))
+        owned(IoBufs::take_view(self, n))
     }
 }
 
@@ -37,8 +37,7 @@ impl Input for IoBufsMut {
 
 impl BufsMut for Builder {
     fn push(&mut self, chunk: impl Into<Bytes> + 'static) {
-        let view = <IoBuf as OwnedBytes>::claim(chunk);
-        Builder::push(self, view.unwrap_or_else(|chunk| IoBuf::from(chunk.into())));
+        Builder::push(self, chunk);
     }
 }
 

@@ -6,8 +6,6 @@ use std::{fmt, process};
 
 /// The original's message for bytes that don't fit, or aren't there.
 pub(crate) const PAST: &str = "cannot advance past end of buffer";
-/// Its message for a destination that is longer than the bytes.
-pub(crate) const SHORT: &str = "Not enough bytes remaining in buffer";
 /// Its message for a size that no allocation has.
 pub(crate) const LAYOUT: &str = "alignment must be a power of two and the size must fit a layout";
 
@@ -62,6 +60,34 @@ impl fmt::Display for AllocError {
 impl std::error::Error for AllocError {}
 
 pub use bytes::TryGetError;
+
+/// Panics as the traits of `bytes` do if a call needs more bytes than there are.
+#[cold]
+#[track_caller]
+pub(crate) fn past(requested: usize, available: usize) -> ! {
+    panic!("advance out of bounds: the len is {available} but advancing by {requested}")
+}
+
+/// Panics as the original does if a buffer in one chunk has fewer bytes than a copy.
+#[cold]
+#[track_caller]
+pub(crate) fn too_short(error: TryGetError) -> ! {
+    panic!("{error}")
+}
+
+/// Panics as it does if there are several chunks.
+#[cold]
+#[track_caller]
+pub(crate) fn short_chunks(error: TryGetError) -> ! {
+    past(error.requested, error.available)
+}
+
+/// Panics as the original's writable buffer does if it hasn't the space.
+#[cold]
+#[track_caller]
+pub(crate) fn full(_: usize, _: usize) -> ! {
+    panic!("{PAST}")
+}
 
 /// The error of a read past the end.
 #[inline]

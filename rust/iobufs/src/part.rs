@@ -104,6 +104,7 @@ impl IoBufMut {
     #[track_caller]
     #[allow(unsafe_code)]
     pub unsafe fn set_len(&mut self, n: usize) {
+        assert!(n <= self.capacity(), "set_len({n}) exceeds capacity({})", self.capacity());
         match n.checked_sub(self.len()) {
             // SAFETY: the caller's duty.
             Some(more) => unsafe { self.0.fill(more) },
@@ -140,9 +141,9 @@ impl IoBufMut {
         front
     }
 
-    reads! {}
+    reads! { crate::error::too_short }
 
-    puts! {}
+    puts! { crate::error::full }
 }
 
 impl Default for IoBufMut {

@@ -7,7 +7,9 @@ use crate::proved::iobufs as inner;
 use crate::proved::iobufs_core::codec as core;
 use crate::{IoBuf, IoBufMut, IoBufs};
 use bytes::Bytes;
+use std::any::Any;
 use std::io::IoSlice;
+use std::mem;
 
 /// Writable buffers as one, read from the front and filled in order.
 ///
@@ -60,13 +62,14 @@ impl IoBufsMut {
     /// capacity.
     #[track_caller]
     pub fn set_len(&mut self, n: usize) {
-        assert!(self.0.try_set_len(n), "set_len past the capacity");
+        assert!(self.0.try_set_len(n), "set_len({n}) exceeds capacity({})", self.capacity());
     }
 
     /// Writes over the readable bytes. Panics if there are not just as many.
     #[track_caller]
     pub fn copy_from_slice(&mut self, src: &[u8]) {
-        assert!(self.0.try_copy_from_slice(src), "source slice length must match buffer length");
+        assert_eq!(src.len(), self.len(), "source slice length must match buffer length");
+        self.0.try_copy_from_slice(src);
     }
 
     /// Calls `visit` on each chunk that holds bytes, in order, to change them in place.
@@ -99,16 +102,20 @@ impl IoBufsMut {
         dst.iter_mut().zip(self.each_chunk()).map(|(slot, chunk)| *slot = IoSlice::new(chunk)).count()
     }
 
-    /// Copies the first `n` bytes, which are dropped. Panics if there are fewer (`Buf`).
+    /// Takes the first `n` bytes: all of an only buffer without a copy, others as a copy. Panics if there are fewer
+    /// (`Buf`).
     #[track_caller]
     pub fn copy_to_bytes(&mut self, n: usize) -> Bytes {
+        if let Some(part) = self.as_single_mut() {
+            return part.copy_to_bytes(n);
+        }
         assert!(n <= self.len(), "IoBufsMut::copy_to_bytes: not enough data");
         made(core::Buf::copy_to_bytes(&mut self.0, Global, n), Some(n), "").0
     }
 
-    reads! {}
+    reads! { crate::error::short_chunks }
 
-    puts! {}
+    puts! { crate::error::past }
 
     /// Returns the chunks of the readable bytes, in order.
     pub(crate) fn each_chunk(&self) -> impl Iterator<Item = &[u8]> {
@@ -176,6 +183,15 @@ impl From<IoBufsMut> for IoBufs {
     }
 }
 
+/// Returns a view of this: it itself, if it is one, else by way of a `Bytes`.
+fn claimed<T: Into<Bytes> + 'static>(chunk: T) -> IoBuf {
+    let mut chunk = Some(chunk);
+    match (&mut chunk as &mut dyn Any).downcast_mut() {
+        Some(view) => mem::take::<Option<IoBuf>>(view).unwrap_or_default(),
+        None => chunk.map(|it| IoBuf::from(it.into())).unwrap_or_default(),
+    }
+}
+
 /// Encoded bytes and existing buffers, put together as one `IoBufs`.
 ///
 /// ```
@@ -201,9 +217,9 @@ impl Builder {
     /// Pushes a buffer, which is not copied (`BufsMut`).
     #[inline]
     #[track_caller]
-    pub fn push(&mut self, chunk: impl Into<IoBuf>) {
-        made(core::BufsMut::push(&mut self.0, chunk.into().0), None, "length overflow");
+    pub fn push(&mut self, chunk: impl Into<Bytes> + 'static) {
+        made(core::BufsMut::push(&mut self.0, claimed(chunk).0), None, "length overflow");
     }
 
-    puts! {}
+    puts! { crate::error::past }
 }

@@ -1,6 +1,6 @@
 //! `IoBufs` and `Frames`.
 #![forbid(unsafe_code)]
-use crate::calls::{bounds, equals_bytes, gets, outside, reads, shown};
+use crate::calls::{bounds, equals_bytes, gets, outside, reads, shown, split_outside};
 use crate::error::{fault, made, shared};
 use crate::io::Honest;
 use crate::kit::{Clone as _, Global};
@@ -15,7 +15,7 @@ use std::ops::RangeBounds;
 /// Read-only bytes in chunks, of which none is copied.
 ///
 /// ```
-/// let mut bufs: iobufs::IoBufs = ["ab", "cde", "f"].into_iter().collect();
+/// let mut bufs = iobufs::IoBufs::from(["ab".into(), "cde".into(), "f".into()]);
 /// bufs.advance(1);
 /// assert_eq!(bufs.split_to(3), "bcd");
 /// assert_eq!(bufs.chunk_count(), 2);
@@ -155,7 +155,10 @@ impl IoBufs {
     #[inline]
     #[track_caller]
     pub fn split_to(&mut self, at: usize) -> Self {
-        IoBufs(shared(self.0.try_split_to(Global, at).expect("split_to out of bounds")))
+        match self.0.try_split_to(Global, at) {
+            Some(front) => IoBufs(shared(front)),
+            None => split_outside(at, self.len()),
+        }
     }
 
     /// Coalesces the chunks into one view, with a copy of several.
@@ -194,7 +197,16 @@ impl IoBufs {
         self.0.write_to(&mut Honest { to, took: false })
     }
 
-    reads! {}
+    /// Takes the first `n` bytes, as `take_view` does. Panics if there are fewer (`Buf`).
+    #[inline]
+    #[track_caller]
+    pub fn copy_to_bytes(&mut self, n: usize) -> Bytes {
+        let is_single = self.is_single();
+        self.taken(n, if is_single { "copy_to_bytes out of bounds" } else { "IoBufs::copy_to_bytes: not enough data" })
+            .into()
+    }
+
+    reads! { crate::error::short_chunks }
 
     gets! {}
 
@@ -264,17 +276,17 @@ impl From<IoBufs> for Bytes {
     }
 }
 
-impl<T: Into<IoBuf>> FromIterator<T> for IoBufs {
-    fn from_iter<I: IntoIterator<Item = T>>(chunks: I) -> Self {
+impl FromIterator<IoBuf> for IoBufs {
+    fn from_iter<I: IntoIterator<Item = IoBuf>>(chunks: I) -> Self {
         let mut bufs = IoBufs::default();
         bufs.extend(chunks);
         bufs
     }
 }
 
-impl<T: Into<IoBuf>> Extend<T> for IoBufs {
-    fn extend<I: IntoIterator<Item = T>>(&mut self, chunks: I) {
-        chunks.into_iter().for_each(|chunk| self.append(chunk.into()));
+impl Extend<IoBuf> for IoBufs {
+    fn extend<I: IntoIterator<Item = IoBuf>>(&mut self, chunks: I) {
+        chunks.into_iter().for_each(|chunk| self.append(chunk));
     }
 }
 
@@ -307,7 +319,7 @@ impl Iterator for IntoIter {
 
     fn next(&mut self) -> Option<IoBuf> {
         let n = self.0.chunk().len();
-        (n > 0).then(|| self.0.take_owned(n))
+        (n > 0).then(|| self.0.take_view(n))
     }
 }
 

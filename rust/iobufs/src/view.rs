@@ -1,7 +1,7 @@
 //! `IoBuf`.
 #![forbid(unsafe_code)]
 use crate::IoBufMut;
-use crate::calls::{bounds, derefs, equals_bytes, gets, outside, reads, shown};
+use crate::calls::{bounds, derefs, equals_bytes, gets, outside, reads, shown, split_outside};
 use crate::error::{AllocError, made, shared, tried};
 use crate::kit::{self, Clone as _, Global};
 use crate::proved::iobufs_core::{self as inner, codec as core};
@@ -116,7 +116,10 @@ impl IoBuf {
     #[inline]
     #[track_caller]
     pub fn split_to(&mut self, at: usize) -> Self {
-        IoBuf(shared(self.0.try_split_to(at).expect("split_to out of bounds")))
+        match self.0.try_split_to(at) {
+            Some(front) => IoBuf(shared(front)),
+            None => split_outside(at, self.len()),
+        }
     }
 
     /// Takes the bytes from `at` on, in the same storage. Panics if there are fewer.
@@ -145,7 +148,14 @@ impl IoBuf {
         self.0.try_into_mut(Global).map(IoBufMut).map_err(IoBuf)
     }
 
-    reads! {}
+    /// Takes the first `n` bytes, as `take_view` does. Panics if there are fewer (`Buf`).
+    #[inline]
+    #[track_caller]
+    pub fn copy_to_bytes(&mut self, n: usize) -> Bytes {
+        self.taken(n, "copy_to_bytes out of bounds").into()
+    }
+
+    reads! { crate::error::too_short }
 
     gets! {}
 }

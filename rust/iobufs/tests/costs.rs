@@ -60,7 +60,7 @@ fn owners_of_many_chunks() {
         ("slice at the end", |text| Some(text.slice(text.len() - 9..))),
         ("advance", |text| (text.advance(9), None).1),
         ("advance by all", |text| (text.advance(text.len()), None).1),
-        ("take in a chunk", |text| (text.take_owned(3), None).1),
+        ("take in a chunk", |text| (text.take_view(3), None).1),
         ("get", |text| (text.get_u64(), None).1),
         ("prepend", |text| (text.prepend(IoBuf::from(b"-")), None).1),
         ("append", |text| (text.append(IoBuf::from(b"-")), None).1),

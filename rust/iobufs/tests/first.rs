@@ -26,7 +26,7 @@ fn conversions_keep_the_bytes() {
 #[test]
 fn buffers_equal_bytes_and_each_other() {
     let (view, part) = (IoBuf::from("ab"), IoBufMut::from(b"ab"));
-    let bufs: IoBufs = ["a", "b"].into_iter().collect();
+    let bufs: IoBufs = ["a", "b"].into_iter().map(IoBuf::from).collect();
     let (text, list) = (String::from("ab"), vec![b'a', b'b']);
     let (short, shorter) = (IoBuf::from("a"), IoBufs::from("a"));
     let with_bytes =
@@ -74,9 +74,9 @@ fn splits_and_iterators() {
     view.clear();
     assert!(view.is_empty());
 
-    let mut bufs: IoBufs = [vec![1], vec![2, 3]].into_iter().collect();
+    let mut bufs: IoBufs = [vec![1], vec![2, 3]].into_iter().map(IoBuf::from).collect();
     bufs.extend([IoBuf::from("x")]);
-    bufs.append_all(["y", "z"].into_iter().collect());
+    bufs.append_all(["y", "z"].into_iter().map(IoBuf::from).collect());
     assert_eq!(bufs.to_vec(), [1, 2, 3, b'x', b'y', b'z']);
     assert_eq!(bufs.split_off(4), "yz");
     let lengths: Vec<usize> = bufs.clone().into_iter().map(|view| view.len()).collect();
@@ -116,7 +116,7 @@ fn written<T: Encode + Decode + PartialEq + Debug>(value: T, cfg: &T::Cfg, bytes
     let bufs = value.encode_iobufs();
     assert_eq!(bufs, bytes);
     assert_eq!(T::decode_cfg(bufs, cfg).as_ref(), Ok(&value));
-    let mut cut: IoBufs = bytes.iter().map(|byte| vec![*byte]).collect();
+    let mut cut: IoBufs = bytes.iter().map(|byte| vec![*byte].into()).collect();
     assert_eq!(T::read_cfg(&mut cut, cfg).as_ref(), Ok(&value));
     assert!(cut.is_empty());
     for n in 0..bytes.len() {
@@ -161,11 +161,11 @@ fn panics_name_the_line_of_the_call() {
     let (mut other, mut more, sliced, chopped) = (view.clone(), bufs.clone(), view.clone(), bufs.clone());
     let calls: [(&str, Fails); 8] = [
         ("split_to", Box::new(move || drop(view.split_to(3)))),
-        ("take_owned", Box::new(move || drop(other.take_owned(3)))),
+        ("take_owned", Box::new(move || drop(other.take_view(3)))),
         ("slice", Box::new(move || drop(sliced.slice(1..3)))),
         ("slice, backwards", Box::new(move || drop(chopped.slice(std::ops::Range { start: 2, end: 1 })))),
         ("IoBufs::split_to", Box::new(move || drop(bufs.split_to(3)))),
-        ("IoBufs::take_owned", Box::new(move || drop(more.take_owned(3)))),
+        ("IoBufs::take_owned", Box::new(move || drop(more.take_view(3)))),
         ("put_u8", Box::new(move || part.put_u8(1))),
         ("with_capacity", Box::new(|| drop(IoBufMut::with_capacity(usize::MAX)))),
     ];
@@ -197,7 +197,7 @@ fn bytes_of_the_same_memory() {
     let mut part = IoBufMut::from(b"ab");
     let (at, taken): (_, Bytes) = (part.chunk().as_ptr(), part.copy_to_bytes(2));
     assert_eq!((&taken[..], taken.as_ptr()), (&b"ab"[..], at));
-    let mut bufs: IoBufs = ["ab", "cd"].into_iter().collect();
+    let mut bufs: IoBufs = ["ab".into(), "cd".into()].into();
     let (at, taken): (_, Bytes) = (bufs.chunk().as_ptr(), bufs.copy_to_bytes(2));
     assert_eq!((&taken[..], taken.as_ptr(), bufs.len()), (&b"ab"[..], at, 2));
     let encoded: Bytes = 7u16.encode();

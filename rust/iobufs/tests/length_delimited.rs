@@ -1,5 +1,5 @@
 //! The tests of tokio-util for its `LengthDelimitedCodec`, for `FrameReader` and `FrameWriter`.
-use iobufs::{Error, FrameError, FrameReader, FrameWriter, IoBufs, Prefix};
+use iobufs::{Error, FrameError, FrameReader, FrameWriter, IoBuf, IoBufs, Prefix};
 use std::collections::VecDeque;
 use std::io::{self, ErrorKind, IoSlice, Read, Write};
 
@@ -146,7 +146,7 @@ fn frames_are_written() {
     for (prefix, bodies, turns, wanted) in WRITINGS {
         let mut to = FrameWriter::with_prefix(To(turns.iter().copied().collect(), Vec::new()), *prefix, ..);
         for body in *bodies {
-            to.put(body.iter().copied().collect::<IoBufs>()).unwrap();
+            to.put(body.iter().map(|it| IoBuf::from(*it)).collect::<IoBufs>()).unwrap();
         }
         let mut waits = turns.iter().filter(|turn| turn.is_none()).count();
         while let Err(error) = to.send() {

@@ -7,7 +7,7 @@ use std::panic::{AssertUnwindSafe, catch_unwind};
 
 /// Nine bytes in three chunks.
 fn text() -> IoBufs {
-    ["abc", "de", "fghi"].into_iter().collect()
+    ["abc", "de", "fghi"].into_iter().map(IoBuf::from).collect()
 }
 
 #[test]

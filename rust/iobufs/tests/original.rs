@@ -236,7 +236,7 @@ fn recovery() {
         (|mut view| (view.advance(5), view).1.slice(1..4), &[6, 7, 8], 10),
         (|view| view.slice(2..5).slice(1..).clone(), &[3, 4], 13),
         (|mut view| (view.split_to(4), view).1, &[4, 5, 6, 7, 8, 9], 12),
-        (|mut view| (view.split_to(4), view.split_to(2), view.take_owned(1), view).3, &[7, 8, 9], 9),
+        (|mut view| (view.split_to(4), view.split_to(2), view.take_view(1), view).3, &[7, 8, 9], 9),
         (|mut view| view.split_to(4), &[0, 1, 2, 3], 16),
         (|mut view| mem::take(&mut view), &[0, 1, 2, 3, 4, 5, 6, 7, 8, 9], 16),
         (|mut view| (view.split_to(0), view.slice(3..3), view.split_to(10)).2, &[0, 1, 2, 3, 4, 5, 6, 7, 8, 9], 16),

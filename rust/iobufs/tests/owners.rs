@@ -1,6 +1,7 @@
 //! Memory of other owners: whose bytes a buffer shows, and how long it keeps them. An owner spoils its bytes when it is
 //! dropped, and takes its name out of a list, so each step says just who lives. Each run of other foreign code may
 //! panic (`burn`).
+use bytes::Bytes;
 use iobufs::codec::Encode;
 use iobufs::codec::proved::{BufMut, BufsMut, EncodeSize, Error, Write};
 use iobufs::{Builder, Frames, IoBuf, IoBufMut, IoBufs};
@@ -94,10 +95,10 @@ impl Drop for Owner {
 /// A result of foreign code.
 struct Foreign<T>(T);
 
-impl From<Foreign<IoBuf>> for IoBuf {
-    fn from(view: Foreign<IoBuf>) -> IoBuf {
+impl From<Foreign<IoBuf>> for Bytes {
+    fn from(view: Foreign<IoBuf>) -> Bytes {
         burn();
-        view.0
+        view.0.into()
     }
 }
 
@@ -157,7 +158,7 @@ fn no_byte_is_copied() {
         let at = vec.as_ptr();
         let mut text = IoBufs::from(make(vec));
         text.append(IoBuf::copy_from_slice(b"-"));
-        let view = text.split_to(9).take_owned(8);
+        let view = text.split_to(9).take_view(8);
         assert_eq!((view.as_ptr(), &view[..], text.owners()), (at, &b"01234567"[..], owners));
         assert_eq!((view.slice(3..).as_ptr(), view.clone().as_ptr()), (at.wrapping_add(3), at));
     }
@@ -205,7 +206,7 @@ fn who_is_kept() {
         (|view| Box::new(view.clone()), true),
         (|view| Box::new(view.slice(1..2)), true),
         (|mut view| Box::new(view.split_to(1)), true),
-        (|mut view| Box::new(view.take_owned(1)), true),
+        (|mut view| Box::new(view.take_view(1)), true),
         (|mut view| Box::new(view.read_view(..).unwrap()), true),
         (|view| Box::new(IoBufs::from(view).clone()), true),
         (|view| Box::new(IoBufs::from(view).split_to(1)), true),
@@ -218,7 +219,7 @@ fn who_is_kept() {
         (|view| Box::new(IoBufs::from(view).coalesce()), true),
         (|view| Box::new(IoBufs::from(view).try_into_single().unwrap()), true),
         (|view| Box::new(IoBufs::from(view).read_view(..).unwrap()), true),
-        (|view| Box::new(IoBufs::from([view.clone(), view]).take_owned(4)), false),
+        (|view| Box::new(IoBufs::from([view.clone(), view]).take_view(4)), false),
         (|view| Box::new(IoBufs::from([b"-".into(), view]).split_to(1)), false),
         (|view| Box::new(IoBufMut::from(view)), false),
         (|view| Box::new(with(view.into(), |text| text.advance(3))), true),
@@ -320,7 +321,7 @@ fn owners_that_share_addresses() {
         |length, body| IoBufs::from([length, body]).read_view(..).unwrap(),
         |length, body| {
             let mut text = IoBufs::from([length, body]);
-            (text.advance(1), text.take_owned(8)).1
+            (text.advance(1), text.take_view(8)).1
         },
         |length, body| IoBufs::from([length, body]).slice(1..).coalesce(),
     ];
@@ -378,8 +379,8 @@ fn an_owner_whose_drop_panics() {
         |text| text.advance(5),
         |text| text.advance(10),
         |text| text.copy_to_slice(&mut [0; 6]),
-        |text| drop(text.take_owned(4)),
-        |text| drop(text.take_owned(6)),
+        |text| drop(text.take_view(4)),
+        |text| drop(text.take_view(6)),
         |text| drop(text.split_to(7)),
         |text| text.truncate(3),
         |text| text.clear(),
@@ -550,7 +551,7 @@ impl World {
                 self.views.push(new);
             }
             2 | 3 => {
-                let front = if call == 2 { view.split_to(at) } else { view.take_owned(at) };
+                let front = if call == 2 { view.split_to(at) } else { view.take_view(at) };
                 let new = (front, bytes.drain(..at).collect(), name);
                 self.views.push(new);
             }
@@ -603,7 +604,7 @@ impl World {
                 self.changed(t, done, rest);
             }
             2 => {
-                let view = self.tried(|world| world.texts[t].0.take_owned(at));
+                let view = self.tried(|world| world.texts[t].0.take_view(at));
                 self.changed(t, view.is_some(), rest);
                 self.given(view, front);
             }
@@ -672,12 +673,17 @@ impl World {
             }
             _ => {
                 let (mut builder, mut bytes) = (Builder::new(views.len() + 2), Vec::new());
-                for (view, body, _) in views {
+                for (view, body, name) in views {
                     builder.put_length(body.len());
                     bytes.push(body.len() as u8);
-                    if self.tried(|_| builder.push(Foreign(view))).is_some() {
-                        bytes.extend(body);
-                    }
+                    // A `Bytes` of other storage would be one more owner.
+                    let is_pushed = if name.is_some() {
+                        self.tried(|_| builder.push(Foreign(view))).is_some()
+                    } else {
+                        builder.push(view);
+                        true
+                    };
+                    bytes.extend(Some(body).filter(|_| is_pushed).unwrap_or_default());
                 }
                 builder.put_u16(7);
                 bytes.extend([0, 7]);

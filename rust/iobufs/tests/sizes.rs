@@ -31,7 +31,7 @@ fn long_views() {
         let all = model(n);
         let mut view = IoBuf::copy_from_slice(&all);
         assert!(view == all[..] && view.slice(n / 3..n - 1) == all[n / 3..n - 1] && view.clone() == all[..]);
-        assert!(view.split_to(n / 2) == all[..n / 2] && view.take_owned(7) == all[n / 2..n / 2 + 7]);
+        assert!(view.split_to(n / 2) == all[..n / 2] && view.take_view(7) == all[n / 2..n / 2 + 7]);
         let mut part = IoBufMut::from(view);
         assert!(part.chunk() == &all[n / 2 + 7..]);
         assert!(part.copy_to_bytes(9) == all[n / 2 + 7..n / 2 + 16] && part.freeze() == all[n / 2 + 16..]);
@@ -56,7 +56,7 @@ fn long_texts() {
         assert_cut(&front, all[..at].chunks(n));
         let edge = at.next_multiple_of(n).min(all.len());
         assert_cut(&text, std::iter::once(&all[at..edge]).chain(all[edge..].chunks(n)));
-        assert!(text.take_owned(at) == all[at..2 * at] && text.coalesce() == all[2 * at..]);
+        assert!(text.take_view(at) == all[at..2 * at] && text.coalesce() == all[2 * at..]);
     }
 }
 
@@ -118,7 +118,7 @@ fn ranges_without_bytes() {
         }
     }
     let mut text = IoBufs::from(view.clone());
-    assert!(text.split_to(0).is_empty() && text.take_owned(0).is_empty() && text == view);
+    assert!(text.split_to(0).is_empty() && text.take_view(0).is_empty() && text == view);
     assert!(text.split_to(5000) == view && text.is_empty());
 }
 

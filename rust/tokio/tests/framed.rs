@@ -109,7 +109,7 @@ fn frames_are_read_as_by_a_reader() {
 #[test]
 fn frames_are_written_as_by_a_writer() {
     let bodies: [IoBufs; 4] =
-        ["one".into(), ["two", "-", "three"].into_iter().collect(), "".into(), vec![7; 300].into()];
+        ["one".into(), ["two", "-", "three"].into_iter().map(IoBuf::from).collect(), "".into(), vec![7; 300].into()];
     for (prefix, most) in
         [Prefix::Varint, Prefix::U16Be, Prefix::U32Le, Prefix::U24Be].into_iter().flat_map(|it| [(it, 1), (it, 1000)])
     {
