@@ -8,7 +8,7 @@ use std::ops::{Index, IndexMut};
 use std::process;
 
 /// A deque, whose capacity never shrinks.
-pub struct VecDeque<T>(collections::VecDeque<T>);
+pub struct VecDeque<T>(pub(crate) collections::VecDeque<T>);
 
 impl<T> VecDeque<T> {
     /// Returns no items, without allocating.

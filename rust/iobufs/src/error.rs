@@ -2,6 +2,7 @@
 #![forbid(unsafe_code)]
 use crate::proved::iobufs_core::codec as core;
 use std::alloc::{self, Layout};
+use std::io::{self, ErrorKind};
 use std::{fmt, process};
 
 /// The original's message for bytes that don't fit, or aren't there.
@@ -11,6 +12,7 @@ pub(crate) const LAYOUT: &str = "alignment must be a power of two and the size m
 
 /// Why a value was not read (the codec's `Error`).
 #[derive(Clone, Copy, Debug, PartialEq, Eq)]
+#[non_exhaustive]
 pub enum Error {
     /// Fewer bytes are left than the value has.
     EndOfBuffer,
@@ -44,8 +46,17 @@ impl fmt::Display for Error {
 
 impl std::error::Error for Error {}
 
+/// `ErrorKind::UnexpectedEof` of `EndOfBuffer`, `ErrorKind::InvalidData` of the others.
+impl From<Error> for io::Error {
+    fn from(error: Error) -> Self {
+        let kind = if error == Error::EndOfBuffer { ErrorKind::UnexpectedEof } else { ErrorKind::InvalidData };
+        io::Error::new(kind, error)
+    }
+}
+
 /// Memory for a buffer couldn't be allocated, or no buffer has this size.
 #[derive(Clone, Copy, Debug, PartialEq, Eq)]
+#[non_exhaustive]
 pub struct AllocError {
     /// The number of bytes requested.
     pub bytes: usize,

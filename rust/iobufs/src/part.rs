@@ -124,8 +124,23 @@ impl IoBufMut {
         self.0.clear()
     }
 
+    /// Puts bytes, as `put_slice` does. Panics if they don't fit.
+    #[inline]
+    #[track_caller]
+    pub fn extend_from_slice(&mut self, bytes: &[u8]) {
+        self.put_slice(bytes);
+    }
+
+    /// Keeps the first `len` bytes, or puts `value` until there are as many. Panics above the capacity.
+    #[track_caller]
+    pub fn resize(&mut self, len: usize, value: u8) {
+        self.put_bytes(value, len.saturating_sub(self.len()));
+        self.truncate(len);
+    }
+
     /// Freezes the buffer to a view, without a copy.
     #[inline]
+    #[must_use]
     pub fn freeze(self) -> IoBuf {
         IoBuf(shared(self.0.freeze()))
     }
@@ -150,6 +165,29 @@ impl Default for IoBufMut {
     #[inline]
     fn default() -> Self {
         IoBufMut(inner::IoBufMut::new(Global))
+    }
+}
+
+/// Copies the bytes into a buffer of the same capacity.
+impl Clone for IoBufMut {
+    fn clone(&self) -> Self {
+        let mut copy = Self::with_capacity(self.capacity());
+        copy.put_slice(self);
+        copy
+    }
+}
+
+/// Puts each byte. Panics if it doesn't fit.
+impl Extend<u8> for IoBufMut {
+    fn extend<I: IntoIterator<Item = u8>>(&mut self, bytes: I) {
+        bytes.into_iter().for_each(|byte| self.put_u8(byte));
+    }
+}
+
+/// Puts each byte. Panics if it doesn't fit.
+impl<'a> Extend<&'a u8> for IoBufMut {
+    fn extend<I: IntoIterator<Item = &'a u8>>(&mut self, bytes: I) {
+        self.extend(bytes.into_iter().copied());
     }
 }
 

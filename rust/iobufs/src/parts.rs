@@ -8,8 +8,8 @@ use crate::proved::iobufs_core::codec as core;
 use crate::{IoBuf, IoBufMut, IoBufs};
 use bytes::Bytes;
 use std::any::Any;
-use std::io::IoSlice;
-use std::mem;
+use std::io::{IoSlice, IoSliceMut};
+use std::{fmt, mem};
 
 /// Writable buffers as one, read from the front and filled in order.
 ///
@@ -78,14 +78,21 @@ impl IoBufsMut {
         self.0.for_each_chunk_mut(visit);
     }
 
+    /// Returns the chunks that hold bytes, in order, to be written over by vectored reads.
+    pub fn io_slices_mut(&mut self) -> Vec<IoSliceMut<'_>> {
+        self.0.filled().map(IoSliceMut::new).collect()
+    }
+
     /// Freezes the buffers that hold bytes to the chunks of one `IoBufs`.
     #[inline]
+    #[must_use]
     pub fn freeze(self) -> IoBufs {
         IoBufs(shared(self.0.freeze(Global)))
     }
 
     /// Coalesces the buffers into one, with a copy of several.
     #[track_caller]
+    #[must_use]
     pub fn coalesce(self) -> IoBufMut {
         let len = self.len();
         IoBufMut(made(self.0.coalesce(Global), Some(len), "the bytes are too many for one buffer"))
@@ -209,7 +216,18 @@ impl Builder {
         Builder(made(inner::Builder::new(Global, capacity), Some(capacity), LAYOUT))
     }
 
+    /// Returns how many bytes were put and pushed.
+    pub fn len(&self) -> usize {
+        self.0.len()
+    }
+
+    /// Returns whether no byte was put or pushed.
+    pub fn is_empty(&self) -> bool {
+        self.len() == 0
+    }
+
     /// Finishes the builder to all that was put and pushed, in order.
+    #[must_use]
     pub fn finish(self) -> IoBufs {
         IoBufs(shared(self.0.finish()))
     }
@@ -222,4 +240,10 @@ impl Builder {
     }
 
     puts! { crate::error::past }
+}
+
+impl fmt::Debug for Builder {
+    fn fmt(&self, f: &mut fmt::Formatter<'_>) -> fmt::Result {
+        f.debug_struct("Builder").field("len", &self.len()).finish_non_exhaustive()
+    }
 }

@@ -13,6 +13,7 @@ use std::{error, fmt, mem};
 
 /// Why no frame is taken from a reader.
 #[derive(Debug)]
+#[non_exhaustive]
 pub enum FrameError {
     /// No frame begins here, whatever follows: `Error::InvalidVarint` or `Error::InvalidLength`.
     Bad(Error),
@@ -162,9 +163,20 @@ impl<R> FrameReader<R> {
         &mut self.0.from
     }
 
+    /// Admits lengths in `range` from now on, as after a login.
+    pub fn set_range(&mut self, range: impl RangeBounds<usize>) {
+        self.0.range = RangeCfg::new(range);
+    }
+
     /// Returns the reader. What was read and not taken is dropped.
     pub fn into_inner(self) -> R {
         self.0.from
+    }
+
+    /// Returns the reader, and what was read from it and not taken, for the protocol that follows.
+    pub fn into_parts(mut self) -> (R, BytesMut) {
+        let held = mem::replace(self.0.held.block_mut(), kit::BytesMut::new(Global));
+        (self.0.from, held.into_inner())
     }
 }
 
@@ -213,7 +225,12 @@ impl<W> FrameWriter<W> {
 
     /// Returns whether all that was put is written.
     pub fn is_sent(&self) -> bool {
-        self.0.unsent() == 0
+        self.0.rest.is_empty()
+    }
+
+    /// Returns how many bytes of frames were put and are not written. It adds up the frames that wait.
+    pub fn unsent(&self) -> usize {
+        self.0.more.0.iter().fold(self.0.rest.len(), |sum, frame| sum.saturating_add(frame.len()))
     }
 
     /// Returns the writer.
@@ -253,9 +270,6 @@ impl<W: Write> FrameWriter<W> {
 
 impl<W: fmt::Debug> fmt::Debug for FrameWriter<W> {
     fn fmt(&self, f: &mut fmt::Formatter<'_>) -> fmt::Result {
-        f.debug_struct("FrameWriter")
-            .field("to", &self.0.to.to)
-            .field("unsent", &self.0.unsent())
-            .finish_non_exhaustive()
+        f.debug_struct("FrameWriter").field("to", &self.0.to.to).field("unsent", &self.unsent()).finish_non_exhaustive()
     }
 }

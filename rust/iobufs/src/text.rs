@@ -9,8 +9,9 @@ use crate::proved::{iobufs as inner, iobufs_frames};
 use crate::{Error, IoBuf, IoBufMut};
 use bytes::{Bytes, BytesMut};
 use std::io::{self, IoSlice, Write};
-use std::mem;
-use std::ops::RangeBounds;
+use std::iter::FusedIterator;
+use std::ops::{Range, RangeBounds};
+use std::{fmt, mem};
 
 /// Read-only bytes in chunks, of which none is copied.
 ///
@@ -72,7 +73,7 @@ impl IoBufs {
     /// Returns the chunks that hold bytes, in order.
     #[inline]
     pub fn chunks(&self) -> Chunks<'_> {
-        Chunks(self.0.chunks())
+        Chunks { bufs: &self.0, indices: 0..self.chunk_count() }
     }
 
     /// Returns the only chunk, if there is at most one.
@@ -94,6 +95,7 @@ impl IoBufs {
     /// Returns the bytes of a range, which share their storage. Panics if it isn't within the bytes.
     #[inline]
     #[track_caller]
+    #[must_use]
     pub fn slice(&self, range: impl RangeBounds<usize>) -> Self {
         let (lo, hi) = bounds(range, || self.len());
         match self.0.try_slice(Global, lo..hi) {
@@ -120,6 +122,7 @@ impl IoBufs {
 
     /// Takes the bytes from `at` on. Panics if there are fewer.
     #[track_caller]
+    #[must_use = "`truncate` drops the other half"]
     pub fn split_off(&mut self, at: usize) -> Self {
         let front = self.split_to(at);
         mem::replace(self, front)
@@ -154,6 +157,7 @@ impl IoBufs {
     /// Takes the first `at` bytes. Panics if there are fewer.
     #[inline]
     #[track_caller]
+    #[must_use = "`advance` drops the front"]
     pub fn split_to(&mut self, at: usize) -> Self {
         match self.0.try_split_to(Global, at) {
             Some(front) => IoBufs(shared(front)),
@@ -163,6 +167,7 @@ impl IoBufs {
 
     /// Coalesces the chunks into one view, with a copy of several.
     #[track_caller]
+    #[must_use]
     pub fn coalesce(self) -> IoBuf {
         let len = self.len();
         IoBuf(made(self.0.coalesce(Global), Some(len), "the bytes are too many for one buffer"))
@@ -291,14 +296,42 @@ impl Extend<IoBuf> for IoBufs {
 }
 
 /// The chunks that hold bytes, in order.
-pub struct Chunks<'a>(inner::bufs::Chunks<'a>);
+#[derive(Clone)]
+pub struct Chunks<'a> {
+    bufs: &'a inner::IoBufs,
+    indices: Range<usize>,
+}
 
 impl<'a> Iterator for Chunks<'a> {
     type Item = &'a [u8];
 
     #[inline]
     fn next(&mut self) -> Option<&'a [u8]> {
-        self.0.next()
+        self.bufs.chunk_at(self.indices.next()?)
+    }
+
+    fn size_hint(&self) -> (usize, Option<usize>) {
+        self.indices.size_hint()
+    }
+
+    fn nth(&mut self, n: usize) -> Option<&'a [u8]> {
+        self.bufs.chunk_at(self.indices.nth(n)?)
+    }
+}
+
+impl DoubleEndedIterator for Chunks<'_> {
+    fn next_back(&mut self) -> Option<Self::Item> {
+        self.bufs.chunk_at(self.indices.next_back()?)
+    }
+}
+
+impl ExactSizeIterator for Chunks<'_> {}
+
+impl FusedIterator for Chunks<'_> {}
+
+impl fmt::Debug for Chunks<'_> {
+    fn fmt(&self, f: &mut fmt::Formatter<'_>) -> fmt::Result {
+        f.debug_struct("Chunks").field("left", &self.len()).finish_non_exhaustive()
     }
 }
 
@@ -312,6 +345,7 @@ impl<'a> IntoIterator for &'a IoBufs {
 }
 
 /// The chunks that hold bytes, as views.
+#[derive(Clone, Debug)]
 pub struct IntoIter(IoBufs);
 
 impl Iterator for IntoIter {
@@ -321,7 +355,15 @@ impl Iterator for IntoIter {
         let n = self.0.chunk().len();
         (n > 0).then(|| self.0.take_view(n))
     }
+
+    fn size_hint(&self) -> (usize, Option<usize>) {
+        (self.0.chunk_count(), Some(self.0.chunk_count()))
+    }
 }
+
+impl ExactSizeIterator for IntoIter {}
+
+impl FusedIterator for IntoIter {}
 
 impl IntoIterator for IoBufs {
     type Item = IoBuf;
@@ -346,6 +388,7 @@ impl<const N: usize> From<[IoBuf; N]> for IoBufs {
 
 /// How the length before a frame is written.
 #[derive(Clone, Copy, Debug, Default, PartialEq, Eq, Hash)]
+#[non_exhaustive]
 pub enum Prefix {
     /// A varint: seven bits a byte, the lowest first.
     #[default]
@@ -442,6 +485,12 @@ impl Frames {
     /// Returns how many chunks keep an owner (`IoBuf::from_owner`).
     pub fn owners(&self) -> usize {
         owners(self.0.rest())
+    }
+}
+
+impl fmt::Debug for Frames {
+    fn fmt(&self, f: &mut fmt::Formatter<'_>) -> fmt::Result {
+        f.debug_struct("Frames").field("len", &self.len()).finish_non_exhaustive()
     }
 }
 

@@ -93,6 +93,7 @@ impl IoBuf {
     /// Returns the bytes of a range, in the same storage. Panics if it isn't within the bytes.
     #[inline]
     #[track_caller]
+    #[must_use]
     pub fn slice(&self, range: impl RangeBounds<usize>) -> Self {
         let (lo, hi) = bounds(range, || self.len());
         match self.0.try_slice(Bound::Included(lo), Bound::Excluded(hi)) {
@@ -104,6 +105,7 @@ impl IoBuf {
     /// Returns the view of some of its bytes, in the same storage. Panics if `subset` isn't a part of what `as_ref`
     /// returns.
     #[track_caller]
+    #[must_use]
     pub fn slice_ref(&self, subset: &[u8]) -> Self {
         if subset.is_empty() {
             return Self::new();
@@ -115,6 +117,7 @@ impl IoBuf {
     /// Takes the first `at` bytes, in the same storage. Panics if there are fewer.
     #[inline]
     #[track_caller]
+    #[must_use = "`advance` drops the front"]
     pub fn split_to(&mut self, at: usize) -> Self {
         match self.0.try_split_to(at) {
             Some(front) => IoBuf(shared(front)),
@@ -124,6 +127,7 @@ impl IoBuf {
 
     /// Takes the bytes from `at` on, in the same storage. Panics if there are fewer.
     #[track_caller]
+    #[must_use = "`truncate` drops the other half"]
     pub fn split_off(&mut self, at: usize) -> Self {
         let front = self.split_to(at);
         mem::replace(self, front)
@@ -220,6 +224,15 @@ impl From<Box<[u8]>> for IoBuf {
 impl FromIterator<u8> for IoBuf {
     fn from_iter<I: IntoIterator<Item = u8>>(bytes: I) -> Self {
         Self::from(Vec::from_iter(bytes))
+    }
+}
+
+impl IntoIterator for IoBuf {
+    type Item = u8;
+    type IntoIter = bytes::buf::IntoIter<IoBuf>;
+
+    fn into_iter(self) -> Self::IntoIter {
+        bytes::buf::IntoIter::new(self)
     }
 }
 

@@ -108,14 +108,14 @@ trait SplitOffTwo {
 
 impl SplitOffTwo for IoBuf {
     fn split_off_two(mut self) -> Self {
-        self.split_to(2);
+        drop(self.split_to(2));
         self
     }
 }
 
 impl SplitOffTwo for IoBufs {
     fn split_off_two(mut self) -> Self {
-        self.split_to(2);
+        drop(self.split_to(2));
         self
     }
 }

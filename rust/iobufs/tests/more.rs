@@ -21,6 +21,89 @@ fn chunks_of_an_iobufs() {
     let slices = text.io_slices();
     assert!(slices.iter().map(|slice| &**slice).eq(seen.iter().copied()) && slices[2].as_ptr() == seen[2].as_ptr());
     assert!(IoBufs::new().io_slices().is_empty());
+
+    let mut chunks = text.chunks();
+    assert_eq!((chunks.len(), chunks.next_back(), chunks.len()), (3, Some(&b"fghi"[..]), 2));
+    assert_eq!((chunks.clone().nth(1), chunks.next(), chunks.len()), (Some(&b"de"[..]), Some(&b"abc"[..]), 1));
+    assert_eq!(format!("{chunks:?}"), "Chunks { left: 1, .. }");
+    assert_eq!((chunks.next_back(), chunks.next(), chunks.next_back()), (Some(&b"de"[..]), None, None));
+    let mut views = text.into_iter();
+    assert_eq!((views.len(), views.next(), views.len()), (3, Some("abc".into()), 2));
+    assert_eq!(format!("{views:?}"), "IntoIter(IoBufs { len: 6, chunks: 2 })");
+}
+
+// Each call works within the fixed capacity.
+#[test]
+fn a_writable_buffer_as_a_vec() {
+    let mut part = IoBufMut::with_capacity(6);
+    part.extend_from_slice(b"ab");
+    part.extend([b'c']);
+    part.extend(b"d");
+    part.resize(6, b'-');
+    part.resize(5, b'x');
+    let copy = part.clone();
+    assert_eq!((&part, &copy, copy.capacity()), (&IoBufMut::from(b"abcd-"), &part, 6));
+    let calls: [fn(&mut IoBufMut); 4] =
+        [|it| it.extend_from_slice(b"yz"), |it| it.resize(7, 0), |it| it.extend(b"yz"), |it| it.extend(*b"yz")];
+    for (call, left) in calls.iter().zip([5, 5, 6, 6]) {
+        let mut part = copy.clone();
+        assert!(catch_unwind(AssertUnwindSafe(|| call(&mut part))).is_err());
+        assert_eq!((part.len(), part.capacity()), (left, 6));
+    }
+}
+
+#[test]
+fn bytes_of_a_builder() {
+    let mut builder = Builder::new(4);
+    assert!(builder.is_empty());
+    builder.put_u16(1);
+    builder.push(vec![1, 2, 3]);
+    builder.put_u8(1);
+    builder.push(IoBuf::new());
+    assert_eq!((builder.len(), format!("{builder:?}")), (6, "Builder { len: 6, .. }".into()));
+    assert_eq!(builder.finish().len(), 6);
+}
+
+// A view that is pushed keeps its storage, as does what becomes a `Bytes`.
+#[test]
+fn pushes_share() {
+    let (view, bytes, vec) = (IoBuf::copy_from_slice(b"ab"), Bytes::copy_from_slice(b"cd"), vec![b'e', b'f']);
+    let places = [view.as_ptr(), bytes.as_ptr(), vec.as_ptr()];
+    let mut builder = Builder::new(0);
+    builder.push(view.clone());
+    builder.push(bytes);
+    builder.push(vec);
+    builder.push("gh");
+    let bufs = builder.finish();
+    assert_eq!(bufs.chunks().map(<[u8]>::as_ptr).take(3).collect::<Vec<_>>(), places);
+    assert_eq!((&bufs, bufs.owners()), (&IoBufs::from("abcdefgh"), 3));
+    drop(bufs);
+    assert!(view.try_into_mut().is_ok());
+}
+
+#[test]
+fn views_are_taken_as_any_type() {
+    let mut bufs = text();
+    let bytes: Bytes = bufs.take_owned(2);
+    assert_eq!(
+        (&bytes[..], bufs.take_owned::<Vec<u8>>(2), bufs.take_owned::<IoBuf>(1)),
+        (&b"ab"[..], vec![b'c', b'd'], "e".into())
+    );
+    assert_eq!((bufs.take_view(4), bufs.len()), ("fghi".into(), 0));
+}
+
+// The readable bytes of each buffer are written over: of one, of up to three, and of more, of which one was drained.
+#[test]
+fn filled_bytes_of_several_buffers() {
+    for (count, dropped, wanted) in
+        [(1, 1, "0"), (2, 1, "0011"), (3, 4, "0011"), (4, 4, "0011122"), (6, 8, "011122233")]
+    {
+        let mut parts: IoBufsMut = (0..count).map(|_| IoBufMut::with_capacity(3)).collect();
+        parts.put_bytes(b'.', 3 * count - 1);
+        parts.advance(dropped);
+        parts.io_slices_mut().iter_mut().zip(b'0'..).for_each(|(slice, digit)| slice.fill(digit));
+        assert_eq!(parts.freeze(), *wanted, "{count}");
+    }
 }
 
 #[test]

@@ -1,5 +1,5 @@
 //! Texts, parts, builders and frames, worked by hand; readers, writers and threads.
-use iobufs::{AllocError, Builder, Error, Frames, IoBuf, IoBufMut, IoBufs, IoBufsMut, Prefix, length_size};
+use iobufs::{Builder, Error, Frames, IoBuf, IoBufMut, IoBufs, IoBufsMut, Prefix, length_size};
 use std::io::{self, BufRead, IoSlice, Read, Write};
 use std::ops::{Bound, Range};
 use std::process::Command;
@@ -46,11 +46,11 @@ fn texts() {
 #[test]
 fn allocations_that_fail() {
     for bytes in [usize::MAX, 1 << 62, 1 << 50] {
-        assert_eq!(IoBufMut::try_with_capacity(bytes).err(), Some(AllocError { bytes }));
-        assert_eq!(IoBufMut::try_zeroed(bytes).err(), Some(AllocError { bytes }));
+        assert_eq!(IoBufMut::try_with_capacity(bytes).err().map(|it| it.bytes), Some(bytes));
+        assert_eq!(IoBufMut::try_zeroed(bytes).err().map(|it| it.bytes), Some(bytes));
     }
-    let message = "memory allocation of 7 bytes failed";
-    assert_eq!(AllocError { bytes: 7 }.to_string(), message);
+    let error = IoBufMut::try_zeroed(1 << 50).unwrap_err();
+    assert_eq!(error.to_string(), "memory allocation of 1125899906842624 bytes failed");
     let (empty, zeros) = (IoBufMut::try_with_capacity(9).unwrap(), IoBufMut::try_zeroed(3).unwrap());
     assert_eq!((empty.len(), empty.capacity(), zeros.as_ref()), (0, 9, &[0; 3][..]));
     let copies = (IoBufMut::try_copy_from_slice(b"ab").unwrap(), IoBuf::try_copy_from_slice(b"cd").unwrap());
@@ -160,14 +160,14 @@ fn bytes_and_chunks() {
 #[test]
 #[should_panic(expected = "slice out of bounds")]
 fn slice_past_the_end() {
-    text().slice(4..10);
+    drop(text().slice(4..10));
 }
 
 #[test]
 #[should_panic(expected = "slice start must be <= end")]
 fn slice_backwards() {
     let (lo, hi) = (2, 1);
-    text().slice(lo..hi);
+    drop(text().slice(lo..hi));
 }
 
 #[test]
@@ -205,7 +205,7 @@ fn a_text_of_many_pieces() {
 #[test]
 #[should_panic(expected = "split_to out of bounds")]
 fn split_past_the_end() {
-    text().split_to(10);
+    drop(text().split_to(10));
 }
 
 #[test]

@@ -451,10 +451,27 @@ fn frames_that_are_held() {
     assert_eq!(from.try_next(), Err(Error::InvalidLength(9)));
     let mut to = FrameWriter::new(Vec::new(), ..);
     to.put("ab").unwrap();
-    assert_eq!(format!("{to:?}"), "FrameWriter { to: [], unsent: 1, .. }");
+    assert_eq!(format!("{to:?}"), "FrameWriter { to: [], unsent: 3, .. }");
     to.get_mut().extend(b"before ");
     to.send().unwrap();
     assert_eq!(to.into_inner(), b"before \x02ab");
+}
+
+// After a login: longer frames are admitted, and another protocol gets what is held.
+#[test]
+fn a_stream_goes_on_otherwise() {
+    let mut from = FrameReader::new(&b"\x01a\x02bcHTTP"[..], ..2);
+    assert_eq!(from.next().unwrap().unwrap(), "a");
+    assert!(matches!(from.next(), Err(FrameError::Bad(Error::InvalidLength(2)))));
+    from.set_range(..);
+    assert_eq!(from.next().unwrap().unwrap(), "bc");
+    let (rest, held) = from.into_parts();
+    assert_eq!((rest, &held[..]), (&b""[..], &b"HTTP"[..]));
+    let mut to = FrameWriter::new(Narrow::new(b"", 4), ..);
+    assert_eq!(to.unsent(), 0);
+    to.put("abcd").unwrap();
+    to.put("e").unwrap();
+    assert_eq!((to.unsent(), to.send().is_ok(), to.unsent()), (7, true, 0));
 }
 
 // Chunks are written where they are, as many at a time as the writer takes; what it didn't take is left.

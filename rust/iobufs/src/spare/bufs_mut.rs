@@ -16,6 +16,17 @@ impl IoBufsMut {
         }
     }
 
+    /// Returns the readable bytes of each buffer that has some, in order.
+    pub(crate) fn filled(&mut self) -> impl Iterator<Item = &mut [u8]> {
+        let (one, few, many) = match &mut self.shape {
+            Shape::One(part) => (Some(part), None, None),
+            Shape::Few(parts) => (None, Some(parts.each()), None),
+            Shape::Many(parts) => (None, None, Some(parts.each())),
+        };
+        let parts = one.into_iter().chain(few.into_iter().flatten()).chain(many.into_iter().flatten());
+        parts.map(IoBufMut::as_mut).filter(|bytes| !bytes.is_empty())
+    }
+
     /// Returns its spare capacity.
     #[inline]
     pub(crate) fn space(&mut self) -> &mut [MaybeUninit<u8>] {

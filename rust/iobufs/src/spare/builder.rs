@@ -4,6 +4,11 @@ use super::Builder;
 use std::mem::MaybeUninit;
 
 impl Builder {
+    /// Returns how many bytes were put and pushed: `pushable` begins at all that the capacity leaves.
+    pub(crate) fn len(&self) -> usize {
+        self.inline.len() + (usize::MAX - self.inline.capacity() - self.pushable)
+    }
+
     /// Returns the spare capacity.
     #[inline]
     pub(crate) fn space(&mut self) -> &mut [MaybeUninit<u8>] {

@@ -5,8 +5,13 @@ use crate::proved::iobufs_core::buf::IoBufMut;
 use crate::proved::iobufs_core::codec::BufMut;
 
 impl Few {
+    /// Returns the buffers, in order.
+    pub(crate) fn each(&mut self) -> [&mut IoBufMut; 3] {
+        [&mut self.first, &mut self.second, &mut self.third]
+    }
+
     /// Returns the first buffer with spare capacity.
     pub(crate) fn next(&mut self) -> Option<&mut IoBufMut> {
-        [&mut self.first, &mut self.second, &mut self.third].into_iter().find(|part| part.remaining_mut() > 0)
+        self.each().into_iter().find(|part| part.remaining_mut() > 0)
     }
 }
