@@ -113,10 +113,23 @@ impl FrameCodec {
     /// Appends the frame of a body, which is copied. Fails with `Error::InvalidLength` if the length is outside the
     /// range, or can't be written as the prefix; then `dst` is unchanged.
     pub fn encode(&self, body: &IoBufs, dst: &mut BytesMut) -> Result<(), Error> {
-        let head = self.prefix.head_within(body.len(), &self.range).ok_or(Error::InvalidLength(body.len()))?;
-        dst.reserve(head.len() + body.len());
-        dst.extend_from_slice(head.as_slice());
+        self.begin(body.len(), dst)?;
         body.for_each_chunk(|chunk| dst.extend_from_slice(chunk));
+        Ok(())
+    }
+
+    /// Appends the frame of these bytes, as `encode` does.
+    pub fn encode_slice(&self, body: &[u8], dst: &mut BytesMut) -> Result<(), Error> {
+        self.begin(body.len(), dst)?;
+        dst.extend_from_slice(body);
+        Ok(())
+    }
+
+    /// Appends the length of a body, and reserves space for the body.
+    fn begin(&self, len: usize, dst: &mut BytesMut) -> Result<(), Error> {
+        let head = self.prefix.head_within(len, &self.range).ok_or(Error::InvalidLength(len))?;
+        dst.reserve(head.len() + len);
+        dst.extend_from_slice(head.as_slice());
         Ok(())
     }
 }

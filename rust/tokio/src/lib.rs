@@ -1,4 +1,5 @@
-//! Frames over tokio's readers and writers: `FramedRead`, `FramedWrite` and `Framed` of tokio-util with this codec.
+//! Frames over tokio's readers and writers: `FramedRead`, `FramedWrite` and `Framed` of tokio-util with this codec. And
+//! an `IoBufs` as a reader.
 //!
 //! ```
 //! use bytes::BytesMut;
@@ -7,15 +8,19 @@
 //!
 //! let mut codec = FrameCodec::new(iobufs::Prefix::U16Be, ..=1024);
 //! let mut bytes = BytesMut::new();
-//! codec.encode("hello".into(), &mut bytes)?;
+//! codec.encode(&b"hello"[..], &mut bytes)?;
 //! assert_eq!(codec.decode(&mut bytes)?.unwrap(), "hello");
 //! # Ok::<(), iobufs::FrameError>(())
 //! ```
 #![forbid(unsafe_code)]
 #![warn(missing_docs)]
-use bytes::BytesMut;
+use bytes::{Bytes, BytesMut};
 use iobufs::{FrameError, IoBuf, IoBufs, Prefix};
+use std::io;
 use std::ops::RangeBounds;
+use std::pin::Pin;
+use std::task::{Context, Poll};
+use tokio::io::{AsyncBufRead, AsyncRead, ReadBuf};
 use tokio_util::codec::{Decoder, Encoder};
 
 /// A codec of frames. A body that is decoded shares the block that it was read into; one that is encoded is copied.
@@ -52,5 +57,43 @@ impl Encoder<IoBufs> for FrameCodec {
     /// Fails with `Error::InvalidLength` if the body can't be sent; then `dst` is unchanged.
     fn encode(&mut self, body: IoBufs, dst: &mut BytesMut) -> Result<(), FrameError> {
         Ok(self.0.encode(&body, dst)?)
+    }
+}
+
+macro_rules! encoders {
+    ($($body:ty)*) => {$(
+        impl Encoder<$body> for FrameCodec {
+            type Error = FrameError;
+
+            /// Fails with `Error::InvalidLength` if the body can't be sent; then `dst` is unchanged.
+            fn encode(&mut self, body: $body, dst: &mut BytesMut) -> Result<(), FrameError> {
+                Ok(self.0.encode_slice(body.as_ref(), dst)?)
+            }
+        }
+    )*};
+}
+
+encoders! { IoBuf Bytes &[u8] }
+
+/// The bytes of an `IoBufs` as a reader, which never waits.
+#[derive(Clone, Debug, Default)]
+pub struct Reader(pub IoBufs);
+
+impl AsyncRead for Reader {
+    fn poll_read(mut self: Pin<&mut Self>, _: &mut Context<'_>, to: &mut ReadBuf<'_>) -> Poll<io::Result<()>> {
+        let n = to.remaining().min(self.0.len());
+        self.0.copy_to_slice(to.initialize_unfilled_to(n));
+        to.advance(n);
+        Poll::Ready(Ok(()))
+    }
+}
+
+impl AsyncBufRead for Reader {
+    fn poll_fill_buf(self: Pin<&mut Self>, _: &mut Context<'_>) -> Poll<io::Result<&[u8]>> {
+        Poll::Ready(Ok(self.get_mut().0.chunk()))
+    }
+
+    fn consume(mut self: Pin<&mut Self>, n: usize) {
+        self.0.advance(n);
     }
 }

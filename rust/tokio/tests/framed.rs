@@ -1,13 +1,13 @@
 //! Frames over `FramedRead` and `FramedWrite`, beside `FrameReader` and `FrameWriter` on the same bytes.
-use bytes::BytesMut;
+use bytes::{Bytes, BytesMut};
 use futures_core::Stream;
 use futures_sink::Sink;
 use iobufs::{Error, FrameError, FrameReader, FrameWriter, IoBuf, IoBufs, Prefix};
-use iobufs_tokio::FrameCodec;
+use iobufs_tokio::{FrameCodec, Reader};
 use std::io;
 use std::pin::Pin;
 use std::task::{Context, Poll, Waker};
-use tokio::io::{AsyncRead, AsyncWrite, ReadBuf};
+use tokio::io::{AsyncBufRead, AsyncRead, AsyncWrite, ReadBuf};
 use tokio_util::codec::{Decoder, Encoder, FramedRead, FramedWrite};
 
 /// A stream of at most `most` bytes a call, of which every other call would block.
@@ -117,13 +117,13 @@ fn frames_are_written_as_by_a_writer() {
         let mut framed = FramedWrite::new(Narrow::new(b"", most), FrameCodec::new(prefix, ..=300));
         for body in bodies.clone() {
             writer.put(body.clone()).unwrap();
-            ready(|cx| Pin::new(&mut framed).poll_ready(cx)).unwrap();
+            ready(|cx| Sink::<IoBufs>::poll_ready(Pin::new(&mut framed), cx)).unwrap();
             Pin::new(&mut framed).start_send(body).unwrap();
         }
-        let error = Pin::new(&mut framed).start_send(vec![0; 301].into()).unwrap_err();
+        let error = Pin::new(&mut framed).start_send(IoBufs::from(vec![0; 301])).unwrap_err();
         assert!(matches!(error, FrameError::Bad(Error::InvalidLength(301))));
         writer.send().unwrap();
-        ready(|cx| Pin::new(&mut framed).poll_flush(cx)).unwrap();
+        ready(|cx| Sink::<IoBufs>::poll_flush(Pin::new(&mut framed), cx)).unwrap();
         assert_eq!(framed.get_ref().bytes, writer.into_inner(), "{prefix:?} by {most}");
     }
 }
@@ -141,7 +141,34 @@ fn blocks_are_shared() {
     bytes.extend_from_slice(b"gh\x04");
     assert_eq!(codec.decode_eof(&mut bytes).unwrap().unwrap(), "fgh");
     assert!(matches!(codec.decode(&mut bytes), Err(FrameError::Bad(Error::InvalidLength(4)))) && bytes[..] == *b"\x04");
-    assert!(codec.encode("long".into(), &mut bytes).is_err() && bytes[..] == *b"\x04");
-    codec.encode("ok".into(), &mut bytes).unwrap();
-    assert_eq!(&bytes[..], b"\x04\x02ok");
+    let refused = [
+        codec.encode(IoBufs::from("long"), &mut bytes),
+        codec.encode(IoBuf::from("long"), &mut bytes),
+        codec.encode(&b"long"[..], &mut bytes),
+    ];
+    assert!(refused.iter().all(|it| matches!(it, Err(FrameError::Bad(Error::InvalidLength(4))))));
+    assert_eq!(&bytes[..], b"\x04");
+    codec.encode(IoBufs::from("ok"), &mut bytes).unwrap();
+    codec.encode(IoBuf::from("ok"), &mut bytes).unwrap();
+    codec.encode(Bytes::from("-"), &mut bytes).unwrap();
+    codec.encode(&b""[..], &mut bytes).unwrap();
+    assert_eq!(&bytes[..], b"\x04\x02ok\x02ok\x01-\0");
+}
+
+// An `IoBufs` is read by as many bytes as are asked for, or chunk by chunk.
+#[test]
+fn an_iobufs_is_a_reader() {
+    let mut from = Reader(["abc", "de"].into_iter().map(IoBuf::from).collect());
+    let mut block = [0; 4];
+    for (wanted, left) in [("abcd", 1), ("e", 0), ("", 0)] {
+        let mut to = ReadBuf::new(&mut block);
+        ready(|cx| Pin::new(&mut from).poll_read(cx, &mut to)).unwrap();
+        assert_eq!((to.filled(), from.0.len()), (wanted.as_bytes(), left));
+    }
+    let mut from = Reader(["abc", "de"].into_iter().map(IoBuf::from).collect());
+    for (chunk, n) in [("abc", 2), ("c", 1), ("de", 2), ("", 0)] {
+        let seen = ready(|cx| Pin::new(&mut from).poll_fill_buf(cx).map_ok(<[u8]>::to_vec)).unwrap();
+        assert_eq!(seen, chunk.as_bytes());
+        Pin::new(&mut from).consume(n);
+    }
 }
