@@ -23,6 +23,7 @@ impl Builder {
     #[track_caller]
     pub(crate) unsafe fn fill(&mut self, n: usize) {
         // SAFETY: the caller's duty.
-        unsafe { self.inline.fill(n) }
+        unsafe { self.inline.fill(n) };
+        debug_assert!(self.placed <= self.inline.len(), "the builder's invariant");
     }
 }

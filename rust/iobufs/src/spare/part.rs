@@ -22,6 +22,8 @@ impl IoBufMut {
         assert!(n <= self.space().len(), "{}", crate::error::PAST);
         // SAFETY: the spare capacity is the `Vec`'s own, and the caller wrote the bytes.
         unsafe { self.storage.0.set_len(self.storage.0.len() + n) }
+        let (len, most) = (self.storage.0.len(), self.storage.0.capacity());
+        debug_assert!(self.start <= len && len <= self.limit && self.limit <= most, "the buffer's invariant");
     }
 
     /// Returns the address of the first readable byte. The whole capacity may be written from there on.
