@@ -1,12 +1,12 @@
 //! A shared value whose allocation may fail: `Arc::try_new` of std isn't stable.
 //!
 //! A handle points to a block with the number of handles and the value. The last one to be dropped frees the block.
+use super::base::atomic::{AtomicUsize, Ordering};
 use super::base::{AllocError, AllocFailed, Global};
 use std::alloc::{Layout, alloc};
 use std::ops::Deref;
 use std::process;
 use std::ptr::NonNull;
-use std::sync::atomic::{AtomicUsize, Ordering, fence};
 
 struct Shared<T> {
     handles: AtomicUsize,
@@ -67,9 +67,12 @@ impl<T> Arc<T> {
     #[cold]
     #[inline(never)]
     fn free(block: NonNull<Shared<T>>) {
-        fence(Ordering::Acquire);
+        // All that other handles did happened before their drops. A load says so, since sanitizers don't see a fence.
         // SAFETY: no handle is left, and `new` allocated the block as a `Box` does.
-        unsafe { drop(Box::from_raw(block.as_ptr())) }
+        unsafe {
+            block.as_ref().handles.load(Ordering::Acquire);
+            drop(Box::from_raw(block.as_ptr()));
+        }
     }
 }
 

@@ -1,5 +1,7 @@
 //! The allocator and the kit's traits.
 #![forbid(unsafe_code)]
+// By this name, so that tests can put a model of it in its place.
+pub(crate) use std::sync::atomic;
 use std::{fmt, io};
 
 /// The allocator.
