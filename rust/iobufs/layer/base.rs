@@ -60,3 +60,33 @@ pub trait FromIterator<T>: Sized {
 
     fn from_iter<I: IntoIterator<Item = T>>(alloc: Self::Alloc, iter: I) -> Result<Self, AllocError>;
 }
+
+/// Numbers of one size with and without a sign: rustc has these calls from 1.87 on.
+pub trait CastSign {
+    /// The number of the other kind with the same bits.
+    type Other;
+
+    fn cast_signed(self) -> Self::Other;
+
+    fn cast_unsigned(self) -> Self::Other;
+}
+
+macro_rules! casts {
+    ($($number:ty, $other:ty;)*) => {$(
+        impl CastSign for $number {
+            type Other = $other;
+
+            #[inline]
+            fn cast_signed(self) -> $other {
+                self as $other
+            }
+
+            #[inline]
+            fn cast_unsigned(self) -> $other {
+                self as $other
+            }
+        }
+    )*};
+}
+
+casts! { u8, i8; u16, i16; u32, i32; u64, i64; u128, i128; i8, u8; i16, u16; i32, u32; i64, u64; i128, u128; }

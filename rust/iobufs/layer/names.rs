@@ -3,7 +3,7 @@
 
 /// What each source imports.
 pub mod prelude {
-    pub use super::super::base::{Clone, Drop, FromIterator};
+    pub use super::super::base::{CastSign as _, Clone, Drop, FromIterator};
     pub use super::super::vec::Vec;
 }
 

@@ -58,7 +58,7 @@ mod lent;
 mod part;
 mod parts;
 /// The proved sources, without their contracts.
-#[allow(dead_code, unreachable_pub, unused, missing_docs, clippy::all)]
+#[allow(dead_code, unreachable_pub, unstable_name_collisions, unused, missing_docs, clippy::all)]
 mod proved {
     include!(concat!(env!("OUT_DIR"), "/proved.rs"));
 }

@@ -235,6 +235,7 @@ fn chunks_of_each_reader() {
 
 /// A writer: what it puts of a source, and the bytes that are in it.
 trait Written: BufMut {
+    fn as_buf_mut(&mut self) -> &mut dyn BufMut;
     fn put_all(&mut self, source: Source);
     fn written(self: Box<Self>) -> Vec<u8>;
 }
@@ -242,6 +243,10 @@ trait Written: BufMut {
 macro_rules! written {
     ($($buffer:ident, $bytes:expr;)*) => {$(
         impl Written for $buffer {
+            fn as_buf_mut(&mut self) -> &mut dyn BufMut {
+                self
+            }
+
             fn put_all(&mut self, source: Source) {
                 self.put(source)
             }
@@ -375,7 +380,7 @@ fn each_call_writes_as_of_a_slice() {
         for (call, put) in PUTS.iter().chain(&MORE_PUTS) {
             let (mut ours, mut bytes) = (make(n), [0; MOST]);
             let mut theirs = &mut bytes[..n];
-            let (found, wanted) = (outcome(|| put(&mut *ours)), outcome(|| put(&mut theirs)));
+            let (found, wanted) = (outcome(|| put(ours.as_buf_mut())), outcome(|| put(&mut theirs)));
             assert_eq!(found, wanted, "{call} for {n} bytes, {name}");
             // After a panic a part may be written, as of a slice.
             if wanted.is_ok() {
