@@ -44,7 +44,7 @@ use std::io::{self, ErrorKind, Write};
 use std::marker::Model;
 use std::ops::Range;
 use std::{fmt, mem};
-pub use writing::write_again;
+pub use writing::{BATCH, write_again, write_chunks_again};
 
 /// A read-only buffer of several chunks (`IoBufs`). Two or more chunks are never empty, and are in a deque, each with
 /// the offset of its end:
@@ -550,9 +550,10 @@ impl IoBufs {
         }
     }
 
-    /// Writes all bytes, chunk by chunk, and drops those that the writer takes (own). Nothing is allocated. An error is
-    /// the writer's, or `ErrorKind::WriteZero` if it takes none. The other bytes are left, and `write_to` may be called
-    /// again. An interrupted write is tried again; after 2^64 - 1 tries the error is `ErrorKind::TimedOut`.
+    /// Writes all bytes, up to `BATCH` chunks at a time, and drops those that the writer takes (own). Nothing is
+    /// allocated. An error is the writer's (`write_chunks_again` says which one is dropped), or `ErrorKind::WriteZero` if
+    /// it takes none. The other bytes are left, and `write_to` may be called again. An interrupted write is tried again;
+    /// after 2^64 - 1 tries the error is `ErrorKind::TimedOut`.
     #[tactic(auto, using(crate::proofs::CallerFacts::sending, crate::proofs::CallerFacts::resting))]
     pub fn write_to<W: Write>(&mut self, to: &mut W) -> io::Result<()>
         ensures sent { IsSent (W.contents to.old) (W.contents to.new) self.old.bytes self.new.bytes }
@@ -563,7 +564,7 @@ impl IoBufs {
         ensures retried { IfErr result (λ error. error_kind error ≢ Interrupted) }
     {
         while self.has_remaining() {
-            if self.write_chunk(to)? == 0 {
+            if self.write_chunks(to)? == 0 {
                 return Err(io::Error::from(ErrorKind::WriteZero));
             }
         }

@@ -14,6 +14,6 @@ pub mod bufs_mut;
 pub mod builder;
 mod traits;
 
-pub use bufs::{Ends, IoBufs, Located, find_end, write_again};
+pub use bufs::{BATCH, Ends, IoBufs, Located, find_end, write_again, write_chunks_again};
 pub use bufs_mut::IoBufsMut;
 pub use builder::{Builder, EncodeExt};

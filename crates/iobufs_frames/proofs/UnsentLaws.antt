@@ -1,10 +1,10 @@
--- The bytes of a frame that are not sent.
-use Rattle.std.proofs.Common.{◌≡◌, ℕ, ◌-◌, ◌≤◌, List, [], ◌∷◌, ◌++◌, length, drop, ap, sym, ◌∙◌, arith, length-append, length-drop}
+-- The bytes of frames that are not sent.
+use Rattle.std.proofs.Common.{◌≡◌, ℕ, ◌-◌, ◌≤◌, List, [], ◌∷◌, ◌++◌, append_assoc, length, drop, get_or, ap, refl, sym, ◌∙◌, arith, length-append, length-drop}
 use Rattle.std.proofs.lemmas.List.{nil_from_length}
 use Rattle.std.proofs.Math.Seq.{drop-append-add}
 use Rattle.iobufs_core.specs.MarkedText.{MarkedText, text_rest}
 use Rattle.iobufs_core.specs.ReadBytes.{bytes-rest}
-use Rattle.iobufs_frames.specs.Unsent.{IsAdvanced, UnsentBytes, unsent_rest}
+use Rattle.iobufs_frames.specs.Unsent.{ArePassed, IsAdvanced, UnsentBytes, unsent_after, unsent_rest}
 
 -- all of a length goes, and some bytes of the body
 pub body_goes : (u : UnsentBytes) (gone : List ℕ) (left : MarkedText) (n : ℕ) → u.head ++ u.body.bytes ≡ u.bytes → length u.head ≤ n
@@ -24,3 +24,56 @@ body_goes u gone left n is more within none rest =
 -- some bytes more went
 pub advanced_on : (old mid new : UnsentBytes) (n : ℕ) → IsAdvanced old mid → new ≡ unsent_rest mid n → IsAdvanced old new
 advanced_on old mid new n (counts, is) more = (n ∷ counts, more ∙ ap (λ (u : UnsentBytes). unsent_rest u n) is)
+
+-- and some more after them
+advanced_by : (old mid new : UnsentBytes) (counts : List ℕ) → IsAdvanced old mid → new ≡ unsent_after mid counts → IsAdvanced old new
+advanced_by old mid new [] (before, is) more = (before, more ∙ is)
+advanced_by old mid new (n ∷ counts) is more =
+    advanced_on old (unsent_after mid counts) new n (advanced_by old mid (unsent_after mid counts) counts is refl) more
+
+-- no byte of these frames went
+pub passed_none : (rest : UnsentBytes) (more : List UnsentBytes) → ArePassed (rest ∷ more) rest more
+passed_none rest more = record { gone = []; first = rest; whole = refl; advanced = ([], refl) }
+
+-- the next frame is the first
+pub passed_next : (frames : List UnsentBytes) (rest next : UnsentBytes) (more : List UnsentBytes) → ArePassed frames rest (next ∷ more)
+    → ArePassed frames next more
+passed_next frames rest next more is = record {
+  gone = is.gone ++ is.first ∷ [];
+  first = next;
+  whole = is.whole ∙ sym (append_assoc is.gone (is.first ∷ []) (next ∷ more));
+  advanced = ([], refl);
+}
+
+-- some bytes more of the first frame went
+pub passed_on : (frames : List UnsentBytes) (rest new : UnsentBytes) (more : List UnsentBytes) (n : ℕ) → ArePassed frames rest more
+    → new ≡ unsent_rest rest n → ArePassed frames new more
+passed_on frames rest new more n is less = record {
+  gone = is.gone;
+  first = is.first;
+  whole = is.whole;
+  advanced = advanced_on is.first rest new n is.advanced less;
+}
+
+-- frames went, and then more
+both : (frames : List UnsentBytes) (rest : UnsentBytes) (more : List UnsentBytes) (new : UnsentBytes) (left gone : List UnsentBytes)
+    (first : UnsentBytes) → ArePassed frames rest more → rest ∷ more ≡ gone ++ first ∷ left → IsAdvanced first new → ArePassed frames new left
+both frames rest more new left [] first is whole (counts, less) =
+    let here : rest ≡ first = ap (λ (us : List UnsentBytes). get_or us 0 rest) whole in
+    let after : more ≡ left = ap (λ (us : List UnsentBytes). drop 1 us) whole in record {
+      gone = is.gone;
+      first = is.first;
+      whole = is.whole ∙ ap (λ us. is.gone ++ is.first ∷ us) after;
+      advanced = advanced_by is.first rest new counts is.advanced (less ∙ ap (λ (u : UnsentBytes). unsent_after u counts) (sym here));
+    }
+both frames rest more new left (u ∷ gone) first is whole less =
+    let after : more ≡ gone ++ first ∷ left = ap (λ (us : List UnsentBytes). drop 1 us) whole in record {
+      gone = is.gone ++ is.first ∷ gone;
+      first = first;
+      whole = is.whole ∙ ap (λ us. is.gone ++ is.first ∷ us) after ∙ sym (append_assoc is.gone (is.first ∷ gone) (first ∷ left));
+      advanced = less;
+    }
+
+pub passed_both : (frames : List UnsentBytes) (rest : UnsentBytes) (more : List UnsentBytes) (new : UnsentBytes) (left : List UnsentBytes)
+    → ArePassed frames rest more → ArePassed (rest ∷ more) new left → ArePassed frames new left
+passed_both frames rest more new left is next = both frames rest more new left next.gone next.first is next.whole next.advanced

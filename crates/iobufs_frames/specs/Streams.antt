@@ -5,9 +5,13 @@
 --     IsFirstOfAll    so of a reader whose bytes are known: the frame is the first of all that it holds and may still read
 --     TakesHeld       the frame at the front of the held bytes was taken, without a read
 --     Fills           one read: bytes came, or it is at its end
---     PutsFrame       a frame was begun, or the body is handed back
---     SendsRest       bytes of the frame went, in order, and the others are left
-use Rattle.std.specs.Prelude.{◌≡◌, ◌≢◌, ◌⊎◌, ℕ, ◌<◌, Bool, true, false, Option, Result, Ok, Err, IfOk, IfSome, List, [], ◌++◌, length}
+--     unsent_frames, unsent_bytes,    the frames of a writer of which bytes are not sent, these bytes, and the number of frames
+--     unsent_count                    that have some
+--     IsIdle          all that was put is sent
+--     BeginsWriting   a writer to which nothing was put
+--     PutsFrame       a frame follows those that are not sent, or the body is handed back
+--     SendsRest       bytes of the frames went, in order, and the others are left
+use Rattle.std.specs.Prelude.{◌≡◌, ◌≢◌, ◌⊎◌, ℕ, ◌+◌, ◌<◌, ◌==◌, if◌then◌else◌, Bool, true, false, Option, Result, Ok, Err, IfOk, IfSome, List, [], ◌∷◌, ◌++◌, length}
 use Rattle.std.specs.IoError.{error_kind}
 use Rattle.std.specs.declared.io.Error.{Error as IoError}
 use Rattle.std.specs.declared.io.ErrorKind.TheVariants.{Interrupted}
@@ -15,13 +19,13 @@ use Rattle.std.specs.Io.KnownBytes.{Consumes, IsAtEnd}
 use Rattle.iobufs.specs.Sending.{IsSent}
 use Rattle.iobufs_core.specs.MarkedText.{MarkedText}
 use Rattle.iobufs_core.specs.View.{View, view_of_bytes}
-use Rattle.iobufs_core.specs.declared.codec.base.BufError.TheVariants.{TooLong}
+use Rattle.iobufs_core.specs.declared.codec.base.BufError.TheVariants.{Memory, TooLong}
 use Rattle.iobufs_core.specs.declared.codec.base.Error.{Error}
 use Rattle.iobufs_core.specs.declared.codec.base.RangeCfg.{RangeCfg}
 use Rattle.iobufs_core.specs.declared.codec.base.Refused.{Refused}
-use Rattle.iobufs_frames.specs.Frames.{CanBeSent, IsFirstOf, IsFramed, LacksFrame, ReadsFirst, TakesFirst}
+use Rattle.iobufs_frames.specs.Frames.{CanBeSent, frame_written, IsFirstOf, IsFramed, LacksFrame, ReadsFirst, TakesFirst}
 use Rattle.iobufs_frames.specs.Receiving.{KeepsReceived}
-use Rattle.iobufs_frames.specs.Unsent.{IsAdvanced, unsent_frame}
+use Rattle.iobufs_frames.specs.Unsent.{ArePassed, UnsentBytes, frames_bytes, unsent_frame, unsent_nothing}
 use Rattle.iobufs_frames.specs.declared.End.{End}
 use Rattle.iobufs_frames.specs.declared.End.TheVariants.{Open}
 use Rattle.iobufs_frames.specs.declared.error.FrameError.{FrameError}
@@ -83,25 +87,47 @@ Fills remaining old (Err error) new =
     Consumes (remaining old.from) (remaining new.from) [] × (new.held ≡ old.held) × (new.range ≡ old.range)
     × (error_kind error ≢ Interrupted)
 
--- `put`: a frame was begun, of which nothing is sent; a body that can't be sent is handed back, and all stays
+-- the frames of which bytes are not sent, in order; all these bytes, and how many frames have some
+abbrev pub unsent_frames : {W : Type 0} → FrameWriter W → List UnsentBytes
+unsent_frames writer = writer.rest ∷ writer.more.items
+
+abbrev pub unsent_bytes : {W : Type 0} → FrameWriter W → List ℕ
+unsent_bytes writer = frames_bytes (unsent_frames writer)
+
+abbrev pub unsent_count : {W : Type 0} → FrameWriter W → ℕ
+unsent_count writer = if length writer.rest.bytes == 0 then length writer.more.items else 1 + length writer.more.items
+
+-- all that was put is sent
+abbrev pub IsIdle : {W : Type 0} → FrameWriter W → Type 0
+IsIdle writer = (writer.rest.bytes ≡ []) × (writer.more.items ≡ [])
+
+-- a writer to which nothing was put
+abbrev pub BeginsWriting : {W : Type 0} → W → Prefix → RangeCfg → FrameWriter W → Type 0
+BeginsWriting to prefix range writer = (writer.to ≡ to) × (writer.prefix ≡ prefix) × (writer.range ≡ range)
+    × (writer.rest ≡ unsent_nothing) × (writer.more.items ≡ []) × (writer.is_flushed ≡ true)
+
+-- `put`: a frame of which nothing is sent follows those that are not; or the body is handed back, and all stays
 abbrev pub PutsFrame : {W : Type 0} → FrameWriter W → MarkedText → Result (Unit {0}) (Refused MarkedText) → FrameWriter W → Type 0
 PutsFrame old body (Ok done) new = CanBeSent old.prefix old.range (length body.bytes)
-    × (new ≡ record old { rest = unsent_frame old.prefix body })
-PutsFrame old body (Err refused) new =
-    (CanBeSent old.prefix old.range (length body.bytes) → ⊥) × (new ≡ old) × (refused ≡ record { cause = TooLong; value = body })
+    × (IsIdle old → new ≡ record old { rest = unsent_frame old.prefix body })
+    × ((IsIdle old → ⊥) → (new.more.items ≡ old.more.items ++ unsent_frame old.prefix body ∷ []) × (new ≡ record old { more = new.more }))
+    × (unsent_bytes new ≡ unsent_bytes old ++ frame_written old.prefix body.bytes)
+PutsFrame old body (Err refused) new = (new.more.items ≡ old.more.items) × (new ≡ record old { more = new.more }) × (refused.value ≡ body)
+    × (((CanBeSent old.prefix old.range (length body.bytes) → ⊥) × (refused.cause ≡ TooLong))
+    ⊎ (CanBeSent old.prefix old.range (length body.bytes) × (refused.cause ≡ Memory) × (IsIdle old → ⊥)))
 
 -- how a send ends: all went; or some bytes are left after an error that was no interruption
-abbrev pub EndsSend : List ℕ → Result (Unit {0}) IoError → Type 0
-EndsSend rest (Ok done) = rest ≡ []
-EndsSend rest (Err error) = (0 < length rest) × (error_kind error ≢ Interrupted)
+abbrev pub EndsSend : {W : Type 0} → FrameWriter W → Result (Unit {0}) IoError → Type 0
+EndsSend writer (Ok done) = IsIdle writer
+EndsSend writer (Err error) = (0 < length (unsent_bytes writer)) × (error_kind error ≢ Interrupted)
 
--- `send`: bytes of the frame went, in order; what is left of it stays to be sent
+-- `send`: bytes of the frames went, in order; what is left of them stays to be sent, in the chunks that were put
 pub record SendsRest {W : Type 0} (contents : W → Option (List ℕ)) (old : FrameWriter W) (result : Result (Unit {0}) IoError)
     (new : FrameWriter W) : Type 0 where
-  pub sent : IsSent (contents old.to) (contents new.to) old.rest.bytes new.rest.bytes
-  pub chunks : IsAdvanced old.rest new.rest
-  pub ends : EndsSend new.rest.bytes result
-  pub idle : old.rest.bytes ≡ [] → new ≡ old
-  pub flushed : 0 < length old.rest.bytes → new.is_flushed ≡ false
+  pub sent : IsSent (contents old.to) (contents new.to) (unsent_bytes old) (unsent_bytes new)
+  pub passed : ArePassed (unsent_frames old) new.rest new.more.items
+  pub ends : EndsSend new result
+  pub idle : IsIdle old → new ≡ old
+  pub flushed : 0 < length (unsent_bytes old) → new.is_flushed ≡ false
   pub prefix : new.prefix ≡ old.prefix
   pub range : new.range ≡ old.range

@@ -4,7 +4,11 @@
 --     unsent_frame   a frame of which nothing was sent
 --     unsent_rest    what is left of them after their first bytes; a body of which all went shares no block
 --     IsAdvanced     some bytes went, a few at a time
-use Rattle.std.specs.Prelude.{◌≡◌, ℕ, ◌-◌, List, [], ◌∷◌, length, drop}
+--     IsFront        the first bytes
+--     frames_bytes   the bytes of several frames, in order
+--     ArePassed      the first frames went, and some bytes of the next, a few at a time
+use Rattle.std.specs.Prelude.{◌≡◌, ℕ, ◌-◌, List, [], ◌∷◌, ◌++◌, length, drop}
+use Rattle.std.specs.List.{flat_map}
 use Rattle.iobufs_core.specs.MarkedText.{MarkedText, default_text, text_rest}
 use Rattle.iobufs_frames.specs.Frames.{frame_written}
 use Rattle.iobufs_frames.specs.Prefixes.{prefix_written}
@@ -44,3 +48,18 @@ unsent_after unsent (n ∷ before) = unsent_rest (unsent_after unsent before) n
 -- some bytes went, a few at a time
 abbrev pub IsAdvanced : UnsentBytes → UnsentBytes → Type 0
 IsAdvanced old new = (counts : List ℕ) × (new ≡ unsent_after old counts)
+
+-- the first of these bytes
+abbrev pub IsFront : List ℕ → List ℕ → Type 0
+IsFront front text = (rest : List ℕ) × (text ≡ front ++ rest)
+
+-- the bytes of several frames, in order
+abbrev pub frames_bytes : List UnsentBytes → List ℕ
+frames_bytes frames = flat_map (λ frame. frame.bytes) frames
+
+-- the first frames went, and some bytes of the next, a few at a time; `more` are the frames after it
+pub record ArePassed (frames : List UnsentBytes) (rest : UnsentBytes) (more : List UnsentBytes) : Type 0 where
+  pub gone : List UnsentBytes
+  pub first : UnsentBytes
+  pub whole : frames ≡ gone ++ first ∷ more
+  pub advanced : IsAdvanced first rest

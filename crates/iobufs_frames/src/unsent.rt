@@ -1,14 +1,17 @@
 //! The bytes of a frame that are not sent.
-ghost use Rattle.std.specs.Prelude.{◌≡◌, ◌+◌, ◌<◌, ◌≤◌, ◌^◌, ◌++◌, [], length, nat_eq, slice_get};
+ghost use Rattle.std.specs.Prelude.{◌≡◌, ◌+◌, ◌<◌, ◌≤◌, ◌^◌, ◌++◌, [], length, nat_eq, slice_get, take};
 ghost use Rattle.bytes.specs.Unread.{IsChunkOf};
 ghost use Rattle.iobufs_core.specs.Chunks.{IsChunkOf as IsOurChunkOf};
 ghost use Rattle.iobufs_core.specs.MarkedText.{text_rest};
-ghost use Rattle.iobufs_frames.specs.Unsent.{unsent_rest};
+ghost use Rattle.std.specs.Io.Slices.{io_slices_bytes};
+ghost use Rattle.iobufs_core.specs.MarkedText.{is_single};
+ghost use Rattle.iobufs_frames.specs.Unsent.{IsFront, unsent_rest};
 
 use crate::Head;
 use bytes::Buf;
 use iobufs::bufs::IoBufs;
 use iobufs_core::codec;
+use std::io::IoSlice;
 use std::marker::Model;
 
 /// The bytes of a frame that are not sent: the end of its length, and of its body.
@@ -48,6 +51,39 @@ impl Unsent {
         ensures { result ≡ record { head = head.filled; body = body; bytes = head.filled ++ body.bytes } }
     {
         Unsent { head, body }
+    }
+
+    // Returns whether the body is one chunk.
+    pub(crate) fn is_single(&self) -> bool
+        ensures { result ≡ is_single self.now.body }
+    {
+        self.body.is_single()
+    }
+
+    // Fills `dst` with the first chunks that hold bytes, and returns their number.
+    pub(crate) fn fill_slices<'a>(&'a self, dst: &mut [IoSlice<'a>]) -> usize
+        ensures room { length dst.new ≡ length dst.old }
+        ensures few { result ≤ length dst.old }
+        ensures front { IsFront (io_slices_bytes (take result dst.new)) self.now.bytes }
+        ensures whole { result < length dst.old → io_slices_bytes (take result dst.new) ≡ self.now.bytes }
+    {
+        let head = self.head.as_slice();
+        if head.is_empty() {
+            return self.body.fill_slices(dst);
+        }
+        if dst.is_empty() {
+            return 0;
+        }
+        dst[0] = IoSlice::new(head);
+        1 + self.body.fill_slices(&mut dst[1..])
+    }
+
+    // The body, of a frame of which nothing was sent.
+    pub(crate) fn into_body(self) -> IoBufs
+        ensures { result ≡ self.body }
+    {
+        let Unsent { head: _, body } = self;
+        body
     }
 
     /// Returns whether there are no bytes.

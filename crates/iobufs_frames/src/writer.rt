@@ -1,35 +1,25 @@
 //! Frames as lists of chunks, for writes of any size.
-ghost use Rattle.std.specs.Prelude.{◌≡◌, ◌≢◌, ◌+◌, [], length, true, IfErr, IfOk, OnErr};
+ghost use Rattle.std.specs.Prelude.{◌≡◌, ◌≢◌, ◌≤◌, [], ◌∷◌, length, drop, take, IfErr};
+ghost use Rattle.std.specs.Io.{WritesAtMost};
+ghost use Rattle.std.specs.Io.KnownBytes.{WriteAppends};
+ghost use Rattle.std.specs.Io.Slices.{io_slices_bytes};
 ghost use Rattle.std.specs.IoError.{error_kind};
 ghost use Rattle.std.specs.declared.io.ErrorKind.TheVariants.{Interrupted};
-ghost use Rattle.iobufs.specs.Sending.{IsSent};
-ghost use Rattle.iobufs_frames.specs.Streams.{PutsFrame, SendsRest};
-ghost use Rattle.iobufs_frames.specs.Unsent.{unsent_nothing, unsent_rest};
+ghost use Rattle.iobufs_frames.specs.Streams.{BeginsWriting, PutsFrame, SendsRest, unsent_bytes, unsent_count, unsent_frames};
+ghost use Rattle.iobufs_frames.specs.Unsent.{ArePassed, IsFront, frames_bytes};
 ghost use Rattle.iobufs_frames.specs.declared.lengths.Prefix.TheVariants.{Spelled};
 
 use crate::unsent::Unsent;
 use crate::{Head, Prefix};
 use bytes::Buf;
-use iobufs::bufs::{IoBufs, write_again};
+use iobufs::bufs::{BATCH, IoBufs, write_chunks_again};
 use iobufs_core::codec::{BufError, RangeCfg, Refused};
-use std::io::{self, ErrorKind, Write};
+use std::alloc::Global;
+use std::collections::VecDeque;
+use std::io::{self, ErrorKind, IoSlice, Write};
 
-// Writes the first chunk, and drops from the front what was taken.
-#[tactic(auto, using(iobufs::proofs::CallerFacts::sending))]
-fn send_chunk<W: Write>(to: &mut W, rest: &mut Unsent) -> io::Result<usize>
-    ensures sent { IsSent (W.contents to.old) (W.contents to.new) rest.old.bytes rest.new.bytes }
-    ensures left { IfOk result (λ n. rest.new ≡ unsent_rest rest.old n) }
-    ensures unchanged { OnErr result (rest.new ≡ rest.old) }
-    ensures count { IfOk result (λ n. length rest.old.bytes ≡ n + length rest.new.bytes) }
-    ensures retried { IfErr result (λ error. error_kind error ≢ Interrupted) }
-{
-    let n = write_again(to, rest.chunk())?;
-    rest.advance(n);
-    Ok(n)
-}
-
-/// A writer to which whole frames are sent, of lengths in a range. A frame is written chunk by chunk, its length first:
-/// over a `BufWriter`, short chunks and frames go out together, and `to.flush()` ends a batch.
+/// A writer to which whole frames are sent, of lengths in a range. The length and the chunks of a body are written where
+/// they are, up to 64 at a time, and so are the frames that were put before a `send`.
 #[derive(Drop)]
 pub struct FrameWriter<W> {
     /// The writer: `&writer.to` and `&mut writer.to` are the `get_ref` and `get_mut` of std's writers.
@@ -38,25 +28,25 @@ pub struct FrameWriter<W> {
     pub prefix: Prefix,
     /// The lengths that a body may have. A change applies to the next `put`.
     pub range: RangeCfg,
-    /// The unsent rest of the frame that was put last, of `rest.len()` bytes.
+    /// The unsent rest of the first frame that isn't sent, of `rest.len()` bytes: none if all is sent.
     pub rest: Unsent,
+    /// The frames after it, of which nothing is sent.
+    pub more: VecDeque<Unsent>,
     /// Whether nothing was sent since it was set: `send` clears it. Set it after `to.flush()` to spare the next one.
     pub is_flushed: bool,
 }
 
 impl<W: Drop> FrameWriter<W> {
-    /// Makes a writer of frames with varint lengths.
-    pub fn new(to: W, range: RangeCfg) -> FrameWriter<W>
-        ensures { result
-            ≡ record { to = to; prefix = Spelled; range = range; rest = unsent_nothing; is_flushed = true } }
+    /// Makes a writer of frames with varint lengths. It allocates nothing.
+    pub fn new(alloc: Global, to: W, range: RangeCfg) -> FrameWriter<W>
+        ensures { BeginsWriting to Spelled range result }
     {
-        FrameWriter::with_prefix(to, Prefix::Spelled, range)
+        FrameWriter::with_prefix(alloc, to, Prefix::Spelled, range)
     }
 
-    /// Makes a writer of frames whose lengths are written as `prefix`.
-    pub fn with_prefix(to: W, prefix: Prefix, range: RangeCfg) -> FrameWriter<W>
-        ensures { result
-            ≡ record { to = to; prefix = prefix; range = range; rest = unsent_nothing; is_flushed = true } }
+    /// Makes a writer of frames whose lengths are written as `prefix`. It allocates nothing.
+    pub fn with_prefix(alloc: Global, to: W, prefix: Prefix, range: RangeCfg) -> FrameWriter<W>
+        ensures { BeginsWriting to prefix range result }
     {
         let rest = Unsent::new(Head::new(), IoBufs::default());
         FrameWriter {
@@ -64,15 +54,15 @@ impl<W: Drop> FrameWriter<W> {
             prefix,
             range,
             rest,
+            more: VecDeque::new(alloc),
             is_flushed: true,
         }
     }
 
-    /// Begins a frame of this body; nothing is sent yet. The body's chunks aren't copied, and nothing is allocated.
+    /// Puts a frame of this body after those that aren't sent; nothing is sent yet. The body's chunks aren't copied.
     /// Fails with `BufError::TooLong` if its length is outside the range or can't be written so (see `Prefix::fits`),
-    /// or both are longer than `usize::MAX`.
+    /// or both are longer than `usize::MAX`; with `BufError::Memory`, unless all is sent: then nothing is allocated.
     pub fn put(&mut self, body: IoBufs) -> Result<(), Refused<IoBufs>>
-        requires { self.old.rest.bytes ≡ [] }
         ensures { PutsFrame self.old body result self.new }
     {
         let Some(head) = self.prefix.head_within(body.len(), &self.range) else {
@@ -81,29 +71,131 @@ impl<W: Drop> FrameWriter<W> {
                 value: body,
             });
         };
-        self.rest = Unsent::new(head, body);
-        Ok(())
+        let frame = Unsent::new(head, body);
+        if self.unsent() == 0 {
+            self.rest = frame;
+            return Ok(());
+        }
+        match self.more.push_back(frame) {
+            Ok(()) => Ok(()),
+            Err(failed) => Err(Refused {
+                cause: BufError::Memory,
+                value: failed.value.into_body(),
+            }),
+        }
+    }
+
+    /// Returns how many frames aren't sent.
+    pub fn unsent(&self) -> usize
+        ensures { result ≡ unsent_count self.now }
+    {
+        if self.rest.is_empty() {
+            return self.more.len();
+        }
+        1 + self.more.len()
+    }
+
+    // Drops the first `n` unsent bytes, and frames of which none are left.
+    fn drop_sent(&mut self, n: usize)
+        requires { n ≤ length (unsent_bytes self.old) }
+        ensures bytes { unsent_bytes self.new ≡ drop n (unsent_bytes self.old) }
+        ensures passed { ArePassed (unsent_frames self.old) self.new.rest self.new.more.items }
+        ensures settled { self.new.rest.bytes ≡ [] → self.new.more.items ≡ [] }
+        ensures same { self.new ≡ record self.old { rest = self.new.rest; more = self.new.more } }
+    {
+        let mut left = n;
+        while left >= self.rest.len() {
+            let Some(next) = self.more.pop_front() else {
+                break;
+            };
+            left -= self.rest.len();
+            self.rest = next;
+        }
+        self.rest.advance(left);
     }
 }
 
+// Fills `dst` with the first chunks of these frames, and returns their number.
+fn fill_slices<'a>(rest: &'a Unsent, more: &'a VecDeque<Unsent>, dst: &mut [IoSlice<'a>]) -> usize
+    ensures room { length dst.new ≡ length dst.old }
+    ensures few { result ≤ length dst.old }
+    ensures front { IsFront (io_slices_bytes (take result dst.new)) (frames_bytes (rest.now ∷ more.now.items)) }
+{
+    let mut count = rest.fill_slices(dst);
+    for frame in more {
+        if count == dst.len() {
+            break;
+        }
+        count += frame.fill_slices(&mut dst[count..]);
+    }
+    count
+}
+
+// Writes the first chunks of these frames once, at most two: a short list costs less to make.
+fn write_two<'a, W: Write>(
+    to: &mut W,
+    rest: &'a Unsent,
+    more: &'a VecDeque<Unsent>,
+) -> io::Result<usize>
+    ensures bound { WritesAtMost result (frames_bytes (rest.now ∷ more.now.items)) }
+    ensures bytes { WriteAppends (W.contents to.old) (W.contents to.new) result
+        (frames_bytes (rest.now ∷ more.now.items)) }
+    ensures retried { IfErr result (λ error. error_kind error ≢ Interrupted) }
+{
+    let mut slices: [IoSlice<'a>; 2] = [IoSlice::new(&[]); 2];
+    let count = fill_slices(rest, more, &mut slices);
+    write_chunks_again(to, &slices[..count])
+}
+
+// Writes the first chunks of these frames once, at most `BATCH`.
+fn write_batch<'a, W: Write>(
+    to: &mut W,
+    rest: &'a Unsent,
+    more: &'a VecDeque<Unsent>,
+) -> io::Result<usize>
+    ensures bound { WritesAtMost result (frames_bytes (rest.now ∷ more.now.items)) }
+    ensures bytes { WriteAppends (W.contents to.old) (W.contents to.new) result
+        (frames_bytes (rest.now ∷ more.now.items)) }
+    ensures retried { IfErr result (λ error. error_kind error ≢ Interrupted) }
+{
+    let mut slices: [IoSlice<'a>; BATCH] = [IoSlice::new(&[]); BATCH];
+    let count = fill_slices(rest, more, &mut slices);
+    write_chunks_again(to, &slices[..count])
+}
+
 impl<W: Write + Drop> FrameWriter<W> {
-    /// Sends the rest of the frame. An error is the writer's, never `ErrorKind::Interrupted`, or `ErrorKind::WriteZero`
-    /// if it takes none. After it no byte is lost or sent twice: the rest is in `rest`, and `send` may be called again.
+    /// Sends all frames that were put, up to `BATCH` chunks at a time. An error is the writer's
+    /// (`iobufs::write_chunks_again` says which one is dropped), never `ErrorKind::Interrupted`, or
+    /// `ErrorKind::WriteZero` if it takes none. After it no byte is lost or sent twice: `send` may be called again.
     pub fn send(&mut self) -> io::Result<()>
         ensures { SendsRest W.contents self.old result self.new }
     {
-        let mut left = self.rest.len();
-        if left == 0 {
+        if self.unsent() == 0 {
             return Ok(());
         }
         self.is_flushed = false;
-        while left > 0 {
-            let n = send_chunk(&mut self.to, &mut self.rest)?;
+        self.drop_sent(0);
+        while !self.rest.is_empty() {
+            let n = self.write_front()?;
             if n == 0 {
                 return Err(io::Error::from(ErrorKind::WriteZero));
             }
-            left -= n;
+            self.drop_sent(n);
         }
         Ok(())
+    }
+
+    // Writes the first chunks once.
+    fn write_front(&mut self) -> io::Result<usize>
+        ensures bound { WritesAtMost result (unsent_bytes self.old) }
+        ensures bytes { WriteAppends (W.contents self.old.to) (W.contents self.new.to) result (unsent_bytes self.old) }
+        ensures retried { IfErr result (λ error. error_kind error ≢ Interrupted) }
+        ensures same { self.new ≡ record self.old { to = self.new.to } }
+    {
+        if self.more.is_empty() && self.rest.is_single() {
+            write_two(&mut self.to, &self.rest, &self.more)
+        } else {
+            write_batch(&mut self.to, &self.rest, &self.more)
+        }
     }
 }

@@ -28,7 +28,7 @@ use Rattle.iobufs_core.specs.declared.codec.base.Error.{Error}
 use Rattle.iobufs_core.specs.declared.codec.base.Error.TheVariants.{Memory}
 use Rattle.iobufs_core.specs.declared.codec.base.RangeCfg.{RangeCfg}
 use Rattle.iobufs_values.specs.declared.fault.Fault.{Fault}
-use Rattle.iobufs_values.specs.declared.fault.Fault.TheVariants.{Codec, InvalidBool, InvalidEnum, ExtraData}
+use Rattle.iobufs_values.specs.declared.fault.Fault.TheVariants.{Codec, InvalidBool, InvalidEnum, Invalid, ExtraData}
 use Rattle.iobufs_values.specs.Form.{IsForm, IsCodecFault, no_memory, behind, IsMadeThere, IsShortThere, IsByteAt, IsBoolFault, IsSameOption, IsOptionAdmitted, IsOptionFound, IsOptionFault, IsPairFault}
 
 -- ---- faults that are errors of the codec
@@ -38,6 +38,7 @@ only_memory : (is : Error → Type 0) → ((error : Error) → is error → erro
 only_memory is memory (Codec error) h = ap Codec (memory error h)
 only_memory is memory InvalidBool h = absurd h
 only_memory is memory (InvalidEnum tag) h = absurd h
+only_memory is memory (Invalid name reason) h = absurd h
 only_memory is memory (ExtraData n) h = absurd h
 
 lifted : (a b : Error) → (a ≡ b) ⊎ ((a ≡ Memory) ⊎ (b ≡ Memory)) → (Codec a ≡ Codec b) ⊎ ((Codec a ≡ no_memory) ⊎ (Codec b ≡ no_memory))
@@ -51,9 +52,11 @@ one_of : (is other : Error → Type 0) → ((a b : Error) → is a → other b �
 one_of is other one (Codec a) (Codec b) p q = lifted a b (one a b p q)
 one_of is other one (Codec a) InvalidBool p q = absurd q
 one_of is other one (Codec a) (InvalidEnum tag) p q = absurd q
+one_of is other one (Codec a) (Invalid name reason) p q = absurd q
 one_of is other one (Codec a) (ExtraData n) p q = absurd q
 one_of is other one InvalidBool b p q = absurd p
 one_of is other one (InvalidEnum tag) b p q = absurd p
+one_of is other one (Invalid name reason) b p q = absurd p
 one_of is other one (ExtraData n) b p q = absurd p
 
 -- ---- nothing

@@ -6,7 +6,6 @@ ghost use Rattle.iobufs_values.specs.declared.fault.Fault.{Fault as AnyFault};
 ghost use Rattle.iobufs_values.specs.declared.fault.Fault.TheVariants.{ExtraData};
 
 use crate::Fault;
-use iobufs_core::buf::IoBuf;
 use iobufs_core::codec::{EncodeSize, Peek};
 use std::alloc::Global;
 
@@ -45,7 +44,7 @@ pub trait Look: EncodeSize + Sized {
     /// Reads the value from the front, whole. If it fails, `buf` is unchanged.
     final fn read_whole<B: Peek>(alloc: Global, buf: &mut B, cfg: &Self::Cfg) -> Result<Self, Fault>
         ensures found { IfOk result (is_found (B.marked buf.old) 0 cfg.now) }
-        ensures left { IfOk result (λ value. buf.new ≡ B.copied buf.old (length (Self.written value))) }
+        ensures left { IfOk result (λ value. buf.new ≡ B.advanced buf.old (length (Self.written value))) }
         ensures bytes { IfOk result (λ value. B.text buf.old ≡ Self.written value ++ B.text buf.new) }
         ensures back { (value : Self) (rest : List ℕ) → admits cfg.now value
             → B.text buf.old ≡ Self.written value ++ rest
@@ -54,7 +53,7 @@ pub trait Look: EncodeSize + Sized {
         ensures unchanged { OnErr result (buf.new ≡ buf.old) }
     {
         let (value, len) = Self::look(alloc, buf, 0, cfg)?;
-        drop_copied(alloc, buf, len);
+        buf.advance(len);
         Ok(value)
     }
 
@@ -87,15 +86,4 @@ pub(crate) fn has_len<B: Peek>(buf: &B)
     ensures { length (B.text buf.now) < 2 ^ 64 }
 {
     let _ = buf.remaining();
-}
-
-// Drops the first bytes as a copy of them does.
-fn drop_copied<B: Peek>(alloc: Global, buf: &mut B, n: usize)
-    requires { n ≤ length (B.text buf.old) }
-    ensures { buf.new ≡ B.copied buf.old n }
-{
-    match buf.take_owned_after::<IoBuf>(alloc, n, 0) {
-        Ok(_) => {}
-        Err(_) => unreachable!(),
-    }
 }

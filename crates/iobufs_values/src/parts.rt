@@ -32,7 +32,7 @@ pub trait ByParts: Sized {
         cfg: &<Self::Parts as Look>::Cfg,
     ) -> Result<Self, Fault>
         ensures found { IfOk result (λ value. Self.Parts.is_found (B.marked buf.old) 0 cfg.now (parts value)) }
-        ensures left { IfOk result (λ value. buf.new ≡ B.copied buf.old (length (Self.Parts.written (parts value)))) }
+        ensures left { IfOk result (λ value. buf.new ≡ B.advanced buf.old (length (Self.Parts.written (parts value)))) }
         ensures bytes { IfOk result (λ value. B.text buf.old ≡ Self.Parts.written (parts value) ++ B.text buf.new) }
         ensures back { (value : Self) (rest : List ℕ) → Self.Parts.admits cfg.now (parts value)
             → B.text buf.old ≡ Self.Parts.written (parts value) ++ rest

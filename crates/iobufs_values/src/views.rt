@@ -132,7 +132,10 @@ impl<const N: usize> Look for [u8; N] {
         skip: usize,
         _cfg: &(),
     ) -> Result<([u8; N], usize), Fault> {
-        Ok((bytes_at(buf, skip)?, N))
+        match bytes_at(buf, skip) {
+            Ok(bytes) => Ok((bytes, N)),
+            Err(fault) => Err(fault),
+        }
     }
 
     ghost form = { array_form _ N };

@@ -1,5 +1,5 @@
 -- The bytes of parts, as a reader sees them chunk by chunk.
-use Rattle.iobufs.proofs.Text.{IsChunkOf, List, Part, [], ap, append-nil, append_assoc, arith, by_lt, first_chunk, full_chunks, length, length-append, length-take, map, nil_from_length, parts_chunks, parts_filled, refl, slice_get, suc, sym, take, take-append-le, take-nil, take_all, take_both, zero, ℕ, ◌++◌, ◌+◌, ◌-◌, ◌<◌, ◌∙◌, ◌∷◌, ◌≡◌, ◌≤◌}
+use Rattle.iobufs.proofs.Text.{IsChunkOf, List, Part, [], ap, append-nil, append_assoc, arith, by_lt, first_chunk, full_chunks, length, length-append, length-take, map, nil_from_length, parts_chunks, parts_filled, refl, slice_get, suc, sym, take, take-append-le, take-nil, take_all, take_both, zero, ℕ, ◌++◌, ◌-◌, ◌<◌, ◌∙◌, ◌∷◌, ◌≡◌, ◌≤◌}
 
 -- one part holds its bytes
 pub filled-one : (p : Part) → parts_filled (p ∷ []) ≡ p.filled

@@ -5,8 +5,8 @@ pub loop-self-preserved : goal.loop-self-preserved
 loop-self-preserved g c =
     let contents = g.W.Write.contents in
     let l = c.loop-self in
-    let new = c.write_chunk.new in record {
+    let new = c.write_chunks.new in record {
       sent = sent_on (contents c.args.to.now) (contents l.to) (contents new.to) c.args.self.now.bytes l.self.bytes new.self.bytes
-          l.invariant.sent c.write_chunk.ensures.sent;
-      rest = rest_on c.args.self.now l.self new.self c.in_ok-write_chunk.field-0 l.invariant.rest c.in_ok-write_chunk.ensures.left;
+          l.invariant.sent c.write_chunks.ensures.sent;
+      rest = rest_on c.args.self.now l.self new.self c.in_ok-write_chunks.field-0 l.invariant.rest c.in_ok-write_chunks.ensures.left;
     }

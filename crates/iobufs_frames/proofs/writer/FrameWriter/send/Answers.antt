@@ -1,37 +1,34 @@
-use Rattle.std.proofs.Common.{ap, arith, length, List, rules, ℕ}
-use Rattle.iobufs.proofs.CallerFacts.{sent_on}
-use Rattle.iobufs_frames.proofs.UnsentLaws.{advanced_on}
+use Rattle.std.proofs.Common.{◌≡◌, ◌∙◌, ap, drop, subst, sym, take}
+use Rattle.std.specs.Io.KnownBytes.{Appends}
+use Rattle.iobufs.proofs.CallerFacts.{sent_front, sent_on}
+use Rattle.iobufs_frames.specs.Streams.{unsent_bytes, unsent_frames}
+use Rattle.iobufs_frames.specs.Unsent.{ArePassed}
+use Rattle.iobufs_frames.specs.declared.writer.FrameWriter.{FrameWriter}
+use Rattle.iobufs_frames.proofs.UnsentLaws.{passed_both}
 use Rattle.iobufs_frames.proofs.writer.FrameWriter.send.Goals as goal
 
-pub loop-left-preserved : goal.loop-left-preserved
-loop-left-preserved g c =
+pub loop-self-preserved : goal.loop-self-preserved
+loop-self-preserved g c =
+    let Writer = FrameWriter g.row.W.Denot in
     let contents = g.W.Write.contents in
     let old = c.args.self.now in
-    let now = c.loop-left.self in
-    let new = c.send_chunk.new in
-    let inv = c.loop-left.invariant in record {
-      sent = sent_on (contents old.to) (contents now.to) (contents new.to) old.rest.bytes now.rest.bytes new.rest.bytes
-          inv.sent c.send_chunk.ensures.sent;
-      chunks = advanced_on old.rest now.rest new.rest c.in_ok-n.n inv.chunks c.in_ok-n.ensures.left;
-      count = omega (arith, inv.count, c.in_ok-n.ensures.count);
-      flushed = inv.flushed;
-      prefix = inv.prefix;
-      range = inv.range;
-    }
-
-pub returns-then-n-eq0 : goal.returns-then-n-eq0
-returns-then-n-eq0 g c =
-    let contents = g.W.Write.contents in
-    let old = c.args.self.now in
-    let now = c.loop-left.self in
-    let new = c.send_chunk.new in
-    let inv = c.loop-left.invariant in record {
-      sent = sent_on (contents old.to) (contents now.to) (contents new.to) old.rest.bytes now.rest.bytes new.rest.bytes
-          inv.sent c.send_chunk.ensures.sent;
-      chunks = advanced_on old.rest now.rest new.rest c.in_ok-n.n inv.chunks c.in_ok-n.ensures.left;
-      ends = (omega (arith, inv.count, c.in_ok-n.ensures.count, c.loop-left-test.true, c.if-n-eq0.true), search rules);
-      idle = λ none. absurd (omega (arith, c.if-left-eq0.false, c.len-left.ensures, ap (λ (w : List ℕ). length w) none));
-      flushed = λ _. inv.flushed;
-      prefix = inv.prefix;
-      range = inv.range;
+    let now = c.loop-self.self in
+    let mid = c.write_front.new.self in
+    let new = c.drop_sent-in-loop-self.new.self in
+    let n = c.in_ok-n.n in
+    let inv = c.loop-self.invariant in
+    let wrote = c.write_front.ensures.same in
+    let gone = c.drop_sent-in-loop-self.ensures in
+    let left : unsent_bytes new ≡ drop n (unsent_bytes now) = gone.bytes ∙ ap (λ (w : Writer). drop n (unsent_bytes w)) wrote in
+    let took : Appends (contents now.to) (contents new.to) (take n (unsent_bytes now)) =
+    subst (λ t. Appends (contents now.to) (contents t) (take n (unsent_bytes now))) (sym (ap (λ (w : Writer). w.to) gone.same))
+    c.in_ok-n.ensures.bytes in record {
+      sent = sent_on (contents old.to) (contents now.to) (contents new.to) (unsent_bytes old) (unsent_bytes now) (unsent_bytes new)
+          inv.sent (sent_front (contents now.to) (contents new.to) (unsent_bytes now) (unsent_bytes new) n took left);
+      passed = passed_both (unsent_frames old) now.rest now.more.items new.rest new.more.items inv.passed
+          (subst (λ (w : Writer). ArePassed (unsent_frames w) new.rest new.more.items) wrote gone.passed);
+      settled = gone.settled;
+      flushed = ap (λ (w : Writer). w.is_flushed) gone.same ∙ ap (λ (w : Writer). w.is_flushed) wrote ∙ inv.flushed;
+      prefix = ap (λ (w : Writer). w.prefix) gone.same ∙ ap (λ (w : Writer). w.prefix) wrote ∙ inv.prefix;
+      range = ap (λ (w : Writer). w.range) gone.same ∙ ap (λ (w : Writer). w.range) wrote ∙ inv.range;
     }

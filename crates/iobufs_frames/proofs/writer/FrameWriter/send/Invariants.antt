@@ -1,17 +1,18 @@
-use Rattle.std.proofs.Common.{◌≡◌, false, length}
+use Rattle.std.proofs.Common.{◌≡◌, [], false, length}
 use Rattle.iobufs.specs.Sending.{IsSent}
-use Rattle.iobufs_frames.specs.Unsent.{IsAdvanced}
+use Rattle.iobufs_frames.specs.Streams.{unsent_bytes, unsent_frames}
+use Rattle.iobufs_frames.specs.Unsent.{ArePassed}
 use Rattle.iobufs_frames.proofs.writer.FrameWriter.send.Given as goal
 
-abbrev pub invariant-loop-left : goal.invariant-loop-left
-invariant-loop-left g l = record {
-  sent : IsSent (g.W.Write.contents l.fn.self.to) (g.W.Write.contents l.self.to) l.fn.self.rest.bytes l.self.rest.bytes;
-  chunks : IsAdvanced l.fn.self.rest l.self.rest;
-  count : l.left ≡ length l.self.rest.bytes;
+abbrev pub invariant-loop-self : goal.invariant-loop-self
+invariant-loop-self g l = record {
+  sent : IsSent (g.W.Write.contents l.fn.self.to) (g.W.Write.contents l.self.to) (unsent_bytes l.fn.self) (unsent_bytes l.self);
+  passed : ArePassed (unsent_frames l.fn.self) l.self.rest l.self.more.items;
+  settled : l.self.rest.bytes ≡ [] → l.self.more.items ≡ [];
   flushed : l.self.is_flushed ≡ false;
   prefix : l.self.prefix ≡ l.fn.self.prefix;
   range : l.self.range ≡ l.fn.self.range;
 }
 
-abbrev pub decreases-loop-left : goal.decreases-loop-left
-decreases-loop-left g l = length l.self.rest.bytes
+abbrev pub decreases-loop-self : goal.decreases-loop-self
+decreases-loop-self g l = length (unsent_bytes l.self)

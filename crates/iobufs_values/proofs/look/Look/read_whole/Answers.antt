@@ -18,6 +18,6 @@ returns-clause-back g c = λ value rest ok e.
     let bytes = g.B.Buf.text c.args.buf.now in
     let is = read_back g.met.Self.Look.form value x c.args.cfg.now (g.B.OwnedBuf.marked c.args.buf.now) 0 rest ok
     (g.met.B.OwnedBuf.same_text c.args.buf.now ∙ e) c.in_ok-value.ensures.found in
-    let left = ap g.B.Buf.text c.drop_copied.ensures
-    ∙ g.met.B.Buf.copies c.args.buf.now len (omega (arith, c.in_ok-value.ensures.within)) in
+    let left = ap g.B.Buf.text c.advance.ensures
+    ∙ g.met.B.Buf.drops c.args.buf.now len (omega (arith, c.in_ok-value.ensures.within)) in
     (is, rest_left (w value) (w x) bytes rest _ len e (g.met.Self.Look.form.same_written value x is) c.in_ok-value.ensures.len left)
