@@ -89,8 +89,8 @@ fn named<T>(file: &Path, done: io::Result<T>) -> Result<T, String> {
     done.map_err(|error| format!("{}: {error}", file.display()))
 }
 
-// The sources of a folder in order.
-fn files_below(folder: &Path) -> io::Result<Vec<PathBuf>> {
+/// Returns the sources of a folder in order.
+pub fn files_below(folder: &Path) -> io::Result<Vec<PathBuf>> {
     let mut entries = fs::read_dir(folder)?.map(|it| Ok(it?.path())).collect::<io::Result<Vec<_>>>()?;
     entries.sort();
     let mut files = Vec::new();
