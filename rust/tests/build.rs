@@ -16,7 +16,7 @@ fn main() -> Result<(), String> {
     crates.sort();
     crates.dedup();
     crates.retain(|name| name != "iobufs_codec");
-    let also = strip::Also { left_out: &LEFT_OUT, has_errors: true, ..Default::default() };
+    let also = strip::Also { left_out: &LEFT_OUT, is_tests: true, ..Default::default() };
     strip::write_crates(&crates, also, &top.join("crates"), Path::new(&out))?;
     println!("cargo:rustc-env=ALLOCATION_TESTS={}", tests_below(&top.join("crates/iobufs_allocation_tests/src")));
     Ok(())
