@@ -217,6 +217,8 @@ fn equality_order_and_hash_are_those_of_the_bytes() {
             assert_eq!(hash_of(&|it| v.hash(it)), hash_of(&|it| a[..].hash(it)));
         }
     }
+    let long = |last| IoBufs::from([vec![7; 5000], vec![last]].map(IoBuf::from));
+    assert_ne!(hash_of(&|it| long(1).hash(it)), hash_of(&|it| long(2).hash(it)));
 }
 
 // An allocation that fails ends the process, which says of how many bytes. The test runs itself again as that process.
