@@ -159,7 +159,8 @@ fn static_bytes_are_not_written() {
 #[test]
 fn slices_between_bounds() {
     use std::ops::Bound::{self, Excluded, Included, Unbounded};
-    let cases: [((Bound<usize>, Bound<usize>), &[u8]); 5] = [
+    type Case = ((Bound<usize>, Bound<usize>), &'static [u8]);
+    let cases: [Case; 5] = [
         ((Included(1), Excluded(3)), b"el"),
         ((Excluded(1), Included(3)), b"ll"),
         ((Excluded(1), Unbounded), b"llo"),
