@@ -12,6 +12,8 @@ macro_rules! rows {
 #[cfg(test)]
 mod callers;
 #[cfg(test)]
+mod cuts;
+#[cfg(test)]
 mod examples;
 #[cfg(test)]
 mod frames;

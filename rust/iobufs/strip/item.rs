@@ -10,6 +10,8 @@ const KEPT: [&str; 5] = ["inline", "cold", "repr", "unsafe", "cfg"];
 const GIVEN: [&str; 7] = ["assert", "assert_eq", "assert_ne", "panic", "println", "format", "vec"];
 /// Names in a derive list that Rust hasn't, or doesn't need.
 const DERIVED: [&str; 3] = ["Drop", "Error", "thiserror::Error"];
+/// Kinds of error that Rust 1.85 hasn't.
+const KINDS: [&str; 4] = ["FilesystemLoop", "InvalidFilename", "InProgress", "Uncategorized"];
 /// Crates of the kit.
 const KIT: [&str; 4] = ["std", "bytes", "hex", "memchr"];
 
@@ -23,7 +25,8 @@ impl File<'_> {
             "#" => self.attribute(i),
             "impl" => self.implementation(i),
             "fn" if self.code.get(i + 1).is_some_and(|it| it.is_word()) => self.function(i),
-            "enum" | "struct" if self.has_errors => self.shown(i),
+            "enum" | "struct" if self.is_tests => self.shown(i),
+            name if self.is_tests && KINDS.contains(&name) => Ok(self.replace(i, i + 1, "Other")),
             "use" if self.has(i + 1, "thiserror : : Error ;") => Ok(self.replace(i, i + 6, "")),
             "prove" if self.text(i + 1) == "!" => Ok(self.replace(i, i + 1, "debug_assert")),
             name if GIVEN.contains(&name) && self.text(i + 1) == "!" => self.given(i),
@@ -245,7 +248,8 @@ impl File<'_> {
         if !matches!(self.text(at), "{" | ";") {
             return self.fault(at, "a clause that isn't known");
         }
-        self.mark(i, self.text(at) == "{");
+        let may_abort = (i..at).any(|n| self.text(n) == "Abort");
+        self.mark(i, self.text(at) == "{", if may_abort { "#[track_caller] " } else { "" });
         Ok(at)
     }
 
@@ -266,8 +270,8 @@ impl File<'_> {
         Ok(self.replace(i, end, &left))
     }
 
-    // Marks a function that isn't marked, and isn't for C.
-    fn mark(&mut self, i: usize, has_body: bool) {
+    // Marks a function that isn't marked, and isn't for C. `more` comes before the mark.
+    fn mark(&mut self, i: usize, has_body: bool, more: &str) {
         let at = self.code[i].at;
         let head = self.source[..at].rsplit('\n').next().map_or("", str::trim_start);
         if head.ends_with("final ") {
@@ -275,7 +279,7 @@ impl File<'_> {
         }
         if !mem::take(&mut self.is_marked) && has_body && !head.contains("extern") {
             let mark = if self.text(i + 1) == "main" { "pub " } else { "#[inline] " };
-            self.edits.push((at - head.len(), at - head.len(), mark.to_owned()));
+            self.edits.push((at - head.len(), at - head.len(), format!("{more}{mark}")));
         }
     }
 

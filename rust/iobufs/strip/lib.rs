@@ -6,7 +6,7 @@
 //! | `ensures name { .. }`, `#[tactic(..)]`, `#![tactic(..)]`, `impl Model for T { .. }` | nothing |
 //! | `requires { .. }` | a comment |
 //! | `impl Drop for T` that drops the fields, `Drop` in a derive list | nothing: Rust does so by itself |
-//! | `thiserror::Error` in a derive list, `#[error(..)]` | nothing: no source shows these errors |
+//! | `thiserror::Error` in a derive list, `#[error(..)]` | nothing: no source shows these errors; `impl Display` for tests |
 //! | `#[test] fn f(rt: HostRuntime) -> ..` | `#[test] fn f()`, which calls it with the layer's runtime |
 //! | `assert!(rt; ..)`, `println!(rt; ..)`, `format!(in alloc; ..)`, `vec![in alloc; ..]`, `.expect(rt, ..)` | `assert!(..)`, calls of the layer, `.expect(..)` |
 //! | `Variant(#[from] Type)` | `impl From<Type> for ..` |
@@ -15,6 +15,7 @@
 //! | `crate::`, `iobufs_core::` and the other proved crates | a module of `crate::proved` |
 //! | `std::`, `bytes::`, `hex::`, `memchr::` | the modules of `crate::kit` that have their signatures |
 //! | `fn main` of a program | `pub fn main`, which the binary calls |
+//! | a function that takes `impl Abort` | `#[track_caller]`: a failed test names its own line |
 //! | another function with a body | `#[inline]`, since rustc inlines no other function across crates |
 //!
 //! A comment directly above what goes as an item goes with it. Whatever else isn't Rust is refused, here or by rustc.
@@ -39,8 +40,9 @@ pub struct Also<'a> {
     pub spares: &'a [Spare<'a>],
     /// Files that are left empty, as in `iobufs_examples/web.rt`.
     pub left_out: &'a [&'a str],
-    /// Whether `#[error(..)]` is what an error shows.
-    pub has_errors: bool,
+    /// Whether these are tests: an error shows what `#[error(..)]` says, and kinds of error that Rust 1.85 hasn't are
+    /// `Other`.
+    pub is_tests: bool,
 }
 
 /// Returns the crates that a crate of the repository uses, by its row of `crates.txt`, and itself.
@@ -70,7 +72,7 @@ pub fn write_crates<S: AsRef<str>>(crates: &[S], also: Also<'_>, from: &Path, to
             if also.left_out.iter().any(|of| Path::new(name).join(below) == Path::new(of)) {
                 source.clear();
             }
-            let mut rust = rust_of(&source, name, &crates, also.has_errors)
+            let mut rust = rust_of(&source, name, &crates, also.is_tests)
                 .map_err(|(line, why)| format!("{}:{line}: {why}", file.display()))?;
             for (_, spare) in also.spares.iter().filter(|(of, _)| Path::new(name).join(below) == Path::new(of)) {
                 rust += &format!("\n#[path = {spare:?}]\nmod spare;\n");
@@ -89,8 +91,8 @@ fn named<T>(file: &Path, done: io::Result<T>) -> Result<T, String> {
     done.map_err(|error| format!("{}: {error}", file.display()))
 }
 
-// The sources of a folder in order.
-fn files_below(folder: &Path) -> io::Result<Vec<PathBuf>> {
+/// Returns the sources of a folder in order.
+pub fn files_below(folder: &Path) -> io::Result<Vec<PathBuf>> {
     let mut entries = fs::read_dir(folder)?.map(|it| Ok(it?.path())).collect::<io::Result<Vec<_>>>()?;
     entries.sort();
     let mut files = Vec::new();
@@ -105,11 +107,11 @@ fn files_below(folder: &Path) -> io::Result<Vec<PathBuf>> {
 }
 
 /// Returns the Rust of a source of the crate `name`, or the line that is refused and why.
-pub fn rust_of(source: &str, name: &str, crates: &[&str], has_errors: bool) -> Result<String, (usize, String)> {
+pub fn rust_of(source: &str, name: &str, crates: &[&str], is_tests: bool) -> Result<String, (usize, String)> {
     let at_line = |(at, why): Fault| (1 + source[..at].matches('\n').count(), why);
     let all = lexer::tokens(source).map_err(|at| at_line((at, "a literal or comment without an end".to_owned())))?;
     let (comments, code) = all.into_iter().partition(Token::is_comment);
-    let mut file = File { source, name, crates, code, comments, edits: Vec::new(), is_marked: false, has_errors };
+    let mut file = File { source, name, crates, code, comments, edits: Vec::new(), is_marked: false, is_tests };
     file.strip().map_err(at_line)?;
     Ok(file.rust())
 }
@@ -127,7 +129,7 @@ struct File<'a> {
     edits: Vec<(usize, usize, String)>,
     // Whether an attribute says how the next function is inlined.
     is_marked: bool,
-    has_errors: bool,
+    is_tests: bool,
 }
 
 impl<'a> File<'a> {

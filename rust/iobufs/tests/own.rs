@@ -180,6 +180,8 @@ fn equality_is_that_of_the_bytes() {
             assert_eq!([x == y, x == b[..], x.coalesce() == y.coalesce()], [a == b; 3], "{a:?} {b:?}");
         }
     }
+    let long = |last| IoBufs::from([vec![7; 5000], vec![last]].map(IoBuf::from));
+    assert_ne!(hash_of(&|it| long(1).hash(it)), hash_of(&|it| long(2).hash(it)));
 }
 
 // An allocation that fails ends the process, which says of how many bytes. The test runs itself again as that process.

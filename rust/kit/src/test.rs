@@ -36,12 +36,15 @@ pub trait Print {
     fn println(&self, what: impl Display) -> io::Result<()>;
 }
 
+/// A function that hears what a thread prints.
+type Listener = fn(&dyn Display);
+
 thread_local! {
-    static LISTENER: Cell<Option<fn(&dyn Display)>> = const { Cell::new(None) };
+    static LISTENER: Cell<Option<Listener>> = const { Cell::new(None) };
 }
 
 /// Has what this thread prints given to a function.
-pub fn listen(listener: fn(&dyn Display)) {
+pub fn listen(listener: Listener) {
     LISTENER.set(Some(listener));
 }
 

@@ -156,6 +156,36 @@ fn static_bytes_are_not_written() {
     assert!(Bytes::new().try_into_mut().is_err());
 }
 
+#[test]
+fn slices_between_bounds() {
+    use std::ops::Bound::{self, Excluded, Included, Unbounded};
+    type Case = ((Bound<usize>, Bound<usize>), &'static [u8]);
+    let cases: [Case; 5] = [
+        ((Included(1), Excluded(3)), b"el"),
+        ((Excluded(1), Included(3)), b"ll"),
+        ((Excluded(1), Unbounded), b"llo"),
+        ((Unbounded, Included(1)), b"he"),
+        ((Excluded(1), Excluded(2)), b""),
+    ];
+    for view in [Bytes::from_static(b"hello"), Bytes::copy_from_slice(Global, b"hello").unwrap()] {
+        for (range, wanted) in cases {
+            assert_eq!(view.slice(range).unwrap().as_slice(), wanted, "{range:?}");
+        }
+    }
+}
+
+/// Space at the front is reclaimed once as many bytes are taken there as are left.
+#[test]
+fn a_block_is_not_rewound_over_its_bytes() {
+    for (taken, capacity) in [(0, 8), (3, 5), (4, 8), (5, 8)] {
+        let mut buffer = BytesMut::with_capacity(Global, 8).unwrap();
+        buffer.extend_reserved(b"abcdefgh");
+        drop(buffer.freeze_to(taken).unwrap());
+        assert_eq!(buffer.try_reclaim(1), taken > 3, "{taken}");
+        assert_eq!((buffer.capacity(), buffer.as_slice()), (capacity, &b"abcdefgh"[taken..]), "{taken}");
+    }
+}
+
 /// A reader that says it read more than it was given.
 struct Lies;
 

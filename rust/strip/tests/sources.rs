@@ -15,7 +15,8 @@ fn sources(folder: &Path, found: &mut Vec<PathBuf>) {
 /// The words and marks of a line, with the names of the source.
 fn words(line: &str, name: &str) -> Vec<String> {
     let own = format!("crate::proved::{name}::");
-    let line = line.replace("use crate::kit::prelude::*;", "").replace("#[inline] ", "").replace(&own, "crate::");
+    let line = line.replace("use crate::kit::prelude::*;", "").replace(&own, "crate::");
+    let line = line.replace("#[inline] ", "").replace("#[track_caller] ", "");
     let line = line.replace("crate::proved::", "").replace("crate::kit::", "").replace("debug_assert!", "prove!");
     let line = line.replace("pub fn main", "fn main").replace("Formatter<'_>", "Formatter<W>");
     let line = line.replace("() { test::run(case); fn case(", "(").replace("} }", "}");

@@ -5,7 +5,7 @@ const CRATES: [&str; 2] = ["one", "two"];
 const HEAD: &str = "use crate::kit::prelude::*; ";
 
 /// A source, and what is left of it, but for the import before its first item. `\n` where lines stay empty.
-const LEFT: [(&str, &str); 36] = [
+const LEFT: [(&str, &str); 40] = [
     ("fn f() {\n    g();\n    h();\n}\n", "#[inline] fn f() {\n    g();\n    h();\n}\n"),
     (
         "fn f(n: u8) -> u8\n    requires { n < 9 }\n{\n    n\n}\n",
@@ -102,6 +102,19 @@ const LEFT: [(&str, &str); 36] = [
         "mod a;\nenum E {\n    A(#[from] B),\n}\n",
         "mod a;\nenum E {\n    A( B),\n} impl From<B> for E { fn from(it: B) -> E { E::A(it) } }\n",
     ),
+    (
+        "mod a;\nfn f() {\n    assert_eq!(rt; a, b);\n    assert_ne!(&rt; a, b[..], \"{c}\");\n    panic!(rt; \"d\");\n}\n",
+        "mod a;\n#[inline] fn f() {\n    assert_eq!( a, b);\n    assert_ne!( a, b[..], \"{c}\");\n    panic!( \"d\");\n}\n",
+    ),
+    (
+        "fn f() {\n    assert!(a == [0; 2], \"b; c\");\n}\n",
+        "#[inline] fn f() {\n    assert!(a == [0; 2], \"b; c\");\n}\n",
+    ),
+    ("#[cfg(test)]\nmod a;\n", "#[cfg(test)]\nmod a;\n"),
+    (
+        "fn f(rt: &(impl Print + Abort)) -> u8\n    requires { a }\n{}\n",
+        "#[track_caller] #[inline] fn f(rt: &(impl Print + Abort)) -> u8\n    // requires { a }\n{}\n",
+    ),
     ("fn f() {\n    prove!(a);\n}\n", "#[inline] fn f() {\n    debug_assert!(a);\n}\n"),
     (
         "fn f<W: fmt::Write>(n: u8, f: &mut fmt::Formatter<W>) -> fmt::Result {}\n",
@@ -114,6 +127,30 @@ const LEFT: [(&str, &str); 36] = [
 fn what_is_left() {
     for (source, left) in LEFT {
         assert_eq!(rust_of(source, "one", &CRATES, false).unwrap().strip_prefix(HEAD), Some(left), "{source}");
+    }
+}
+
+/// The same of tests.
+const LEFT_OF_TESTS: [(&str, &str); 4] = [
+    (
+        "mod a;\n#[derive(thiserror::Error)]\nenum E {\n    #[error(\"a\")]\n    A,\n    #[error(\"b {0}\")]\n    B(u8),\n}\n",
+        "mod a;\n\nenum E {\n\n    A,\n\n    B(u8),\n} impl std::fmt::Display for E { fn fmt(&self, f: &mut std::fmt::Formatter<'_>) -> std::fmt::Result { match self { E::A{ .. } => write!(f, \"a\"), E::B(it) => write!(f, \"b {0}\", it),  } } }\n",
+    ),
+    (
+        "mod a;\n#[derive(Debug, thiserror::Error)]\n#[error(\"{why}\")]\nstruct S<T> {\n    why: u8,\n    of: T,\n}\n",
+        "mod a;\n#[derive(Debug)]\n\nstruct S<T> {\n    why: u8,\n    of: T,\n} impl<T> std::fmt::Display for S<T> { fn fmt(&self, f: &mut std::fmt::Formatter<'_>) -> std::fmt::Result { match self { S{ why, .. } => write!(f, \"{why}\") } } }\n",
+    ),
+    ("mod a;\nstruct S;\nenum E {\n    A,\n}\n", "mod a;\nstruct S;\nenum E {\n    A,\n}\n"),
+    (
+        "mod a;\nconst K: [E; 2] = [E::NotFound, E::InvalidFilename];\n",
+        "mod a;\nconst K: [E; 2] = [E::NotFound, E::Other];\n",
+    ),
+];
+
+#[test]
+fn what_is_left_of_tests() {
+    for (source, left) in LEFT_OF_TESTS {
+        assert_eq!(rust_of(source, "one", &CRATES, true).unwrap().strip_prefix(HEAD), Some(left), "{source}");
     }
 }
 
@@ -134,7 +171,7 @@ fn the_import_stands_where_the_first_item_goes() {
 }
 
 /// A source, and the line that is refused.
-const REFUSED: [(&str, usize); 16] = [
+const REFUSED: [(&str, usize); 18] = [
     ("mod a;\nghost fn f() {}\n", 2),
     ("mod a;\nghost a = b;\n", 2),
     ("mod a;\nghost a = { b }\n", 2),
@@ -142,6 +179,8 @@ const REFUSED: [(&str, usize); 16] = [
     ("mod a;\n\n#[ignore]\nfn f() {}\n", 3),
     ("#![allow(a)]\n", 1),
     ("struct S {\n    #[from]\n    a: u8,\n}\n", 2),
+    ("mod a;\n#[test]\nfn f() {}\n", 3),
+    ("mod a;\n#[test]\nfn f(rt: HostRuntime, a: u8) {}\n", 3),
     ("impl Drop for S {\n    fn drop(self) {\n        let S { a } = self;\n    }\n}\n", 1),
     ("impl Drop for S {\n    fn drop(self) {\n        let S { a: _ } = self;\n        g();\n    }\n}\n", 1),
     ("mod a;\nimpl<T> Drop for S<T> {\n    fn drop(&mut self) {}\n}\n", 2),

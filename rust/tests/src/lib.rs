@@ -1,9 +1,19 @@
 //! The tests of the proved sources, over the layer `kit`. `rt` runs the same ones over its own.
-#![forbid(unsafe_code)]
+#![cfg(test)]
 
-use ::kit;
+mod refusing;
+
+/// The layer, whose `test::run` also fails allocations.
+mod kit {
+    pub use ::kit::*;
+
+    pub mod test {
+        pub use crate::refusing::run;
+    }
+}
 
 #[allow(dead_code, unused_imports, unused_macros, unused_variables, clippy::all)]
+#[forbid(unsafe_code)]
 mod proved {
-    include!(concat!(env!("OUT_DIR"), "/tests/proved.rs"));
+    include!(concat!(env!("OUT_DIR"), "/proved.rs"));
 }

@@ -15,13 +15,14 @@ macro_rules! kinds {
     };
 }
 
-// All kinds but `Interrupted`, and those that Rust 1.85 hasn't.
-const KINDS: [ErrorKind; 37] = kinds! {
+// All kinds but `Interrupted`.
+const KINDS: [ErrorKind; 41] = kinds! {
     NotFound PermissionDenied ConnectionRefused ConnectionReset HostUnreachable NetworkUnreachable ConnectionAborted
     NotConnected AddrInUse AddrNotAvailable NetworkDown BrokenPipe AlreadyExists WouldBlock NotADirectory IsADirectory
-    DirectoryNotEmpty ReadOnlyFilesystem StaleNetworkFileHandle InvalidInput InvalidData TimedOut WriteZero StorageFull
-    NotSeekable QuotaExceeded FileTooLarge ResourceBusy ExecutableFileBusy Deadlock CrossesDevices TooManyLinks
-    ArgumentListTooLong Unsupported UnexpectedEof OutOfMemory Other
+    DirectoryNotEmpty ReadOnlyFilesystem FilesystemLoop StaleNetworkFileHandle InvalidInput InvalidData TimedOut
+    WriteZero StorageFull NotSeekable QuotaExceeded FileTooLarge ResourceBusy ExecutableFileBusy Deadlock CrossesDevices
+    TooManyLinks InvalidFilename ArgumentListTooLong Unsupported UnexpectedEof OutOfMemory InProgress Other
+    Uncategorized
 };
 
 // The bytes before the error, how many a read gives at most, the bodies that come then, and the number of reads; the
