@@ -181,7 +181,7 @@ fn equality_is_that_of_the_bytes() {
         }
     }
     let long = |last| IoBufs::from([vec![7; 5000], vec![last]].map(IoBuf::from));
-    assert_ne!(hash_of(&|it| long(1).hash(it)), hash_of(&|it| long(2).hash(it)));
+    assert_ne!(long(1), long(2));
 }
 
 // An allocation that fails ends the process, which says of how many bytes. The test runs itself again as that process.

@@ -133,8 +133,8 @@ fn what_is_left() {
 /// The same of tests.
 const LEFT_OF_TESTS: [(&str, &str); 4] = [
     (
-        "mod a;\n#[derive(thiserror::Error)]\nenum E {\n    #[error(\"a\")]\n    A,\n    #[error(\"b {0}\")]\n    B(u8),\n}\n",
-        "mod a;\n\nenum E {\n\n    A,\n\n    B(u8),\n} impl std::fmt::Display for E { fn fmt(&self, f: &mut std::fmt::Formatter<'_>) -> std::fmt::Result { match self { E::A{ .. } => write!(f, \"a\"), E::B(it) => write!(f, \"b {0}\", it),  } } }\n",
+        "mod a;\n#[derive(thiserror::Error)]\nenum E {\n    #[error(\"a\")]\n    A,\n    #[error(\"b {0} {1}\")]\n    B(u8, u8),\n}\n",
+        "mod a;\n\nenum E {\n\n    A,\n\n    B(u8, u8),\n} impl std::fmt::Display for E { fn fmt(&self, f: &mut std::fmt::Formatter<'_>) -> std::fmt::Result { match self { E::A{ .. } => write!(f, \"a\"), E::B(_0, _1, ) => write!(f, \"b {0} {1}\", _0, _1, ),  } } }\n",
     ),
     (
         "mod a;\n#[derive(Debug, thiserror::Error)]\n#[error(\"{why}\")]\nstruct S<T> {\n    why: u8,\n    of: T,\n}\n",
