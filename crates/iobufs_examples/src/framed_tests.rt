@@ -282,7 +282,7 @@ fn poll_closed(frames: &mut FrameWriter<Script>, cx: &mut Context<'_>) -> Poll<i
 fn frames_are_sent_without_a_copy(rt: HostRuntime) -> Result<(), Fail> {
     let task = MockTask::new(&rt)?;
     for (name, calls, bodies, want, record) in WRITES {
-        let mut frames = FrameWriter::new(Script::new(rt.alloc(), calls), SENT);
+        let mut frames = FrameWriter::new(rt.alloc(), Script::new(rt.alloc(), calls), SENT);
         let mut log = Vec::new(rt.alloc());
         for bytes in *bodies {
             let body = IoBufs::from(IoBuf::from(*bytes));

@@ -2,6 +2,7 @@
 ghost use Rattle.std.specs.Prelude.{◌≡◌, ℕ, List, ◌++◌, IfOk, OnOk};
 ghost use Rattle.std.specs.Io.KnownBytes.{Appends};
 ghost use Rattle.iobufs_frames.specs.Frames.{CanAllFollow, all_written, bodies, frame_written, joined_bytes};
+ghost use Rattle.iobufs_frames.specs.Streams.{unsent_bytes};
 ghost use Rattle.iobufs_frames.specs.declared.lengths.Prefix.TheVariants.{Spelled};
 ghost use Rattle.iobufs_examples.specs.Records.{IsReadUpTo};
 
@@ -18,7 +19,7 @@ use std::test::Fail;
 
 /// Appends a record, once the one before it is sent; `to.send` sends it. What an error leaves is sent by the next call.
 pub fn append<W: Write + Drop>(to: &mut FrameWriter<W>, body: IoBufs) -> Result<(), FrameError>
-    ensures before { OnOk result (Appends (W.contents to.old.to) (W.contents to.new.to) to.old.rest.bytes) }
+    ensures before { OnOk result (Appends (W.contents to.old.to) (W.contents to.new.to) (unsent_bytes to.old)) }
     ensures put { OnOk result (to.new.rest.bytes ≡ frame_written to.old.prefix body.bytes) }
 {
     to.send()?;
@@ -41,7 +42,7 @@ pub fn records(alloc: Global, file: Vec<IoBuf>, range: &RangeCfg) -> Result<Run,
 fn a_cut_file_has_the_records_before_the_cut(rt: HostRuntime) -> Result<(), Fail> {
     let alloc = rt.alloc();
     let range = RangeCfg { lo: 0, hi: 8 };
-    let mut to = FrameWriter::new(File::create(&rt, "records")?, range);
+    let mut to = FrameWriter::new(alloc, File::create(&rt, "records")?, range);
     for text in [b"ab".as_slice(), b"cde".as_slice()] {
         append(&mut to, IoBufs::from(text)).expect(&rt, "a record is appended");
     }

@@ -7,7 +7,7 @@ ghost use Rattle.iobufs.specs.Sending.{IsSent};
 ghost use Rattle.iobufs_core.specs.View.{View};
 ghost use Rattle.iobufs_core.specs.Wire.{view_written};
 ghost use Rattle.iobufs_frames.specs.Frames.{frame_written};
-ghost use Rattle.iobufs_frames.specs.Streams.{TakesFrame};
+ghost use Rattle.iobufs_frames.specs.Streams.{TakesFrame, unsent_bytes};
 ghost use Rattle.iobufs_values.specs.Form.{IsDecodedBack};
 
 use iobufs::bufs::IoBufs;
@@ -95,18 +95,18 @@ pub enum LogError {
     Frame(#[from] FrameError),
 }
 
-/// Puts an entry as a frame, once the frame before it is sent; `to.send` sends it. If it fails, the entry is dropped.
+/// Puts an entry as a frame, once the frames before it are sent; `to.send` sends it. If it fails, the entry is dropped.
 pub fn put<W: Write + Drop>(
     alloc: Global,
     to: &mut FrameWriter<W>,
     entry: Entry,
 ) -> Result<(), LogError>
-    ensures before { OnOk result (Appends (W.contents to.old.to) (W.contents to.new.to) to.old.rest.bytes) }
+    ensures before { OnOk result (Appends (W.contents to.old.to) (W.contents to.new.to) (unsent_bytes to.old)) }
     ensures put { OnOk result (to.new.rest.bytes ≡ frame_written to.old.prefix
         (to_be_bytes w64 entry.number
         ++ ((entry.flags ∷ []) ++ (view_written entry.key ++ view_written entry.value)))) }
     ensures dropped { OnErr result (IsSent (W.contents to.old.to)
-        (W.contents to.new.to) to.old.rest.bytes to.new.rest.bytes) }
+        (W.contents to.new.to) (unsent_bytes to.old) (unsent_bytes to.new)) }
     ensures prefix { to.new.prefix ≡ to.old.prefix }
     ensures range { to.new.range ≡ to.old.range }
 {
@@ -140,7 +140,7 @@ pub fn receive<R: Read + Drop>(
 #[test]
 fn entries_come_back(rt: HostRuntime) {
     let range = RangeCfg { lo: 0, hi: 1 << 17 };
-    let mut to = FrameWriter::new(Vec::new(rt.alloc()), range);
+    let mut to = FrameWriter::new(rt.alloc(), Vec::new(rt.alloc()), range);
     for number in 0..3 {
         let entry = Entry {
             number,

@@ -5,7 +5,7 @@ use Rattle.std.proofs.lemmas.List.Concat.{flat_map-append}
 use Rattle.std.specs.Io.Slices.{io_slice_bytes, io_slices_bytes}
 use Rattle.std.specs.VecDeque.Iter.{deque_iter_rest}
 use Rattle.std.specs.declared.io.slices.IoSlice.{IoSlice}
-use Rattle.iobufs_frames.specs.Unsent.{IsFront, UnsentBytes, frames_bytes}
+use Rattle.iobufs_frames.specs.Unsent.{IsFront, frames_bytes}
 use Rattle.iobufs_frames.proofs.writer.fill_slices.Goals as goal
 use borrow.Rule.Slice.PartMut.{post_of, put_mid}
 

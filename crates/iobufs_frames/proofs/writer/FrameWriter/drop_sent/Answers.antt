@@ -1,4 +1,4 @@
-use Rattle.std.proofs.Common.{◌≡◌, ◌∙◌, ◌+◌, ◌-◌, ◌≤◌, ℕ, List, ◌∷◌, ◌++◌, ap, arith, drop, length, length-append, subst, sym}
+use Rattle.std.proofs.Common.{◌≡◌, ◌∙◌, ◌+◌, ◌-◌, ℕ, List, ◌∷◌, ap, arith, drop, length, length-append, subst, sym}
 use Rattle.std.proofs.Math.Seq.{drop-append-add}
 use Rattle.iobufs_frames.specs.Streams.{unsent_bytes, unsent_frames}
 use Rattle.iobufs_frames.specs.Unsent.{ArePassed, UnsentBytes, frames_bytes}
