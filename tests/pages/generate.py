@@ -183,6 +183,24 @@ def by_hand():
     yield f"|by hand: the wrappers in `src`|{hand[0]}|\n|by hand: the layer of calls in `layer`|{hand[1]}|"
 
 
+def table(name):
+    """The lines of a table of rust/iobufs/tests/same, each what is before its last arrow and after it."""
+    return [line.rsplit(" -> ", 1) for line in (ROOT / "rust/iobufs/tests/same" / name).read_text().splitlines()]
+
+
+def differences():
+    """What the Rust crate answers otherwise than the original, and what doesn't compile, by reasons."""
+    original, reasons = dict(table("original")), {}
+    for name, other in table("differences"):
+        here, reason = other.split(" | ")
+        reasons.setdefault(reason, []).append((name, here))
+    yield "|for example|original|here|reason|how many|\n|---|---|---|---|--:|"
+    for reason, rows in reasons.items():
+        (name, here), count = rows[0], len(rows)
+        shown, then = (f"`{name[5:].split(' }')[0]} }}`", "compiles") if name[:5] == "use: " else (name, original[name])
+        yield f"|{shown}|{then}|{here}|{reason}|{count}|"
+
+
 def crates():
     """The table of crates, the lowest first: what each is for, and which it uses."""
     yield "|crate|what|over|\n|---|---|---|"
@@ -239,7 +257,7 @@ def trusted():
 
 PARTS = {
     "trusted": trusted, "api": api, "own calls": own, "matrix": matrix, "crates": crates, "graph": graph,
-    "promises": promises, "by hand": by_hand,
+    "promises": promises, "by hand": by_hand, "differences": differences,
 }
 
 

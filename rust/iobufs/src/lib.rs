@@ -1,4 +1,4 @@
-//! The byte buffers of commonware-runtime (`src/iobuf`), *the original*: names, arguments and panics are the same.
+//! The byte buffers of commonware-runtime (`src/iobuf`), *the original*, under its names.
 //!
 //! ```
 //! use iobufs::{Frames, IoBuf, IoBufs};
@@ -34,11 +34,7 @@
 //! byte.
 //!
 //! # Differences from the original
-//! - No call is a `const fn`.
-//! - The codec's traits are this crate's (`codec`); those of `commonware-codec` are there with the feature of that
-//!   name.
-//! - An aligned buffer begins after a gap in a larger block.
-//! - A `Vec` of a view has the view's storage, if nothing else shares it; the original copies.
+//! `docs/DIFFERENCES.md` in the repository is the one list. Tests compare answers, panics and uses with the original's.
 #![deny(unsafe_code)]
 #![warn(missing_docs)]
 
