@@ -127,7 +127,7 @@ def sessions_of(path):
 
 def stored_sessions():
     """The stored sessions: the name, the half of the program, and each line with its reply."""
-    for path in sorted([*HERE.glob("rows/*"), *HERE.glob("sessions/*")]):
+    for path in sorted([*HERE.glob("rows/*.*"), *HERE.glob("sessions/*")]):
         if path.name != "machines.owner":  # It has no replies: tests/refuse compares a run of it with another.
             for number, lines in enumerate(sessions_of(path), 1):
                 yield f"{path.name}, session {number}", path.suffix[1:], lines
