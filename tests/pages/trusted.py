@@ -20,7 +20,6 @@ CONTRACTS = [
     ("`Table::run`", "iobufs_run/src/table.rt", "run", ()),
     ("`Machine::run`, the promises", "iobufs_owner/src/owner.rt", "run", ("moves",)),
     ("`Machine::run`, with the step tables", "iobufs_owner/src/owner.rt", "run", ()),
-    ("`serve`", "iobuf/src/main.rt", "serve", ()),
     ("`Frames::run`", "iobufs_frames/src/lib.rt", "run", ()),
 ]
 

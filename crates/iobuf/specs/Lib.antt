@@ -1,11 +1,2 @@
-pub mod Buffers
-pub mod Faults
-pub mod Halves
-pub mod Lines
-pub mod MachineSession
-pub mod Owner
-pub mod Reading
 pub mod Session
-pub mod Spelled
-pub mod Stops
 pub mod Words

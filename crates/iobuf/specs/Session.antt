@@ -1,55 +1,55 @@
--- A session with named buffers: what it reads, and what it prints.
---     Answered, AnsweredFirst         the first n lines ran from the empty table of 16 names, and their replies are
---                                     written
---     Serves                          what a session has read and written when it ends, by how it ends
---     AnswersLine, CommandAnswered    what one line makes of the names, and the line that it prints
-use Rattle.std.specs.Prelude.{◌≡◌, ℕ, length, List, ◌++◌, map, flat_map, replicate, Option, Some, None, Result, Ok, Err, ⊤}
-use Rattle.std.specs.Borrow.{Bor}
-use Rattle.std.specs.Str.Lines.{lines}
-use Rattle.iobufs_run.specs.Run.{Run, Step}
+-- What a session promises, whatever lines mean.
+--     stop_status     the status of a session that ends early
+--     IsStatus        0, 2 or 3
+--     TakesOne        a line does one command on named buffers, or nothing
+--     IsNew           a machine in which nothing has happened, as promised
+--     MachineTakes    a line makes a machine, takes one step of it, or does nothing
+--     TakesLines      what this many lines make of a service
+--     IsServed        what a session makes of it
+use Rattle.std.specs.Prelude.{◌≡◌, ◌⊎◌, ℕ, zero, suc, List, [], ◌∷◌, Option, Some, None, ⊤}
+use Rattle.iobufs_run.specs.Run.{Step}
 use Rattle.iobufs_run.specs.declared.command.Cmd.{Cmd}
 use Rattle.iobufs_run.specs.declared.command.Reply.{Reply}
 use Rattle.iobufs_run.specs.declared.table.Slot.{Slot}
-use Rattle.iobufs_run.specs.declared.table.Slot.TheVariants.{Free}
-use Rattle.iobuf.specs.Buffers.Commands.{Command, plain}
-use Rattle.iobuf.specs.Buffers.Printed.{reply_line}
-use Rattle.iobuf.specs.Buffers.Said.{command_of}
-use Rattle.iobuf.specs.declared.words.LineError.{LineError}
-use Rattle.iobuf.specs.declared.words.LineError.TheVariants.{NoCommand, Memory}
-use Rattle.iobuf.specs.Faults.{ServesBy}
-use Rattle.iobuf.specs.declared.streams.Stop.{Stop}
+use Rattle.iobufs_owner.specs.Growing.{GrowingRuns}
+use Rattle.iobufs_owner.specs.Promises.{Promises}
+use Rattle.iobufs_owner.specs.State.{Seen, fresh}
+use Rattle.iobufs_owner.specs.declared.owner.types.Reply.{Reply as StepReply}
+use Rattle.iobufs_owner.specs.declared.owner.types.Step.{Step as MachineStep}
+use Rattle.iobuf.specs.declared.session.Stop.{Stop}
+use Rattle.iobuf.specs.declared.session.Stop.TheVariants.{BadCommand, CannotContinue, OtherWords}
 
--- The first `count` lines of the input, `front`, say commands, and `rest` are the others. A run of the commands from the empty table
--- leaves `names`. The writer holds the bytes `before`, and then the lines of the run's replies.
-pub record Answered (input before : List ℕ) (count : ℕ) (rest : List (List ℕ)) (written : Option (List ℕ)) (names : List Slot)
-    : Type 0 where
-  pub front : List (List ℕ)
-  pub commands : List Cmd
-  pub replies : List Reply
-  pub split : lines input ≡ front ++ rest
-  pub counts : length front ≡ count
-  pub say : map command_of front ≡ map (λ command. Some (plain command)) commands
-  pub run : Run (replicate 16 Free) commands replies names
-  pub prints : written ≡ Some (before ++ flat_map reply_line replies)
+-- the status of a session that ends early
+abbrev pub stop_status : Stop → ℕ
+stop_status (BadCommand number) = 2
+stop_status CannotContinue = 3
+stop_status OtherWords = 2
 
--- the first `count` lines were answered
-abbrev pub AnsweredFirst : (input before : List ℕ) → ℕ → List (List ℕ) → Option (List ℕ) → Type 0
-AnsweredFirst input before count rest written = (names : List Slot) × Answered input before count rest written names
+-- the statuses of the program
+abbrev pub IsStatus : ℕ → Type 0
+IsStatus status = (status ≡ 0) ⊎ (status ≡ 2) ⊎ (status ≡ 3)
 
--- a session ends: each line that was answered says a command, and a bad command is a line that says none
-abbrev pub Serves : (input before : List ℕ) → (written : Option (List ℕ)) → Result (Unit {0}) Stop → Type 0
-Serves input before = ServesBy (AnsweredFirst input before) (λ count line. command_of line ≡ None)
+-- a line does one command, or nothing
+abbrev pub TakesOne : (old new : List Slot) → Type 0
+TakesOne old new = (new ≡ old) ⊎ ((command : Cmd) × (reply : Reply) × Step old command reply new)
 
--- a line says a command, which is answered by one step, and its reply is printed
-pub record CommandAnswered (line : List ℕ) (old new : List Slot) (text : List ℕ) : Type 0 where
-  pub command : Cmd
-  pub reply : Reply
-  pub says : command_of line ≡ Some (plain command)
-  pub step : Step old command reply new
-  pub prints : text ≡ reply_line reply
+-- a machine in which nothing has happened, as promised
+abbrev pub IsNew : Seen → Type 0
+IsNew m = (align tail size ceiling threads : ℕ) × (m.state ≡ fresh align tail size ceiling threads) × Promises m.state
 
--- one line: a command is answered by one step, and the text is the line of its reply
-abbrev pub AnswersLine : List ℕ → List Slot → List Slot → Result (Bor (List ℕ)) LineError → Type 0
-AnswersLine line old new (Ok text) = CommandAnswered line old new text.now
-AnswersLine line old new (Err NoCommand) = command_of line ≡ None
-AnswersLine line old new (Err Memory) = ⊤
+-- a line makes a machine, takes one step of it, for which it may make space, or does nothing
+abbrev pub MachineTakes : (old new : Option Seen) → Type 0
+MachineTakes None None = ⊤
+MachineTakes None (Some new) = IsNew new
+MachineTakes (Some old) None = ⊥
+MachineTakes (Some old) (Some new) = (new ≡ old) ⊎ ((step : MachineStep) × (reply : StepReply)
+    × GrowingRuns old (step ∷ []) (reply ∷ []) new × Promises new.state)
+
+-- what this many lines make of a service, if `takes` says what one may make of it
+abbrev pub TakesLines : {S : Type 0} → (S → S → Type 0) → ℕ → (old new : S) → Type 0
+TakesLines takes zero old new = new ≡ old
+TakesLines {S} takes (suc n) old new = (mid : S) × TakesLines takes n old mid × takes mid new
+
+-- what a session makes of a service: some lines, one after another
+abbrev pub IsServed : {S : Type 0} → (S → S → Type 0) → (old new : S) → Type 0
+IsServed takes old new = (n : ℕ) × TakesLines takes n old new

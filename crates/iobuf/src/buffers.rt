@@ -1,348 +1,324 @@
-//! A session of commands on named buffers, and the command that a line says.
-ghost use Rattle.std.specs.Prelude.{◌≡◌, ◌⊎◌, Some, None, IfOk, IfErr, IfSome};
-ghost use Rattle.iobuf.specs.Buffers.Commands.{plain};
-ghost use Rattle.iobuf.specs.Buffers.Said.{acting_of, command_of, making_of, said_by, static_said, verb_of};
-ghost use Rattle.iobuf.specs.Faults.{MayEnd};
-ghost use Rattle.iobuf.specs.Session.{AnswersLine, Serves};
+//! Lines of named buffers: the command that a line says, and the line of its reply.
+ghost use Rattle.std.specs.Prelude.{◌≤◌, length};
+ghost use Rattle.iobuf.specs.Session.{TakesOne};
 
-mod reply;
-mod shapes;
-
-use crate::buffers::reply::{push_line, push_shown};
-use crate::buffers::shapes::{build, decode, fill, slice, three, two};
-use crate::streams::{Obstacle, Sink, Source, Stop, stop_at, text};
-use crate::words::{LineError, Words};
-use iobufs_run::command::{Cmd, Reply};
-use iobufs_run::table::Table;
+use crate::session::Service;
+use crate::words::{LineError, Words, bytes, number};
+use iobufs_core::codec::{BufError, BufMut, RangeCfg};
+use iobufs_run::command::{Cmd, Item, Kind, Refusal, Reply};
+use iobufs_run::table::{Slot, Table};
 use std::alloc::Global;
+use std::io::{self, Write};
+use std::ops::Bound;
 
 // How many names there are.
 const NAMES: usize = 16;
 
-// Executes the command of a line, and returns the line of its reply. For `ok`, the most frequent reply, nothing is
-// copied.
-fn answer<'r>(
-    alloc: Global,
-    table: &mut Table,
-    line: &[u8],
-    reply: &'r mut String,
-) -> Result<&'r [u8], LineError>
-    ensures { AnswersLine line.now table.old table.new result }
-{
-    let cmd = match command(alloc, line) {
-        Ok(cmd) => cmd,
-        Err(error) => return Err(error),
-    };
-    reply.clear();
-    if let Cmd::Show { target } = &cmd {
-        return match push_shown(table, *target, reply) {
-            Ok(()) => Ok(reply.as_bytes()),
-            Err(_) => Err(LineError::Memory),
-        };
-    }
-    match table.apply(&cmd) {
-        Reply::Done => Ok(b"ok\n"),
-        other => match push_line(&other, reply) {
-            Ok(()) => Ok(reply.as_bytes()),
-            Err(_) => Err(LineError::Memory),
-        },
-    }
-}
-
-/// Answers each line of the input by a table of named buffers.
-pub fn answer_lines<I: Source, O: Sink>(
-    alloc: Global,
-    input: &mut I,
-    output: &mut O,
-) -> Result<(), Stop>
-    ensures serves { IfSome (I.unread input.old) (λ read. IfSome (O.contents output.old) (λ before.
-        Serves read before (O.contents output.new) result)) }
-    ensures end { MayEnd I.can_fail O.can_fail result }
-{
-    let Ok(mut table) = Table::new(alloc, NAMES) else {
-        return Err(Stop::CannotContinue(Obstacle::Memory));
-    };
-    let mut reply = String::new(alloc);
-    for number in 1..u64::MAX {
-        match input.read_line(output) {
-            Ok(true) => {}
-            Ok(false) => return Ok(()),
-            Err(fault) => return Err(Stop::CannotContinue(fault)),
-        }
-        let line = text(input.line());
-        let printed = match answer(alloc, &mut table, line, &mut reply) {
-            Ok(printed) => printed,
-            Err(LineError::NoCommand) => return Err(stop_at(line, number)),
-            Err(LineError::Memory) => return Err(Stop::CannotContinue(Obstacle::Memory)),
-        };
-        if let Err(fault) = output.take(printed) {
-            return Err(Stop::CannotContinue(fault));
-        }
-    }
-    Err(Stop::CannotContinue(Obstacle::TooManyLines))
-}
-
-// The command that the first word of a line names, by what is after it.
-#[derive(Clone, Copy)]
-enum Verb {
-    // One number.
-    One(WithOne),
-    // Two numbers.
-    Two(WithTwo),
-    // Three numbers.
-    Three(WithThree),
-    // A number and bytes.
-    Bytes(WithBytes),
-    // A number, and any number of numbers.
-    Numbers(WithNumbers),
-    Static,
-    Fill,
-    Slice,
-    Build,
-    Decode,
-}
-
-// A command of one number.
-#[derive(Clone, Copy)]
-enum WithOne {
-    Clear,
-    Drop,
-    Show,
-}
-
-// A command of two numbers.
-#[derive(Clone, Copy)]
-enum WithTwo {
-    SetLen,
-    Truncate,
-    Freeze,
-    Recover,
-    Clone,
-    Advance,
-    Take,
-    Append,
-    Prepend,
-    Coalesce,
-    Encode,
-}
-
-// A command of three numbers.
-#[derive(Clone, Copy)]
-enum WithThree {
-    New,
-    Zeroed,
-    Split,
-}
-
-// A command of a number and bytes.
-#[derive(Clone, Copy)]
-enum WithBytes {
-    Adopt,
-    Bytes,
-    Put,
-    Overwrite,
-}
-
-// A command of a number, and any number of numbers.
-#[derive(Clone, Copy)]
-enum WithNumbers {
-    Gather,
-    GatherMut,
-}
-
 // The bytes of which static views are made.
 const LETTERS: &[u8] = b"abcdefghijklmnopqrstuvwxyz";
 
-// The command that a line says, if it says one. Its words are separated by one space each.
-fn command(alloc: Global, line: &[u8]) -> Result<Cmd, LineError>
-    ensures ok { IfOk result (λ cmd. command_of line.now ≡ Some (plain cmd)) }
-    ensures err { IfErr result (λ error. (error ≡ LineError.Memory) ⊎ (command_of line.now ≡ None)) }
-{
-    let mut words = Words::of(line);
-    let Some(word) = words.first_word() else {
-        return Err(LineError::NoCommand);
-    };
-    match verb_named(word) {
-        Some(verb) => said(alloc, verb, &mut words),
-        None => Err(LineError::NoCommand),
+/// Buffers under the names 0 to 15.
+#[derive(Drop)]
+pub struct Buffers {
+    alloc: Global,
+    table: Table,
+}
+
+impl Buffers {
+    /// Holds no buffer.
+    pub fn new(alloc: Global) -> Result<Buffers, BufError> {
+        Ok(Buffers {
+            alloc,
+            table: Table::new(alloc, NAMES)?,
+        })
     }
 }
 
-// The command that the first word of a line names, if it names one.
-fn verb_named(word: &[u8]) -> Option<Verb>
-    ensures { result ≡ verb_of word.now }
-{
-    making_named(word).or_else(|| acting_named(word))
-}
+impl Service for Buffers {
+    // It does one command, or nothing.
+    ghost Takes = { λ old new. TakesOne old.table new.table };
 
-// The command that a word names, if it is one that puts something under a name.
-fn making_named(word: &[u8]) -> Option<Verb>
-    ensures { result ≡ making_of word.now }
-{
-    match word {
-        b"new" => Some(Verb::Three(WithThree::New)),
-        b"zeroed" => Some(Verb::Three(WithThree::Zeroed)),
-        b"adopt" => Some(Verb::Bytes(WithBytes::Adopt)),
-        b"static" => Some(Verb::Static),
-        b"bytes" => Some(Verb::Bytes(WithBytes::Bytes)),
-        b"freeze" => Some(Verb::Two(WithTwo::Freeze)),
-        b"recover" => Some(Verb::Two(WithTwo::Recover)),
-        b"clone" => Some(Verb::Two(WithTwo::Clone)),
-        b"slice" => Some(Verb::Slice),
-        b"split" => Some(Verb::Three(WithThree::Split)),
-        b"gather" => Some(Verb::Numbers(WithNumbers::Gather)),
-        b"gathermut" => Some(Verb::Numbers(WithNumbers::GatherMut)),
-        b"coalesce" => Some(Verb::Two(WithTwo::Coalesce)),
-        b"build" => Some(Verb::Build),
-        b"encode" => Some(Verb::Two(WithTwo::Encode)),
-        b"decode" => Some(Verb::Decode),
-        _ => None,
+    // What is shown is printed from where it is, without a copy.
+    fn answer<W: Write>(&mut self, line: &[u8], output: &mut W) -> Result<(), LineError> {
+        match command(self.alloc, &mut Words::of(line))? {
+            Cmd::Show { target } => match self.table.shown(target) {
+                Ok(slot) => write_slot(slot, output)?,
+                Err(refusal) => write_refusal(refusal, output)?,
+            },
+            cmd => write_reply(&self.table.apply(&cmd), output)?,
+        }
+        Ok(())
     }
 }
 
-// The command that a word names, if it is one that acts on the buffer of a name.
-fn acting_named(word: &[u8]) -> Option<Verb>
-    ensures { result ≡ acting_of word.now }
-{
-    match word {
-        b"put" => Some(Verb::Bytes(WithBytes::Put)),
-        b"fill" => Some(Verb::Fill),
-        b"setlen" => Some(Verb::Two(WithTwo::SetLen)),
-        b"truncate" => Some(Verb::Two(WithTwo::Truncate)),
-        b"clear" => Some(Verb::One(WithOne::Clear)),
-        b"overwrite" => Some(Verb::Bytes(WithBytes::Overwrite)),
-        b"advance" => Some(Verb::Two(WithTwo::Advance)),
-        b"take" => Some(Verb::Two(WithTwo::Take)),
-        b"append" => Some(Verb::Two(WithTwo::Append)),
-        b"prepend" => Some(Verb::Two(WithTwo::Prepend)),
-        b"drop" => Some(Verb::One(WithOne::Drop)),
-        b"show" => Some(Verb::One(WithOne::Show)),
-        _ => None,
-    }
+// The command of a line.
+fn command(alloc: Global, words: &mut Words<'_>) -> Result<Cmd, LineError> {
+    let cmd = match words.word()? {
+        b"new" => three(
+            words,
+            |dst, capacity, align| Cmd::NewMut {
+                dst,
+                capacity,
+                align,
+            },
+        ),
+        b"zeroed" => three(words, |dst, len, align| Cmd::Zeroed { dst, len, align }),
+        b"adopt" => with_bytes(alloc, words, |dst, bytes| Cmd::Adopt { dst, bytes }),
+        b"static" => letters(words),
+        b"bytes" => with_bytes(alloc, words, |dst, bytes| Cmd::FromBytes { dst, bytes }),
+        b"put" => with_bytes(alloc, words, |target, bytes| Cmd::Put { target, bytes }),
+        b"fill" => fill(words),
+        b"setlen" => two(words, |target, n| Cmd::SetLen { target, n }),
+        b"truncate" => two(words, |target, n| Cmd::Truncate { target, n }),
+        b"clear" => one(words, |target| Cmd::Clear { target }),
+        b"overwrite" => with_bytes(
+            alloc,
+            words,
+            |target, bytes| Cmd::Overwrite { target, bytes },
+        ),
+        b"freeze" => two(words, |src, dst| Cmd::Freeze { src, dst }),
+        b"recover" => two(words, |src, dst| Cmd::Recover { src, dst }),
+        b"clone" => two(words, |src, dst| Cmd::Clone { src, dst }),
+        b"slice" => slice(words),
+        b"split" => three(words, |src, dst, at| Cmd::Split { src, dst, at }),
+        b"advance" => two(words, |target, n| Cmd::Advance { target, n }),
+        b"take" => two(words, |target, n| Cmd::Take { target, n }),
+        b"gather" => with_numbers(alloc, words, |dst, sources| Cmd::Gather { dst, sources }),
+        b"gathermut" => with_numbers(alloc, words, |dst, sources| Cmd::GatherMut { dst, sources }),
+        b"append" => two(words, |target, src| Cmd::Append { target, src }),
+        b"prepend" => two(words, |target, src| Cmd::Prepend { target, src }),
+        b"coalesce" => two(words, |src, dst| Cmd::Coalesce { src, dst }),
+        b"build" => build(alloc, words),
+        b"encode" => two(words, |src, dst| Cmd::Encode { src, dst }),
+        b"decode" => decode(words),
+        b"drop" => one(words, |target| Cmd::Drop { target }),
+        b"show" => one(words, |target| Cmd::Show { target }),
+        _ => Err(LineError::BadCommand),
+    }?;
+    words.end()?;
+    Ok(cmd)
 }
 
-// The command of a line with this verb, whose other words are these. Each shape is read by a function of its own, since
-// a function fills the locals of all its arms with zeros.
-fn said(alloc: Global, verb: Verb, words: &mut Words<'_>) -> Result<Cmd, LineError>
-    ensures ok { IfOk result (λ cmd. said_by verb words.old ≡ Some (plain cmd)) }
-    ensures err { IfErr result (λ error. (error ≡ LineError.Memory) ⊎ (said_by verb words.old ≡ None)) }
+// A command of a number. In its place, the `?`s of the literals would be locals that each line zeroes.
+fn one<T, F: FnOnce(usize) -> T>(words: &mut Words<'_>, make: F) -> Result<T, LineError>
+    requires { F.IsAlwaysCallable make }
 {
-    match verb {
-        Verb::One(verb) => said_one(verb, words),
-        Verb::Two(verb) => said_two(verb, words),
-        Verb::Three(verb) => said_three(verb, words),
-        Verb::Bytes(verb) => said_bytes(alloc, verb, words),
-        Verb::Numbers(verb) => said_numbers(alloc, verb, words),
-        Verb::Static => said_static(words),
-        Verb::Fill => fill(words),
-        Verb::Slice => slice(words),
-        Verb::Build => build(alloc, words),
-        Verb::Decode => decode(words),
-    }
-}
-
-// A command of one number.
-#[inline(never)]
-fn said_one(verb: WithOne, words: &mut Words<'_>) -> Result<Cmd, LineError>
-    ensures ok { IfOk result (λ cmd. said_by (Verb.One verb) words.old ≡ Some (plain cmd)) }
-    ensures err { IfErr result (λ error. (error ≡ LineError.NoCommand) × (said_by (Verb.One verb) words.old ≡ None)) }
-{
-    let target = words.last_number()?;
-    match verb {
-        WithOne::Clear => Ok(Cmd::Clear { target }),
-        WithOne::Drop => Ok(Cmd::Drop { target }),
-        WithOne::Show => Ok(Cmd::Show { target }),
-    }
+    Ok(make(words.number()?))
 }
 
 // A command of two numbers.
-#[inline(never)]
-fn said_two(verb: WithTwo, words: &mut Words<'_>) -> Result<Cmd, LineError>
-    ensures ok { IfOk result (λ cmd. said_by (Verb.Two verb) words.old ≡ Some (plain cmd)) }
-    ensures err { IfErr result (λ error. (error ≡ LineError.NoCommand) × (said_by (Verb.Two verb) words.old ≡ None)) }
+fn two<T, F: FnOnce(usize, usize) -> T>(words: &mut Words<'_>, make: F) -> Result<T, LineError>
+    requires { F.IsAlwaysCallable make }
 {
-    let (a, b) = two(words)?;
-    match verb {
-        WithTwo::SetLen => Ok(Cmd::SetLen { target: a, n: b }),
-        WithTwo::Truncate => Ok(Cmd::Truncate { target: a, n: b }),
-        WithTwo::Freeze => Ok(Cmd::Freeze { src: a, dst: b }),
-        WithTwo::Recover => Ok(Cmd::Recover { src: a, dst: b }),
-        WithTwo::Clone => Ok(Cmd::Clone { src: a, dst: b }),
-        WithTwo::Advance => Ok(Cmd::Advance { target: a, n: b }),
-        WithTwo::Take => Ok(Cmd::Take { target: a, n: b }),
-        WithTwo::Append => Ok(Cmd::Append { target: a, src: b }),
-        WithTwo::Prepend => Ok(Cmd::Prepend { target: a, src: b }),
-        WithTwo::Coalesce => Ok(Cmd::Coalesce { src: a, dst: b }),
-        WithTwo::Encode => Ok(Cmd::Encode { src: a, dst: b }),
-    }
+    Ok(make(words.number()?, words.number()?))
 }
 
 // A command of three numbers.
-#[inline(never)]
-fn said_three(verb: WithThree, words: &mut Words<'_>) -> Result<Cmd, LineError>
-    ensures ok { IfOk result (λ cmd. said_by (Verb.Three verb) words.old ≡ Some (plain cmd)) }
-    ensures err { IfErr result (λ error. (error ≡ LineError.NoCommand) × (said_by (Verb.Three verb) words.old ≡ None)) }
+fn three<T, F: FnOnce(usize, usize, usize) -> T>(
+    words: &mut Words<'_>,
+    make: F,
+) -> Result<T, LineError>
+    requires { F.IsAlwaysCallable make }
 {
-    let (a, b, c) = three(words)?;
-    match verb {
-        WithThree::New => Ok(Cmd::NewMut {
-            dst: a,
-            capacity: b,
-            align: c,
-        }),
-        WithThree::Zeroed => Ok(Cmd::Zeroed {
-            dst: a,
-            len: b,
-            align: c,
-        }),
-        WithThree::Split => Ok(Cmd::Split {
-            src: a,
-            dst: b,
-            at: c,
-        }),
-    }
+    Ok(make(words.number()?, words.number()?, words.number()?))
 }
 
 // A command of a number and bytes.
-#[inline(never)]
-fn said_bytes(alloc: Global, verb: WithBytes, words: &mut Words<'_>) -> Result<Cmd, LineError>
-    ensures ok { IfOk result (λ cmd. said_by (Verb.Bytes verb) words.old ≡ Some (plain cmd)) }
-    ensures err { IfErr result (λ error. (error ≡ LineError.Memory) ⊎ (said_by (Verb.Bytes verb) words.old ≡ None)) }
+fn with_bytes<T, F: FnOnce(usize, Vec<u8>) -> T>(
+    alloc: Global,
+    words: &mut Words<'_>,
+    make: F,
+) -> Result<T, LineError>
+    requires { F.IsAlwaysCallable make }
 {
-    let n = words.number()?;
-    let bytes = words.bytes(alloc)?;
-    words.end()?;
-    match verb {
-        WithBytes::Adopt => Ok(Cmd::Adopt { dst: n, bytes }),
-        WithBytes::Bytes => Ok(Cmd::FromBytes { dst: n, bytes }),
-        WithBytes::Put => Ok(Cmd::Put { target: n, bytes }),
-        WithBytes::Overwrite => Ok(Cmd::Overwrite { target: n, bytes }),
-    }
+    Ok(make(words.number()?, words.bytes(alloc)?))
 }
 
 // A command of a number, and any number of numbers.
-#[inline(never)]
-fn said_numbers(alloc: Global, verb: WithNumbers, words: &mut Words<'_>) -> Result<Cmd, LineError>
-    ensures ok { IfOk result (λ cmd. said_by (Verb.Numbers verb) words.old ≡ Some (plain cmd)) }
-    ensures err { IfErr result (λ error. (error ≡ LineError.Memory) ⊎ (said_by (Verb.Numbers verb) words.old ≡ None)) }
+fn with_numbers<T, F: FnOnce(usize, Vec<usize>) -> T>(
+    alloc: Global,
+    words: &mut Words<'_>,
+    make: F,
+) -> Result<T, LineError>
+    requires { F.IsAlwaysCallable make }
 {
-    let dst = words.number()?;
-    let sources = words.numbers(alloc)?;
-    match verb {
-        WithNumbers::Gather => Ok(Cmd::Gather { dst, sources }),
-        WithNumbers::GatherMut => Ok(Cmd::GatherMut { dst, sources }),
-    }
+    Ok(make(words.number()?, numbers(alloc, words)?))
 }
 
 // A view of the letters from one place to another.
-#[inline(never)]
-fn said_static(words: &mut Words<'_>) -> Result<Cmd, LineError>
-    ensures ok { IfOk result (λ cmd. static_said words.old ≡ Some (plain cmd)) }
-    ensures err { IfErr result (λ error. (error ≡ LineError.NoCommand) × (static_said words.old ≡ None)) }
-{
-    let (dst, lo, hi) = three(words)?;
+fn letters(words: &mut Words<'_>) -> Result<Cmd, LineError> {
+    let (dst, lo, hi) = (words.number()?, words.number()?, words.number()?);
     match LETTERS.get(lo..hi) {
         Some(text) => Ok(Cmd::Static { dst, text }),
-        None => Err(LineError::NoCommand),
+        None => Err(LineError::BadCommand),
     }
+}
+
+// A number, a byte and a number.
+fn fill(words: &mut Words<'_>) -> Result<Cmd, LineError> {
+    let target = words.number()?;
+    let byte = u8::try_from(words.number()?).map_err(|_| LineError::BadCommand)?;
+    let n = words.number()?;
+    Ok(Cmd::Fill { target, byte, n })
+}
+
+// Two numbers and two bounds.
+fn slice(words: &mut Words<'_>) -> Result<Cmd, LineError> {
+    let (src, dst) = (words.number()?, words.number()?);
+    let (lo, hi) = (bound(words.word()?)?, bound(words.word()?)?);
+    Ok(Cmd::Slice { src, dst, lo, hi })
+}
+
+// Two numbers, and items up to the end of the line.
+fn build(alloc: Global, words: &mut Words<'_>) -> Result<Cmd, LineError> {
+    let (dst, capacity) = (words.number()?, words.number()?);
+    let items = items(alloc, words)?;
+    Ok(Cmd::Build {
+        dst,
+        capacity,
+        items,
+    })
+}
+
+// Two numbers, and a least and a greatest length.
+fn decode(words: &mut Words<'_>) -> Result<Cmd, LineError> {
+    let (src, dst) = (words.number()?, words.number()?);
+    let range = RangeCfg {
+        lo: words.number()?,
+        hi: words.number()?,
+    };
+    Ok(Cmd::Decode { src, dst, range })
+}
+
+// A place that is included, `i3`, one that is excluded, `e3`, or none, `u`.
+fn bound(word: &[u8]) -> Result<Bound<usize>, LineError> {
+    match word {
+        b"u" => Ok(Bound::Unbounded),
+        [b'i', place @ ..] => Ok(Bound::Included(number(place)?)),
+        [b'e', place @ ..] => Ok(Bound::Excluded(number(place)?)),
+        _ => Err(LineError::BadCommand),
+    }
+}
+
+// Numbers up to the end of the line.
+fn numbers(alloc: Global, words: &mut Words<'_>) -> Result<Vec<usize>, LineError> {
+    let mut numbers = Vec::new(alloc);
+    while let Some(word) = words.next_word() {
+        numbers.push(number(word)?)?;
+    }
+    Ok(numbers)
+}
+
+// Items up to the end of the line: bytes after an `i`, the name of a view after a `p`.
+fn items(alloc: Global, words: &mut Words<'_>) -> Result<Vec<Item>, LineError> {
+    let mut items = Vec::new(alloc);
+    while let Some(word) = words.next_word() {
+        items.push(match word {
+            [b'i', digits @ ..] => Item::Inline(bytes(alloc, digits)?),
+            [b'p', name @ ..] => Item::Push(number(name)?),
+            _ => return Err(LineError::BadCommand),
+        })?;
+    }
+    Ok(items)
+}
+
+// Writes the line of a reply.
+fn write_reply<W: Write>(reply: &Reply, output: &mut W) -> io::Result<()> {
+    match reply {
+        Reply::Done => output.write_all(b"ok\n"),
+        Reply::Bytes(bytes) => {
+            output.write_all(b"bytes ")?;
+            write_hex(bytes.as_slice(), output)?;
+            output.write_all(b"\n")
+        }
+        Reply::Refused(refusal) => write_refusal(*refusal, output),
+        Reply::Shown { kind, pieces } => {
+            output.write_all(name(*kind))?;
+            for piece in pieces {
+                match kind {
+                    Kind::View | Kind::Text => write_chunk(piece.bytes.as_slice(), output)?,
+                    Kind::Part | Kind::Parts => {
+                        write_part(piece.bytes.as_slice(), piece.spare, output)?
+                    }
+                }
+            }
+            output.write_all(b"\n")
+        }
+    }
+}
+
+// Writes the line of a refusal.
+fn write_refusal<W: Write>(refusal: Refusal, output: &mut W) -> io::Result<()> {
+    writeln!(output, "refused {refusal}")
+}
+
+// Writes the line that shows what a name holds.
+fn write_slot<W: Write>(slot: &Slot, output: &mut W) -> io::Result<()> {
+    match slot {
+        Slot::Free => {}
+        Slot::Part(part) => {
+            output.write_all(b"part")?;
+            write_part(part.as_ref(), part.remaining_mut(), output)?;
+        }
+        Slot::View(view) => {
+            output.write_all(b"view")?;
+            write_chunk(view.as_ref(), output)?;
+        }
+        Slot::Text(text) => {
+            output.write_all(b"text")?;
+            for index in 0..text.chunk_count() {
+                if let Some(chunk) = text.chunk_at(index) {
+                    write_chunk(chunk, output)?;
+                }
+            }
+        }
+        Slot::Parts(parts) => {
+            output.write_all(b"parts")?;
+            for index in 0..parts.part_count() {
+                if let Some(part) = parts.part_at(index) {
+                    write_part(part.as_ref(), part.remaining_mut(), output)?;
+                }
+            }
+        }
+    }
+    output.write_all(b"\n")
+}
+
+// The first word of what is shown.
+fn name(kind: Kind) -> &'static [u8] {
+    match kind {
+        Kind::Part => b"part",
+        Kind::View => b"view",
+        Kind::Text => b"text",
+        Kind::Parts => b"parts",
+    }
+}
+
+// Writes a space, the bytes and the spare capacity of a writable buffer.
+fn write_part<W: Write>(bytes: &[u8], spare: usize, output: &mut W) -> io::Result<()> {
+    write_chunk(bytes, output)?;
+    write!(output, "+{spare}")
+}
+
+// Writes a space and bytes.
+fn write_chunk<W: Write>(bytes: &[u8], output: &mut W) -> io::Result<()> {
+    output.write_all(b" ")?;
+    write_hex(bytes, output)
+}
+
+// How many bytes become digits at once.
+const AT_ONCE: usize = 32;
+
+// Writes bytes as hexadecimal digits, or a dash if there are none.
+fn write_hex<W: Write>(bytes: &[u8], output: &mut W) -> io::Result<()> {
+    if bytes.is_empty() {
+        return output.write_all(b"-");
+    }
+    let mut digits = [0; 2 * AT_ONCE];
+    for few in bytes.chunks(AT_ONCE) {
+        let digits = &mut digits[..2 * few.len()];
+        let _ = hex::encode_to_slice(few, &mut *digits);
+        output.write_all(digits)?;
+    }
+    Ok(())
 }

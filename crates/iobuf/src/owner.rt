@@ -1,319 +1,248 @@
-//! A session of steps of the owner machine, and what its lines ask for.
-ghost use Rattle.std.specs.Prelude.{◌≡◌, ℕ, ◌<◌, ◌≤◌, ◌^◌, ◌++◌, List, Some, None, IfErr, IfOk, IfSome, IsOk, IsOkUnless, OnOk};
-ghost use Rattle.iobufs_owner.specs.Promises.{Promises};
-ghost use Rattle.iobuf.specs.Faults.{MayEnd};
-ghost use Rattle.iobuf.specs.MachineSession.{AnswersMachineLine, MakesMachine, ServesMachine};
-ghost use Rattle.iobuf.specs.Owner.Said.{act_of, ask_of, call_of, call_on_of, grant_of, one_before, setup_of, three_before, two_before, width_of};
-ghost use Rattle.iobuf.specs.Owner.Session.{Answers, machine_of, with_line_end};
+//! Lines of the owner machine: the step or question of a line, and the line that answers it.
+ghost use Rattle.std.specs.Prelude.{IfOk};
+ghost use Rattle.iobuf.specs.Session.{IsNew, MachineTakes};
 
-mod reply;
-
-use crate::owner::reply::{AnswerLine, Question, ReplyLine};
-use crate::streams::{Obstacle, Sink, Source, Stop, stop_at, text};
+use crate::session::Service;
 use crate::words::{LineError, Words, number};
-use iobufs_core::codec::BufError;
 use iobufs_owner::format::{FORMAT_32, FORMAT_64};
-use iobufs_owner::owner::{Act, Call, Machine, Step};
+use iobufs_owner::owner::{Act, Call, Handle, Kind, Machine, Record, Refusal, Reply, Step, Word};
 use std::alloc::Global;
-use std::io::{self, Write};
+use std::fmt;
+use std::io::Write;
 
-/// The machine that the first line asks for.
-#[derive(Clone, Copy, Drop)]
-pub struct Setup {
-    /// How many threads it has.
-    pub threads: usize,
-    /// Its ceiling, above 0.
-    pub ceiling: u64,
-    /// Whether its descriptors have 64 bits; else they have 32.
-    pub is_wide: bool,
-}
+// The most threads of a machine.
+const MOST_THREADS: usize = 1 << 32;
 
-/// The request of a further line.
-#[derive(Clone, Copy, Drop)]
-pub enum Ask {
-    /// A step of a thread.
-    Take(Step),
-    /// An answer to a question, which changes nothing.
-    Look(Question),
-}
-
-impl Setup {
-    // The machine that is asked for.
-    fn machine(&self, alloc: Global) -> Result<Machine, BufError>
-        requires some { 0 < self.now.ceiling }
-        requires few { self.now.threads ≤ 2 ^ 32 }
-        ensures ok { IfOk result (λ machine. machine.state ≡ machine_of self.now) }
-        ensures promises { IfOk result (λ machine. Promises machine.state) }
-        ensures memory { IsOkUnless result BufError.Memory }
-        ensures nothing { self.now.threads ≡ 0 → IsOk result }
-    {
-        let format = if self.is_wide { FORMAT_64 } else { FORMAT_32 };
-        Machine::new(alloc, self.threads, self.ceiling, format)
-    }
-}
-
-/// Answers each line of the input by an owner machine, which the first line asks for.
-pub fn answer_lines<I: Source, O: Sink>(
+/// The machine, once the first line has asked for it.
+#[derive(Drop)]
+pub struct Owner {
     alloc: Global,
-    input: &mut I,
-    output: &mut O,
-) -> Result<(), Stop>
-    ensures serves { IfSome (I.unread input.old) (λ read. IfSome (O.contents output.old) (λ before.
-        ServesMachine read before (O.contents output.new) result)) }
-    ensures end { MayEnd I.can_fail O.can_fail result }
-{
-    match input.read_line(output) {
-        Ok(true) => {}
-        Ok(false) => return Ok(()),
-        Err(fault) => return Err(Stop::CannotContinue(fault)),
-    }
-    let first = text(input.line());
-    let mut machine = match begin(alloc, first) {
-        Ok(machine) => machine,
-        Err(LineError::NoCommand) => return Err(stop_at(first, 1)),
-        Err(LineError::Memory) => return Err(Stop::CannotContinue(Obstacle::Memory)),
-    };
-    if let Err(fault) = output.take(b"ok\n") {
-        return Err(Stop::CannotContinue(fault));
-    }
-    let mut reply = Vec::new(alloc);
-    for number in 2..u64::MAX {
-        match input.read_line(output) {
-            Ok(true) => {}
-            Ok(false) => return Ok(()),
-            Err(fault) => return Err(Stop::CannotContinue(fault)),
-        }
-        let line = text(input.line());
-        match answer(&mut machine, line, &mut reply) {
-            Ok(()) => {}
-            Err(LineError::NoCommand) => return Err(stop_at(line, number)),
-            Err(LineError::Memory) => return Err(Stop::CannotContinue(Obstacle::Memory)),
-        }
-        if let Err(fault) = output.take(&reply) {
-            return Err(Stop::CannotContinue(fault));
-        }
-    }
-    Err(Stop::CannotContinue(Obstacle::TooManyLines))
+    machine: Option<Machine>,
 }
 
-// Makes the machine that the first line asks for.
-fn begin(alloc: Global, line: &[u8]) -> Result<Machine, LineError>
-    ensures { MakesMachine line.now result }
-{
-    let Ok(setup) = first_line(line) else {
-        return Err(LineError::NoCommand);
-    };
-    match setup.machine(alloc) {
-        Ok(machine) => Ok(machine),
-        Err(_) => Err(LineError::Memory),
+impl Owner {
+    /// There is no machine yet.
+    pub fn new(alloc: Global) -> Owner {
+        Owner {
+            alloc,
+            machine: None,
+        }
     }
 }
 
-// Takes a step, or looks at what a question asks for, and writes the answer as a line. A step is taken even if writing
-// fails. Before a step room is made for a block, a handle and a record, where it can be had.
-fn write_answer<W: Write>(machine: &mut Machine, ask: Ask, output: &mut W) -> io::Result<()>
-    ensures { OnOk result (IfSome (W.contents output.old) (λ before.
-        (text : List ℕ) × Answers machine.old ask text machine.new
-        × (W.contents output.new ≡ Some (before ++ with_line_end text)))) }
-{
-    match ask {
-        Ask::Take(step) => {
-            // Refused, it leaves the step to say whether that wants the room.
-            let _ = machine.reserve(1, 1, 1);
-            writeln!(output, "{}", ReplyLine(machine.step(step)))
-        }
-        Ask::Look(question) => writeln!(output, "{}", AnswerLine(machine, question)),
-    }
-}
+impl Service for Owner {
+    // It makes the machine, takes one step, or does nothing.
+    ghost Takes = { λ old new. MachineTakes old.machine new.machine };
 
-// Answers a line, and prints its answer.
-fn answer(machine: &mut Machine, line: &[u8], reply: &mut Vec<u8>) -> Result<(), LineError>
-    ensures { AnswersMachineLine line.now machine.old machine.new reply.new.items result }
-{
-    let Ok(ask) = further_line(line) else {
-        return Err(LineError::NoCommand);
-    };
-    reply.clear();
-    match write_answer(machine, ask, reply) {
-        Ok(()) => Ok(()),
-        Err(_) => Err(LineError::Memory),
+    fn answer<W: Write>(&mut self, line: &[u8], output: &mut W) -> Result<(), LineError> {
+        let mut words = Words::of(line);
+        let Some(machine) = &mut self.machine else {
+            self.machine = Some(new_machine(self.alloc, &mut words)?);
+            return Ok(output.write_all(b"ok\n")?);
+        };
+        match asked(&mut words)? {
+            Ask::Step(step) => {
+                // If it fails, the step says whether it wants the room.
+                let _ = machine.reserve(1, 1, 1);
+                writeln!(output, "{}", ReplyText(machine.step(step)))?;
+            }
+            Ask::Handle(h) => writeln!(
+                output,
+                "{}",
+                HandleText(machine.handles().get(h).copied())
+            )?,
+            Ask::Record(r) => writeln!(
+                output,
+                "{}",
+                RecordText(machine.records().get(r).copied())
+            )?,
+            Ask::Freed => writeln!(output, "{}", FreedText(machine))?,
+        }
+        Ok(())
     }
 }
 
 // The machine of a first line: `machine PARTIES CEILING 64`, or `.. 32`.
-fn first_line(line: &[u8]) -> Result<Setup, LineError>
-    ensures ok { IfOk result (λ setup. setup_of line.now ≡ Some setup) }
-    ensures err { IfErr result (λ error. (error ≡ LineError.NoCommand) × (setup_of line.now ≡ None)) }
-    ensures ceiling { IfOk result (λ setup. 0 < setup.ceiling) }
-    ensures threads { IfOk result (λ setup. setup.threads ≤ 2 ^ 32) }
+fn new_machine(alloc: Global, words: &mut Words<'_>) -> Result<Machine, LineError>
+    ensures { IfOk result IsNew }
 {
-    let mut words = Words::of(line);
     let Some(b"machine") = words.next_word() else {
-        return Err(LineError::NoCommand);
+        return Err(LineError::BadCommand);
     };
-    let (threads, ceiling) = two(&mut words)?;
-    let is_wide = width(&mut words)?;
-    if ceiling == 0 || threads > 4294967296 {
-        return Err(LineError::NoCommand);
-    }
-    Ok(Setup {
-        threads,
-        ceiling: ceiling as u64,
-        is_wide,
-    })
-}
-
-// The last word of a first line: whether descriptors have 64 bits, and not 32.
-fn width(words: &mut Words) -> Result<bool, LineError>
-    ensures ok { IfOk result (λ is_wide. width_of words.old ≡ Some is_wide) }
-    ensures err { IfErr result (λ error. (error ≡ LineError.NoCommand) × (width_of words.old ≡ None)) }
-{
-    let is_wide = match words.next_word() {
-        Some(b"64") => true,
-        Some(b"32") => false,
-        _ => return Err(LineError::NoCommand),
+    let (threads, ceiling) = (words.number()?, words.number()?);
+    let format = match words.word()? {
+        b"64" => FORMAT_64,
+        b"32" => FORMAT_32,
+        _ => return Err(LineError::BadCommand),
     };
     words.end()?;
-    Ok(is_wide)
+    if ceiling == 0 || threads > MOST_THREADS {
+        return Err(LineError::BadCommand);
+    }
+    Ok(Machine::new(alloc, threads, ceiling as u64, format)?)
 }
 
-// A step or a question. Memory is granted unless a step ends with the word `deny`.
-fn further_line(line: &[u8]) -> Result<Ask, LineError>
-    ensures ok { IfOk result (λ ask. ask_of line.now ≡ Some ask) }
-    ensures err { IfErr result (λ error. (error ≡ LineError.NoCommand) × (ask_of line.now ≡ None)) }
-{
-    let mut words = Words::of(line);
-    let Some(first) = words.next_word() else {
-        return Err(LineError::NoCommand);
+// What a further line asks for: a step, or the answer to a question.
+#[derive(Clone, Copy, Drop)]
+enum Ask {
+    Step(Step),
+    Handle(usize),
+    Record(usize),
+    Freed,
+}
+
+// What a further line asks for.
+fn asked(words: &mut Words<'_>) -> Result<Ask, LineError> {
+    let ask = match words.word()? {
+        b"handle" => Ask::Handle(words.number()?),
+        b"record" => Ask::Record(words.number()?),
+        b"freed" => Ask::Freed,
+        thread => Ask::Step(Step {
+            thread: number(thread)?,
+            act: act(words)?,
+        }),
     };
-    if first == b"handle".as_slice() {
-        return Ok(Ask::Look(Question::Handle(words.last_number()?)));
-    }
-    if first == b"record".as_slice() {
-        return Ok(Ask::Look(Question::Record(words.last_number()?)));
-    }
-    if first == b"freed".as_slice() {
-        words.end()?;
-        return Ok(Ask::Look(Question::Freed));
-    }
-    let thread = number(first)?;
-    let act = act(&mut words)?;
-    Ok(Ask::Take(Step { thread, act }))
+    words.end()?;
+    Ok(ask)
 }
 
 // The act of a thread: it goes on, or begins a call.
-fn act(words: &mut Words) -> Result<Act, LineError>
-    ensures ok { IfOk result (λ act. act_of words.old ≡ Some act) }
-    ensures err { IfErr result (λ error. (error ≡ LineError.NoCommand) × (act_of words.old ≡ None)) }
-{
-    match words.next_word() {
-        None => Err(LineError::NoCommand),
-        Some(b"go") => Ok(Act::Go(grant(words)?)),
-        Some(verb) => {
-            let call = call(verb, words)?;
-            Ok(Act::Begin(call, grant(words)?))
-        }
+fn act(words: &mut Words<'_>) -> Result<Act, LineError> {
+    match words.word()? {
+        b"go" => Ok(Act::Go(grant(words)?)),
+        verb => Ok(Act::Begin(call(verb, words)?, grant(words)?)),
     }
 }
 
-// The end of a step: whether memory is granted.
-fn grant(words: &mut Words) -> Result<bool, LineError>
-    ensures ok { IfOk result (λ memory. grant_of words.old ≡ Some memory) }
-    ensures err { IfErr result (λ error. (error ≡ LineError.NoCommand) × (grant_of words.old ≡ None)) }
-{
+// Memory is granted unless the line ends with the word `deny`.
+fn grant(words: &mut Words<'_>) -> Result<bool, LineError> {
     match words.next_word() {
         None => Ok(true),
-        Some(b"deny") => words.end().map(|_| false),
-        Some(_) => Err(LineError::NoCommand),
+        Some(b"deny") => Ok(false),
+        Some(_) => Err(LineError::BadCommand),
     }
 }
 
 // The call that a thread begins.
-fn call(verb: &[u8], words: &mut Words) -> Result<Call, LineError>
-    ensures ok { IfOk result (λ call. call_of verb.now words.old ≡ Some (call, words.new)) }
-    ensures err { IfErr result (λ error. (error ≡ LineError.NoCommand) × (call_of verb.now words.old ≡ None)) }
-{
-    if verb == b"new".as_slice() {
-        let (base, size, align) = three(words)?;
-        return Ok(Call::New(base as u64, size as u64, align as u64));
-    }
-    if verb == b"external".as_slice() {
-        let (base, size) = two(words)?;
-        return Ok(Call::External(base as u64, size as u64));
-    }
-    if verb == b"static".as_slice() {
-        return Ok(Call::Static(one(words)? as u64));
-    }
-    if verb == b"put".as_slice() {
-        let (h, n) = two(words)?;
-        return Ok(Call::Put(h, n as u64));
-    }
-    if verb == b"advance".as_slice() {
-        let (h, n) = two(words)?;
-        return Ok(Call::Advance(h, n as u64));
-    }
-    if verb == b"split".as_slice() {
-        let (h, at) = two(words)?;
-        return Ok(Call::SplitTo(h, at as u64));
-    }
-    if verb == b"slice".as_slice() {
-        let (h, lo, hi) = three(words)?;
-        return Ok(Call::Slice(h, lo as u64, hi as u64));
-    }
-    call_on(verb, words)
+fn call(verb: &[u8], words: &mut Words<'_>) -> Result<Call, LineError> {
+    Ok(match verb {
+        b"new" => Call::New(size(words)?, size(words)?, size(words)?),
+        b"external" => Call::External(size(words)?, size(words)?),
+        b"static" => Call::Static(size(words)?),
+        b"put" => Call::Put(words.number()?, size(words)?),
+        b"advance" => Call::Advance(words.number()?, size(words)?),
+        b"freeze" => Call::Freeze(words.number()?),
+        b"recover" => Call::TryIntoMut(words.number()?),
+        b"split" => Call::SplitTo(words.number()?, size(words)?),
+        b"unique" => Call::IsUnique(words.number()?),
+        b"demote" => Call::Demote(words.number()?),
+        b"clone" => Call::Clone(words.number()?),
+        b"slice" => Call::Slice(words.number()?, size(words)?, size(words)?),
+        b"drop" => Call::Drop(words.number()?),
+        _ => return Err(LineError::BadCommand),
+    })
 }
 
-// A call that says a handle and nothing else.
-fn call_on(verb: &[u8], words: &mut Words) -> Result<Call, LineError>
-    ensures ok { IfOk result (λ call. call_on_of verb.now words.old ≡ Some (call, words.new)) }
-    ensures err { IfErr result (λ error. (error ≡ LineError.NoCommand) × (call_on_of verb.now words.old ≡ None)) }
-{
-    if verb == b"freeze".as_slice() {
-        return Ok(Call::Freeze(one(words)?));
-    }
-    if verb == b"recover".as_slice() {
-        return Ok(Call::TryIntoMut(one(words)?));
-    }
-    if verb == b"unique".as_slice() {
-        return Ok(Call::IsUnique(one(words)?));
-    }
-    if verb == b"demote".as_slice() {
-        return Ok(Call::Demote(one(words)?));
-    }
-    if verb == b"clone".as_slice() {
-        return Ok(Call::Clone(one(words)?));
-    }
-    if verb == b"drop".as_slice() {
-        return Ok(Call::Drop(one(words)?));
-    }
-    Err(LineError::NoCommand)
+// An address, a number of bytes or an alignment.
+fn size(words: &mut Words<'_>) -> Result<u64, LineError> {
+    Ok(words.number()? as u64)
 }
 
-// One number.
-fn one(words: &mut Words) -> Result<usize, LineError>
-    ensures ok { IfOk result (λ n. one_before words.old ≡ Some (n, words.new)) }
-    ensures err { IfErr result (λ error. (error ≡ LineError.NoCommand) × (one_before words.old ≡ None)) }
-{
-    words.number()
+// A reply, as it is printed.
+#[derive(Clone, Copy)]
+struct ReplyText(Reply);
+
+// The handle of some number, as it is printed: it may never have been given, or be gone.
+#[derive(Clone, Copy)]
+struct HandleText(Option<Option<Handle>>);
+
+// The record of some number, as it is printed.
+#[derive(Clone, Copy)]
+struct RecordText(Option<Record>);
+
+// The word that a handle owns, as it is printed.
+#[derive(Clone, Copy)]
+struct WordText(Word);
+
+// The blocks and records that a machine has freed, as they are printed.
+#[derive(Clone, Copy)]
+struct FreedText<'a>(&'a Machine);
+
+impl fmt::Display for ReplyText {
+    fn fmt<W: fmt::Write>(&self, f: &mut fmt::Formatter<W>) -> fmt::Result {
+        match self.0 {
+            Reply::Made(handle) => write!(f, "made {handle}"),
+            Reply::More => f.write_str("more"),
+            Reply::Done => f.write_str("done"),
+            Reply::Declined => f.write_str("declined"),
+            Reply::Unique(unique) => write!(f, "unique {unique}"),
+            Reply::Refused(refusal) => write!(f, "refused {}", name(refusal)),
+        }
+    }
 }
 
-// Two numbers.
-fn two(words: &mut Words) -> Result<(usize, usize), LineError>
-    ensures ok { IfOk result (λ n. two_before words.old ≡ Some
-        (record { first = n.0; second = n.1; rest = words.new })) }
-    ensures err { IfErr result (λ error. (error ≡ LineError.NoCommand) × (two_before words.old ≡ None)) }
-{
-    let first = one(words)?;
-    Ok((first, one(words)?))
+impl fmt::Display for HandleText {
+    fn fmt<W: fmt::Write>(&self, f: &mut fmt::Formatter<W>) -> fmt::Result {
+        let handle = match self.0 {
+            None => return f.write_str("none"),
+            Some(None) => return f.write_str("gone"),
+            Some(Some(handle)) => handle,
+        };
+        let (ptr, len, cap, word) = (handle.ptr, handle.len, handle.cap, WordText(handle.word));
+        match handle.kind {
+            Kind::View => write!(f, "view {ptr} {len} {word}"),
+            Kind::Mut => write!(f, "mut {ptr} {len} {cap} {word}"),
+        }
+    }
 }
 
-// Three numbers.
-fn three(words: &mut Words) -> Result<(usize, usize, usize), LineError>
-    ensures ok { IfOk result (λ n. three_before words.old ≡ Some
-        (record { first = n.0; second = n.1; third = n.2; rest = words.new })) }
-    ensures err { IfErr result (λ error. (error ≡ LineError.NoCommand) × (three_before words.old ≡ None)) }
-{
-    let first = one(words)?;
-    let (second, third) = two(words)?;
-    Ok((first, second, third))
+impl fmt::Display for RecordText {
+    fn fmt<W: fmt::Write>(&self, f: &mut fmt::Formatter<W>) -> fmt::Result {
+        let Some(Record { count, block, live }) = self.0 else {
+            return f.write_str("none");
+        };
+        let state = if live { "live" } else { "freed" };
+        write!(f, "count {count} block {block} {state}")
+    }
+}
+
+impl fmt::Display for WordText {
+    fn fmt<W: fmt::Write>(&self, f: &mut fmt::Formatter<W>) -> fmt::Result {
+        match self.0 {
+            Word::Empty => f.write_str("empty"),
+            Word::Descriptor(word) => write!(f, "word {word}"),
+            Word::Record(record) => write!(f, "record {record}"),
+        }
+    }
+}
+
+impl fmt::Display for FreedText<'_> {
+    fn fmt<W: fmt::Write>(&self, f: &mut fmt::Formatter<W>) -> fmt::Result {
+        f.write_str("blocks")?;
+        for freed in self.0.freed_blocks() {
+            let (base, size, align) = (freed.base, freed.size, freed.align);
+            write!(f, " {base}/{size}/{align}")?;
+        }
+        f.write_str(" records")?;
+        for record in self.0.freed_records() {
+            write!(f, " {record}")?;
+        }
+        Ok(())
+    }
+}
+
+// A refusal with its number.
+fn name(refusal: Refusal) -> &'static str {
+    match refusal {
+        Refusal::Busy => "O1 Busy",
+        Refusal::Idle => "O2 Idle",
+        Refusal::NoHandle => "O3 NoHandle",
+        Refusal::WrongKind => "O4 WrongKind",
+        Refusal::Borrowed => "O5 Borrowed",
+        Refusal::OutOfRange => "O6 OutOfRange",
+        Refusal::BadPlace => "O7 BadPlace",
+        Refusal::Memory => "O8 Memory",
+        Refusal::Ceiling => "O9 Ceiling",
+        Refusal::Room => "O10 Room",
+    }
 }
