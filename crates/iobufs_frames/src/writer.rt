@@ -170,7 +170,7 @@ impl<W: Write + Drop> FrameWriter<W> {
     pub fn send(&mut self) -> io::Result<()>
         ensures { SendsRest W.contents self.old result self.new }
     {
-        if self.unsent() == 0 {
+        if self.rest.is_empty() && self.more.is_empty() {
             return Ok(());
         }
         self.is_flushed = false;
