@@ -152,8 +152,8 @@ fn refused_chunks_are_left(rt: HostRuntime) -> Result<(), Fail> {
 }
 
 // A frame of four bytes in two chunks, of which one write fails, and none is interrupted: the number of that write, how
-// many bytes a write takes at most, whether `send` fails, and what is written and left then. An error after whole chunks
-// of the same batch is dropped.
+// many bytes a write takes at most, whether `send` fails, and what is written and left then. An error after bytes of
+// the same batch is dropped.
 type FailedOnce = (usize, usize, bool, &'static [u8], usize);
 
 const FAILED_ONCE: [FailedOnce; 4] = rows! {
