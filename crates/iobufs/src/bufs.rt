@@ -551,9 +551,9 @@ impl IoBufs {
     }
 
     /// Writes all bytes, up to `BATCH` chunks at a time, and drops those that the writer takes (own). Nothing is
-    /// allocated. An error is the writer's (`write_chunks_again` says which one is dropped), or `ErrorKind::WriteZero` if
-    /// it takes none. The other bytes are left, and `write_to` may be called again. An interrupted write is tried again;
-    /// after 2^64 - 1 tries the error is `ErrorKind::TimedOut`.
+    /// allocated. An error is the writer's, or `ErrorKind::WriteZero` if it takes none; `write_chunks_again` says which
+    /// one is dropped. The other bytes are left, and `write_to` may be called again. An interrupted write is tried
+    /// again; after 2^64 - 1 tries the error is `ErrorKind::TimedOut`.
     #[tactic(auto, using(crate::proofs::CallerFacts::sending, crate::proofs::CallerFacts::resting))]
     pub fn write_to<W: Write>(&mut self, to: &mut W) -> io::Result<()>
         ensures sent { IsSent (W.contents to.old) (W.contents to.new) self.old.bytes self.new.bytes }

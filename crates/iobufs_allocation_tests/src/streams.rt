@@ -82,7 +82,7 @@ fn send(writer: &mut FrameWriter<Counter>, body: &mut IoBufs) -> Result<(), BufE
 fn sends(rt: HostRuntime) {
     for (case, prefix, chunks, len, most, writes, taken) in FRAMES {
         let mut body = text(rt.alloc(), chunks, len).expect(&rt, "a fixture");
-        let mut writer = FrameWriter::with_prefix(Counter::new(most), prefix, RANGE);
+        let mut writer = FrameWriter::with_prefix(rt.alloc(), Counter::new(most), prefix, RANGE);
         let ((), word) = lent!(rt, send(&mut writer, &mut body), BufError::Memory, true);
         end_case(
             &rt,
@@ -140,7 +140,7 @@ fn echoes(rt: HostRuntime) {
     for (case, count) in ECHOES {
         let bytes = frames(rt.alloc(), count).expect(&rt, "a fixture");
         let mut from = FrameReader::new(rt.alloc(), bytes, RANGE).expect(&rt, "a fixture");
-        let mut to = FrameWriter::new(Counter::new(usize::MAX), RANGE);
+        let mut to = FrameWriter::new(rt.alloc(), Counter::new(usize::MAX), RANGE);
         let ((), word) = lent!(rt, echoed(&mut from, &mut to), BufError::Memory, true);
         end_case(&rt, case, word, to.to.taken == bytes.len());
     }

@@ -56,7 +56,7 @@ pub fn echo(rt: &HostRuntime, count: usize, len: usize) -> Result<Run, RunError>
     let range = RangeCfg { lo: 0, hi: len };
     let mut from = FrameReader::new(rt.alloc(), bytes.as_slice(), range)?;
     let to = BufWriter::new(rt.alloc(), Counter { sum: Sum::new() })?;
-    let mut to = FrameWriter::new(to, range);
+    let mut to = FrameWriter::new(rt.alloc(), to, range);
     let start = begun(rt);
     send_back(&mut from, &mut to)?;
     to.to.flush()?;

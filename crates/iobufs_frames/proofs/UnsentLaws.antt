@@ -25,7 +25,7 @@ body_goes u gone left n is more within none rest =
 pub advanced_on : (old mid new : UnsentBytes) (n : ℕ) → IsAdvanced old mid → new ≡ unsent_rest mid n → IsAdvanced old new
 advanced_on old mid new n (counts, is) more = (n ∷ counts, more ∙ ap (λ (u : UnsentBytes). unsent_rest u n) is)
 
--- and some more after them
+-- some more went after them
 advanced_by : (old mid new : UnsentBytes) (counts : List ℕ) → IsAdvanced old mid → new ≡ unsent_after mid counts → IsAdvanced old new
 advanced_by old mid new [] (before, is) more = (before, more ∙ is)
 advanced_by old mid new (n ∷ counts) is more =
@@ -55,9 +55,9 @@ passed_on frames rest new more n is less = record {
   advanced = advanced_on is.first rest new n is.advanced less;
 }
 
--- frames went, and then more
 both : (frames : List UnsentBytes) (rest : UnsentBytes) (more : List UnsentBytes) (new : UnsentBytes) (left gone : List UnsentBytes)
-    (first : UnsentBytes) → ArePassed frames rest more → rest ∷ more ≡ gone ++ first ∷ left → IsAdvanced first new → ArePassed frames new left
+    (first : UnsentBytes) → ArePassed frames rest more → rest ∷ more ≡ gone ++ first ∷ left → IsAdvanced first new
+    → ArePassed frames new left
 both frames rest more new left [] first is whole (counts, less) =
     let here : rest ≡ first = ap (λ (us : List UnsentBytes). get_or us 0 rest) whole in
     let after : more ≡ left = ap (λ (us : List UnsentBytes). drop 1 us) whole in record {
@@ -74,6 +74,7 @@ both frames rest more new left (u ∷ gone) first is whole less =
       advanced = less;
     }
 
+-- frames went, and then more
 pub passed_both : (frames : List UnsentBytes) (rest : UnsentBytes) (more : List UnsentBytes) (new : UnsentBytes) (left : List UnsentBytes)
     → ArePassed frames rest more → ArePassed (rest ∷ more) new left → ArePassed frames new left
 passed_both frames rest more new left is next = both frames rest more new left next.gone next.first is next.whole next.advanced

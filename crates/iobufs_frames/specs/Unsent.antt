@@ -3,7 +3,8 @@
 --     unsent_nothing no frame
 --     unsent_frame   a frame of which nothing was sent
 --     unsent_rest    what is left of them after their first bytes; a body of which all went shares no block
---     IsAdvanced     some bytes went, a few at a time
+--     unsent_after,  what several counts of bytes leave; some bytes went, a few at a time
+--     IsAdvanced
 --     IsFront        the first bytes
 --     frames_bytes   the bytes of several frames, in order
 --     ArePassed      the first frames went, and some bytes of the next, a few at a time

@@ -18,8 +18,8 @@ use std::alloc::Global;
 use std::collections::VecDeque;
 use std::io::{self, ErrorKind, IoSlice, Write};
 
-/// A writer to which whole frames are sent, of lengths in a range. The length and the chunks of a body are written where
-/// they are, up to 64 at a time, and so are the frames that were put before a `send`.
+/// A writer to which whole frames are sent, of lengths in a range. The length and the chunks of a body are written from
+/// where they are, up to `BATCH` at a time, and so are the frames that were put before a `send`.
 #[derive(Drop)]
 pub struct FrameWriter<W> {
     /// The writer: `&writer.to` and `&mut writer.to` are the `get_ref` and `get_mut` of std's writers.
@@ -164,13 +164,13 @@ fn write_batch<'a, W: Write>(
 }
 
 impl<W: Write + Drop> FrameWriter<W> {
-    /// Sends all frames that were put, up to `BATCH` chunks at a time. An error is the writer's
-    /// (`iobufs::write_chunks_again` says which one is dropped), never `ErrorKind::Interrupted`, or
-    /// `ErrorKind::WriteZero` if it takes none. After it no byte is lost or sent twice: `send` may be called again.
+    /// Sends all frames that were put, up to `BATCH` chunks at a time. An error is the writer's, never
+    /// `ErrorKind::Interrupted`, or `ErrorKind::WriteZero` if it takes none; `write_chunks_again` says which one is
+    /// dropped. After it no byte is lost or sent twice: `send` may be called again.
     pub fn send(&mut self) -> io::Result<()>
         ensures { SendsRest W.contents self.old result self.new }
     {
-        if self.unsent() == 0 {
+        if self.rest.is_empty() && self.more.is_empty() {
             return Ok(());
         }
         self.is_flushed = false;

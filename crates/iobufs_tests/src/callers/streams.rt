@@ -61,10 +61,10 @@ fn frame_reader<R: Read + Drop>(
     }
 }
 
-fn frame_writer<W: Write + Drop>(prefix: Prefix, to: W) -> FrameWriter<W> {
+fn frame_writer<W: Write + Drop>(alloc: Global, prefix: Prefix, to: W) -> FrameWriter<W> {
     match prefix {
-        Prefix::Spelled => FrameWriter::new(to, SHORT),
-        _ => FrameWriter::with_prefix(to, prefix, SHORT),
+        Prefix::Spelled => FrameWriter::new(alloc, to, SHORT),
+        _ => FrameWriter::with_prefix(alloc, to, prefix, SHORT),
     }
 }
 

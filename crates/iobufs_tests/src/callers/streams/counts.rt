@@ -52,7 +52,7 @@ fn write_counted(
 ) -> Result<(bool, usize, bool), Fail> {
     let mut to = FakeWriter::new(alloc, most);
     to.interruptions = Interruptions::new(each);
-    let mut writer = FrameWriter::new(to, LONG);
+    let mut writer = FrameWriter::new(alloc, to, LONG);
     writer.put(body)?;
     writer.send()?;
     let to = &writer.to;
@@ -111,7 +111,7 @@ fn long_frames_go_in_turn(rt: HostRuntime) -> Result<(), Fail> {
         FakeReader::new(b"", 1000, Some(ErrorKind::Other)),
         LONG,
     )?;
-    let mut writer = FrameWriter::new(FakeWriter::new(alloc, 1000), LONG);
+    let mut writer = FrameWriter::new(alloc, FakeWriter::new(alloc, 1000), LONG);
     for n in LONG_BODIES {
         let framed = framed_with(alloc, VARINT, long(alloc, n)?)?;
         let bytes = framed.to_vec(alloc)?.leak();

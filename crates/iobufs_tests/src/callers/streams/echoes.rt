@@ -103,7 +103,7 @@ fn assert_echoed(rt: &(impl Abort + AllocGlobal), case: &Echo) -> Result<(), Fai
     let from = FakeReader::new(case.bytes, 2, fails.then_some(ErrorKind::ConnectionReset));
     let mut from = frame_reader(rt.alloc(), case.prefix, from)?;
     let to = FakeWriter::failing(rt.alloc(), 100, case.fails_at, ErrorKind::BrokenPipe);
-    let mut to = frame_writer(case.other, to);
+    let mut to = frame_writer(rt.alloc(), case.other, to);
     let ending = echoed(&mut from, &mut to);
     assert_same!(rt; (ending, to.rest.len()), (case.first, case.rest), "{name}");
     assert_same!(rt; to.to.record.as_slice(), case.written, "{name}");

@@ -1,10 +1,11 @@
 // Errors of readers and writers: each kind but `Interrupted` is returned at once, and the next call goes on.
-use crate::callers::streams::fakes::{FakeReader, FakeWriter};
+use crate::callers::streams::fakes::{FakeReader, FakeWriter, Interruptions};
 use crate::callers::streams::{Ending, FRAMES, SHORT, frame_reader, take_bodies};
 use crate::frames::VARINT;
 use crate::same::assert_same;
 use iobufs_frames::FrameWriter;
 use iobufs_made::text;
+use std::alloc::Global;
 use std::io::{self, ErrorKind};
 use std::process::Abort;
 use std::test::Fail;
@@ -107,7 +108,7 @@ fn assert_failed_send(
     case: &FailedWrite,
 ) -> Result<(), Fail> {
     let to = FakeWriter::failing(rt.alloc(), case.1, case.0, kind);
-    let mut writer = FrameWriter::new(to, SHORT);
+    let mut writer = FrameWriter::new(rt.alloc(), to, SHORT);
     writer.put(text(rt.alloc(), &[b"abc", b"def"])?)?;
     let ended = writer.send();
     assert_failed_write(rt, kind, case, ended, &writer.to, writer.rest.len());
@@ -147,6 +148,51 @@ fn refused_chunks_are_left(rt: HostRuntime) -> Result<(), Fail> {
             assert_failed_write_to(&rt, kind, case)?;
         }
     }
+    Ok(())
+}
+
+// A frame of four bytes in two chunks, of which one write fails, and none is interrupted: the number of that write, how
+// many bytes a write takes at most, whether `send` fails, and what is written and left then. An error after bytes of
+// the same batch is dropped.
+type FailedOnce = (usize, usize, bool, &'static [u8], usize);
+
+const FAILED_ONCE: [FailedOnce; 4] = rows! {
+    0, 100, true, b"", 4;
+    1, 100, false, b"\x03abc", 0;
+    1, 1, false, b"\x03abc", 0;
+    2, 1, true, b"\x03a", 2;
+};
+
+fn failing_once(alloc: Global, most: usize, fails_at: usize) -> FakeWriter {
+    let mut to = FakeWriter::failing(alloc, most, fails_at, ErrorKind::BrokenPipe);
+    to.interruptions = Interruptions::new(0);
+    to
+}
+
+#[test]
+fn a_frame_is_sent_by_a_writer_that_fails_once(rt: HostRuntime) -> Result<(), Fail> {
+    for (fails_at, most, fails, written, left) in FAILED_ONCE {
+        let to = failing_once(rt.alloc(), most, fails_at);
+        let mut writer = FrameWriter::new(rt.alloc(), to, SHORT);
+        writer.put(text(rt.alloc(), &[b"abc"])?)?;
+        let found = (writer.send().is_err(), writer.rest.len());
+        assert_same!(rt; found, (fails, left), "{fails_at} by {most}");
+        assert_same!(rt; writer.to.record.as_slice(), written, "{fails_at} by {most}");
+        writer.send()?;
+        assert_same!(rt; writer.to.record.as_slice(), b"\x03abc".as_slice());
+    }
+    Ok(())
+}
+
+// The error comes after bytes of the only chunk.
+#[test]
+fn an_error_inside_a_chunk_is_returned(rt: HostRuntime) -> Result<(), Fail> {
+    let mut rest = text(rt.alloc(), &[b"abcd"])?;
+    let mut to = failing_once(rt.alloc(), 2, 1);
+    let error = rest.write_to(&mut to).err().map(|error| error.kind());
+    assert_same!(rt; (error, rest.len()), (Some(ErrorKind::BrokenPipe), 2));
+    rest.write_to(&mut to)?;
+    assert_same!(rt; to.record.as_slice(), b"abcd".as_slice());
     Ok(())
 }
 

@@ -55,7 +55,7 @@ fn assert_writing(
     most: usize,
 ) -> Result<(), Fail> {
     let (prefix, _, bodies, written) = *case;
-    let mut writer = frame_writer(prefix, FakeWriter::new(rt.alloc(), most));
+    let mut writer = frame_writer(rt.alloc(), prefix, FakeWriter::new(rt.alloc(), most));
     for body in bodies {
         send_body(rt, &mut writer, body)?;
     }
@@ -74,11 +74,49 @@ fn frames_are_written(rt: HostRuntime) -> Result<(), Fail> {
     Ok(())
 }
 
+// All frames are put before one is sent.
+fn assert_queued(rt: &(impl Abort + AllocGlobal), case: &Writing, most: usize) -> Result<(), Fail> {
+    let (prefix, _, bodies, written) = *case;
+    let mut writer = frame_writer(rt.alloc(), prefix, FakeWriter::new(rt.alloc(), most));
+    for body in bodies {
+        writer.put(text(rt.alloc(), body)?)?;
+    }
+    assert_same!(rt; writer.unsent(), bodies.len());
+    writer.send()?;
+    assert_same!(rt; writer.unsent(), 0);
+    assert_same!(rt; writer.to.record.as_slice(), written, "{prefix:?} by {most}");
+    Ok(())
+}
+
+#[test]
+fn frames_wait_for_a_send(rt: HostRuntime) -> Result<(), Fail> {
+    for case in &WRITINGS {
+        for most in case.1 {
+            assert_queued(&rt, case, *most)?;
+        }
+    }
+    Ok(())
+}
+
+// The write of the first body fails, and a frame is put before the rest of it is written.
+#[test]
+fn a_frame_follows_the_rest_of_another(rt: HostRuntime) -> Result<(), Fail> {
+    let to = FakeWriter::failing(rt.alloc(), 100, 1, ErrorKind::BrokenPipe);
+    let mut writer = FrameWriter::new(rt.alloc(), to, SHORT);
+    writer.put(text(rt.alloc(), &[b"abc"])?)?;
+    assert!(rt; writer.send().is_err());
+    writer.put(text(rt.alloc(), &[b"d"])?)?;
+    assert_same!(rt; (writer.unsent(), writer.rest.len()), (2, 3));
+    writer.send()?;
+    assert_same!(rt; writer.to.record.as_slice(), b"\x03abc\x01d".as_slice());
+    Ok(())
+}
+
 // The write of the body fails, and a flush comes before it is written.
 #[test]
 fn a_flush_comes_before_the_rest_of_a_frame(rt: HostRuntime) -> Result<(), Fail> {
     let to = FakeWriter::failing(rt.alloc(), 100, 1, ErrorKind::BrokenPipe);
-    let mut writer = FrameWriter::new(to, SHORT);
+    let mut writer = FrameWriter::new(rt.alloc(), to, SHORT);
     writer.put(text(rt.alloc(), &[b"abc"])?)?;
     assert!(rt; writer.send().is_err());
     writer.to.flush()?;
@@ -92,7 +130,7 @@ fn a_flush_comes_before_the_rest_of_a_frame(rt: HostRuntime) -> Result<(), Fail>
 fn a_frame_is_sent_without_a_flush(rt: HostRuntime) -> Result<(), Fail> {
     let frame = framed_with(rt.alloc(), VARINT, text(rt.alloc(), &[b"abc", b"def"])?)?;
     assert_same!(rt; frame.to_vec(rt.alloc())?.as_slice(), b"\x06abcdef".as_slice());
-    let mut writer = FrameWriter::new(FakeWriter::new(rt.alloc(), 100), SHORT);
+    let mut writer = FrameWriter::new(rt.alloc(), FakeWriter::new(rt.alloc(), 100), SHORT);
     writer.put(text(rt.alloc(), &[b"abc", b"def"])?)?;
     writer.send()?;
     assert_same!(rt; writer.to.record.as_slice(), b"\x06abcdef".as_slice());
@@ -102,7 +140,7 @@ fn a_frame_is_sent_without_a_flush(rt: HostRuntime) -> Result<(), Fail> {
 #[test]
 fn a_body_above_its_length_is_refused(rt: HostRuntime) -> Result<(), Fail> {
     let alloc = rt.alloc();
-    let mut writer = FrameWriter::with_prefix(FakeWriter::new(alloc, 100), BIG_16, LONG);
+    let mut writer = FrameWriter::with_prefix(alloc, FakeWriter::new(alloc, 100), BIG_16, LONG);
     let refused = writer.put(long(alloc, 65536)?).err();
     let refused = refused.map(|refused| (refused.cause, refused.value.len()));
     assert_same!(rt; refused, Some((BufError::TooLong, 65536)));
@@ -117,7 +155,7 @@ fn a_body_above_its_length_is_refused(rt: HostRuntime) -> Result<(), Fail> {
 #[test]
 fn a_body_above_the_limit_is_refused(rt: HostRuntime) -> Result<(), Fail> {
     let alloc = rt.alloc();
-    let mut writer = FrameWriter::new(FakeWriter::new(alloc, 100), SHORT);
+    let mut writer = FrameWriter::new(alloc, FakeWriter::new(alloc, 100), SHORT);
     writer.range.hi = 2;
     let refused = writer.put(text(alloc, &[b"ab", b"c"])?).err();
     let refused = refused.map(|refused| (refused.cause, refused.value.len()));

@@ -58,13 +58,15 @@ headed_front head batch body bytes whole (rest, is) =
 
 pub returns-then-is_empty-clause-front : goal.returns-then-is_empty-clause-front
 returns-then-is_empty-clause-front c =
-    let none : [] ≡ c.self.inside.head.filled = sym (nil_from_length c.self.inside.head.filled (grind (arith, common_steps, nat_tests, c.as_slice-head.ensures))) in
+    let none : [] ≡ c.self.inside.head.filled =
+    sym (nil_from_length c.self.inside.head.filled (grind (arith, common_steps, nat_tests, c.as_slice-head.ensures))) in
     let whole = ap (λ w. w ++ c.self.inside.body.bytes) none ∙ ap (λ (u : UnsentBytes). u.bytes) c.self.view_is in
     headed_front [] _ _ _ whole (batch_front _ _ _ c.fill_slices.ensures.chunks)
 
 pub returns-then-is_empty-clause-whole : goal.returns-then-is_empty-clause-whole
 returns-then-is_empty-clause-whole c = λ few.
-    let none : [] ≡ c.self.inside.head.filled = sym (nil_from_length c.self.inside.head.filled (grind (arith, common_steps, nat_tests, c.as_slice-head.ensures))) in
+    let none : [] ≡ c.self.inside.head.filled =
+    sym (nil_from_length c.self.inside.head.filled (grind (arith, common_steps, nat_tests, c.as_slice-head.ensures))) in
     let whole = ap (λ w. w ++ c.self.inside.body.bytes) none ∙ ap (λ (u : UnsentBytes). u.bytes) c.self.view_is in
     batch_whole _ c.self.inside.body (length c.args.dst.now) c.fill_slices.ensures.chunks
     (omega (arith, few, length-take c.fill_slices.result c.fill_slices.new.dst)) ∙ whole

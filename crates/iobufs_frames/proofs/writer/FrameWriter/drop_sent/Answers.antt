@@ -15,7 +15,8 @@ loop-left-preserved g c =
     let more : l.self.more.items ≡ next ∷ items = c.in-Some.ensures.items in
     let behind : frames_bytes l.self.more.items ≡ frames_bytes (next ∷ items) = ap frames_bytes more in
     let less = l.left - c.len-left.result in
-    let here : l.left ≡ length l.self.rest.bytes + less = omega (arith, c.loop-left-test.true, c.len.ensures, c.len-left.ensures) in record {
+    let here : l.left ≡ length l.self.rest.bytes + less =
+    omega (arith, c.loop-left-test.true, c.len.ensures, c.len-left.ensures) in record {
       within = omega (
         arith,
         l.invariant.within,
@@ -38,6 +39,7 @@ returns-clause-passed g c =
       | else-loop-left-test w ↦ subst (λ (s : FrameWriter g.row.W.Denot). ArePassed frames s.rest s.more.items) (sym w.self-is)
           c.loop-left.invariant.passed
       | then-loop-left-test+in_default w ↦ subst (λ (s : FrameWriter g.row.W.Denot). ArePassed frames s.rest s.more.items) (sym w.self-is)
-          (subst (λ (us : List UnsentBytes). ArePassed frames c.loop-left.self.rest us) w.in_default.ensures.items c.loop-left.invariant.passed)
+          (subst (λ (us : List UnsentBytes). ArePassed frames c.loop-left.self.rest us) w.in_default.ensures.items
+          c.loop-left.invariant.passed)
     ] in
     passed_on frames now.rest c.advance.new.self now.more.items c.loop-left.left passed c.advance.ensures
