@@ -5,7 +5,7 @@
 pub mod prelude {
     pub use super::super::base::{Clone, Drop, FromIterator};
     pub use super::super::host::HostRuntime;
-    pub use super::super::test::{AllocGlobal, Print};
+    pub use super::super::test::{AllocGlobal, Cast, Print};
     pub use super::super::text::String;
     pub use super::super::vec::Vec;
 }

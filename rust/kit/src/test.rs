@@ -14,6 +14,32 @@ impl Abort for HostRuntime {}
 
 impl<T: Abort> Abort for &T {}
 
+/// Casts between integers of one size, which Rust has from 1.87 on.
+pub trait Cast {
+    type Other;
+
+    fn cast_signed(self) -> Self::Other;
+    fn cast_unsigned(self) -> Self::Other;
+}
+
+macro_rules! casts {
+    ($($from:ident $to:ident)+) => {
+        $(impl Cast for $from {
+            type Other = $to;
+
+            fn cast_signed(self) -> $to {
+                self as $to
+            }
+
+            fn cast_unsigned(self) -> $to {
+                self as $to
+            }
+        })+
+    };
+}
+
+casts! { u8 i8 i8 u8 u16 i16 i16 u16 u32 i32 i32 u32 u64 i64 i64 u64 u128 i128 i128 u128 }
+
 /// What has the allocator.
 pub trait AllocGlobal {
     fn alloc(&self) -> Global;
