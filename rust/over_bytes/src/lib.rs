@@ -1,4 +1,6 @@
-//! The layer of calls over the crate `bytes`, by the tests of the one that the program and the C library have.
+//! The layer of calls over the crate `bytes`, by the tests of the one that the program and the C library have, and by
+//! those of the proved sources.
+#![cfg(test)]
 #![allow(dead_code, clippy::new_without_default)]
 extern crate self as kit;
 
@@ -6,7 +8,7 @@ extern crate self as kit;
 mod arc;
 #[path = "../../kit/src/base.rs"]
 mod base;
-#[path = "../src/kit/bytes.rs"]
+#[path = "../../iobufs/src/kit/bytes.rs"]
 pub mod bytes;
 #[path = "../../kit/tests/bytes.rs"]
 mod bytes_tests;
@@ -36,3 +38,9 @@ pub mod text;
 mod vec;
 
 pub use names::{prelude, std};
+
+#[allow(unused_imports, unused_macros, unused_variables, unstable_name_collisions, clippy::all)]
+#[forbid(unsafe_code)]
+mod proved {
+    include!(concat!(env!("OUT_DIR"), "/proved.rs"));
+}
