@@ -3,14 +3,16 @@ use std::path::Path;
 use std::{env, fs};
 
 /// Crates with tests.
-const TESTED: [&str; 5] = ["iobuf", "iobufs_examples", "iobufs_tests", "iobufs_wire_tests", "iobufs_allocation_tests"];
+const TESTED: [&str; 4] = ["iobuf", "iobufs_examples", "iobufs_tests", "iobufs_wire_tests"];
+/// Tests whose allocations fail, which std doesn't report to the crate `bytes`.
+const OF_ALLOCATIONS: &str = "iobufs_allocation_tests";
 /// Callers of crates that the layer hasn't: futures, tokio, tokio-util, http-body. `rust/tokio` has tests of these.
 const LEFT_OUT: [&str; 3] = ["iobufs_examples/framed_tests.rt", "iobufs_examples/polled.rt", "iobufs_examples/web.rt"];
 
 fn main() -> Result<(), String> {
     let (top, out) = (Path::new("../.."), env::var_os("OUT_DIR").expect("cargo says where"));
     let mut crates: Vec<String> = Vec::new();
-    for name in TESTED {
+    for name in TESTED.into_iter().chain((env!("CARGO_PKG_NAME") == "tests").then_some(OF_ALLOCATIONS)) {
         crates.extend(strip::crates_of(name, top)?);
     }
     crates.sort();
@@ -18,7 +20,7 @@ fn main() -> Result<(), String> {
     crates.retain(|name| name != "iobufs_codec");
     let also = strip::Also { left_out: &LEFT_OUT, is_tests: true, ..Default::default() };
     strip::write_crates(&crates, also, &top.join("crates"), Path::new(&out))?;
-    println!("cargo:rustc-env=ALLOCATION_TESTS={}", tests_below(&top.join("crates/iobufs_allocation_tests/src")));
+    println!("cargo:rustc-env=ALLOCATION_TESTS={}", tests_below(&top.join("crates").join(OF_ALLOCATIONS)));
     Ok(())
 }
 

@@ -1,5 +1,5 @@
 //! Chunks of up to 2 MiB, ranges without bytes, and lengths above 2^32. The bytes are those of `model`.
-use iobufs::{Error, Frames, IoBuf, IoBufMut, IoBufs, IoBufsMut, length_size};
+use iobufs::{Error, Frames, IoBuf, IoBufMut, IoBufs, length_size};
 use std::ops::Bound::{Excluded, Included, Unbounded};
 
 const SIZES: [usize; 5] = [64, 4097, 65537, (1 << 20) + 1, 2 << 20];
@@ -57,43 +57,6 @@ fn long_texts() {
         let edge = at.next_multiple_of(n).min(all.len());
         assert_cut(&text, std::iter::once(&all[at..edge]).chain(all[edge..].chunks(n)));
         assert!(text.take_view(at) == all[at..2 * at] && text.coalesce() == all[2 * at..]);
-    }
-}
-
-/// Five thousand buffers with a number each, of which the first are read. Every other one, from the first on, has two
-/// bytes to spare.
-fn numbered(read: u16) -> IoBufsMut {
-    let numbers = (0..5000u16).map(|i| {
-        let mut part = IoBufMut::with_capacity(if i % 2 == 0 { 4 } else { 2 });
-        part.put_u16(i);
-        part
-    });
-    let mut parts: IoBufsMut = numbers.collect();
-    assert!((0..read).all(|i| parts.copy_to_bytes(2)[..] == i.to_be_bytes()));
-    parts
-}
-
-#[test]
-fn buffers_that_are_used_up() {
-    let mut parts = numbered(5000);
-    assert_eq!((parts.len(), parts.capacity()), (0, 5000));
-    parts.put_slice(b"abc");
-    assert_eq!((parts.chunk(), parts.len()), (&b"ab"[..], 3));
-    assert!(parts.freeze().chunks().eq([&b"ab"[..], b"c"]));
-    let left = (2500..5000u16).map(|i| i.to_be_bytes().to_vec());
-    assert!(numbered(2500).freeze().chunks().map(<[u8]>::to_vec).eq(left));
-    assert_eq!(numbered(4999).coalesce(), [0x13, 0x87]);
-}
-
-#[test]
-fn long_parts() {
-    for n in SIZES {
-        let all = model(3 * n);
-        let mut row: IoBufsMut = all.chunks(n).map(IoBufMut::from).collect();
-        row.advance(n + 5);
-        assert_eq!((row.len(), row.capacity()), (2 * n - 5, 3 * n - 5 - n));
-        let text = row.freeze();
-        assert_cut(&text, [&all[n + 5..2 * n], &all[2 * n..]]);
     }
 }
 

@@ -12,7 +12,7 @@ mod kit {
     }
 }
 
-#[allow(dead_code, unused_imports, unused_macros, unused_variables, clippy::all)]
+#[allow(dead_code, unused_imports, unused_macros, unused_variables, unstable_name_collisions, clippy::all)]
 #[forbid(unsafe_code)]
 mod proved {
     include!(concat!(env!("OUT_DIR"), "/proved.rs"));

@@ -9,8 +9,8 @@ use std::any::type_name;
 use std::cell::Cell;
 use std::fmt::Display;
 use std::panic::{AssertUnwindSafe, catch_unwind, resume_unwind};
-use std::ptr;
 use std::sync::atomic::{AtomicU64, Ordering};
+use std::{env, ptr};
 
 /// A global allocator of which a thread may have one allocation fail.
 struct Refusing;
@@ -25,6 +25,8 @@ thread_local! {
     static ALL: Cell<u64> = const { Cell::new(0) };
     /// Whether this run made a call.
     static CALLED: Cell<bool> = const { Cell::new(false) };
+    /// Whether the test has a table of buffers with several chunks.
+    static HAS_CHUNKS: Cell<bool> = const { Cell::new(false) };
 }
 
 fn fails() -> bool {
@@ -62,9 +64,11 @@ unsafe impl GlobalAlloc for Refusing {
 #[global_allocator]
 static ALLOCATOR: Refusing = Refusing;
 
-/// How many bytes or chunks a buffer has at most of which each allocation fails in turn.
+/// How many bytes a buffer of one chunk has at most of which each allocation fails in turn; and how many chunks a buffer
+/// of any length, if `IOBUFS_LARGE` is set.
 const LARGEST: usize = 64;
-/// How many chunks a buffer has at most if the variable `IOBUFS_LARGE` isn't set.
+const FEW: usize = 5;
+/// How many chunks a buffer has at most unless `IOBUFS_LARGE` is set.
 const MANY: usize = 4097;
 /// How many tests `iobufs_allocation_tests` has, of how many that number ended, and how many allocations failed in
 /// these: at least so many in all.
@@ -93,8 +97,8 @@ fn hear(what: &dyn Display) {
 
 /// Hears how a call ended.
 fn hear_end(line: &str, words: &[&str], outcome: &str) {
-    let (was, chunks) = (WAS.replace(false), chunks_of(words));
-    if NUMBER.get() > 0 && !was && is_large(words) || chunks > MANY && std::env::var_os("IOBUFS_LARGE").is_none() {
+    let (was, chunks) = (WAS.replace(false), number(words, 2));
+    if NUMBER.get() > 0 && !was && is_large(words) || chunks > MANY && !has_large() {
         resume_unwind(Box::new(TooLarge));
     }
     // The layer's `BytesMut::from` of a vector allocates, and the kit's doesn't.
@@ -104,19 +108,20 @@ fn hear_end(line: &str, words: &[&str], outcome: &str) {
     }
 }
 
+/// Whether the variable `IOBUFS_LARGE` is set: then a run takes a minute longer.
+fn has_large() -> bool {
+    env::var_os("IOBUFS_LARGE").is_some()
+}
+
 /// The number of a line of a table: CALL STORAGE CHUNKS LENGTH SHARING ORIGINAL OUTCOME.
 fn number(words: &[&str], n: usize) -> usize {
     if words.len() == 7 { words[n].parse().unwrap_or(0) } else { 0 }
 }
 
-fn chunks_of(words: &[&str]) -> usize {
-    number(words, 2)
-}
-
 /// Whether a line of a table tells of a buffer above the limit.
 fn is_large(words: &[&str]) -> bool {
-    let chunks = chunks_of(words);
-    if chunks == 1 { number(words, 3) > LARGEST } else { chunks > LARGEST }
+    let (chunks, len) = (number(words, 2), number(words, 3));
+    if HAS_CHUNKS.get() && has_large() { chunks > FEW } else { chunks > 1 || len > LARGEST }
 }
 
 /// Runs a test with one allocation of each call failing, or none. Returns how many failed.
@@ -138,6 +143,7 @@ fn run_with(number: u64, case: impl Fn()) -> u64 {
 pub fn run<T: Ended, F: Fn(HostRuntime) -> T>(case: F) {
     listen(hear);
     let (name, case) = (type_name::<F>(), || case(HostRuntime).assert_passed());
+    HAS_CHUNKS.set(["::texts::case", "::rows::case"].iter().any(|it| name.ends_with(it)));
     run_with(0, case);
     // These compare what is held, and buffers of drawn sizes.
     if CALLED.get() && !name.contains("::held::") && !name.contains("::drawn::") {

@@ -20,6 +20,33 @@ pub trait Buf {
 
     /// Drops the first `cnt` bytes, which are there.
     fn advance(&mut self, cnt: usize);
+
+    /// Returns what reads from this.
+    #[cfg(test)]
+    fn reader(self) -> Reader<Self>
+    where
+        Self: Sized,
+    {
+        Reader(self)
+    }
+}
+
+/// What reads from a `Buf`.
+#[cfg(test)]
+pub struct Reader<B>(B);
+
+#[cfg(test)]
+impl<B: Buf> io::Read for Reader<B> {
+    fn read(&mut self, to: &mut [u8]) -> io::Result<usize> {
+        let mut n = 0;
+        while n < to.len() && self.0.remaining() > 0 {
+            let more = self.0.chunk().len().min(to.len() - n);
+            to[n..n + more].copy_from_slice(&self.0.chunk()[..more]);
+            self.0.advance(more);
+            n += more;
+        }
+        Ok(n)
+    }
 }
 
 /// What bytes are appended to.
@@ -259,5 +286,28 @@ impl BytesMut {
         }
         self.len += n;
         Ok(n)
+    }
+}
+
+/// Calls of tests alone.
+#[cfg(test)]
+impl BytesMut {
+    /// Returns a copy of these bytes, without space.
+    pub fn copy_from_slice(_: Global, src: &[u8]) -> Result<BytesMut, AllocError> {
+        Ok(BytesMut::of(src.into()))
+    }
+
+    /// Appends bytes.
+    pub fn extend_from_slice(&mut self, src: &[u8]) -> Result<(), AllocError> {
+        self.reserve(src.len())?;
+        self.extend_reserved(src);
+        Ok(())
+    }
+
+    /// Moves the bytes from `at` on, and the space, which are there, into another buffer.
+    pub fn split_off(&mut self, at: usize) -> Result<BytesMut, AllocError> {
+        let back = BytesMut { block: self.block.split_off(at), len: self.len.saturating_sub(at) };
+        self.len = self.len.min(at);
+        Ok(back)
     }
 }

@@ -1,18 +1,20 @@
-//! The layer of calls over the crate `bytes`, by the tests of the one that the program and the C library have.
+//! The layer of calls over the crate `bytes`, by the tests of the one that the program and the C library have, and by
+//! those of the proved sources.
+#![cfg(test)]
 #![allow(dead_code, clippy::new_without_default)]
 extern crate self as kit;
 
-#[path = "../layer/arc.rs"]
+#[path = "../../iobufs/layer/arc.rs"]
 mod arc;
-#[path = "../layer/base.rs"]
+#[path = "../../iobufs/layer/base.rs"]
 mod base;
-#[path = "../src/kit/bytes.rs"]
+#[path = "../../iobufs/src/kit/bytes.rs"]
 pub mod bytes;
 #[path = "../../kit/tests/bytes.rs"]
 mod bytes_tests;
 #[path = "../../kit/tests/collections.rs"]
 mod collections_tests;
-#[path = "../layer/deque.rs"]
+#[path = "../../iobufs/layer/deque.rs"]
 mod deque;
 #[path = "../../kit/src/fs.rs"]
 pub mod fs;
@@ -20,13 +22,13 @@ pub mod fs;
 pub mod hex;
 #[path = "../../kit/src/host.rs"]
 mod host;
-#[path = "../layer/io.rs"]
+#[path = "../../iobufs/layer/io.rs"]
 pub mod io;
 #[path = "../../kit/src/map.rs"]
 mod map;
 #[path = "../../kit/src/memchr.rs"]
 pub mod memchr;
-#[path = "../layer/names.rs"]
+#[path = "../../iobufs/layer/names.rs"]
 mod names;
 #[path = "../../kit/src/program.rs"]
 mod program;
@@ -34,7 +36,13 @@ mod program;
 pub mod test;
 #[path = "../../kit/src/text.rs"]
 pub mod text;
-#[path = "../layer/vec.rs"]
+#[path = "../../iobufs/layer/vec.rs"]
 mod vec;
 
 pub use program::{prelude, std};
+
+#[allow(unused_imports, unused_macros, unused_variables, unstable_name_collisions, clippy::all)]
+#[forbid(unsafe_code)]
+mod proved {
+    include!(concat!(env!("OUT_DIR"), "/proved.rs"));
+}
