@@ -24,7 +24,7 @@ RULES = [
 ]
 # Words that a sentence may have, and words of README, without what is generated.
 LONGEST, MOST = 40, {"README.md": 1100}
-SCRIPTS = "bindings costs docs program refuse rust trusted try_mutants *.py pages/*.py ../bench/compare"
+SCRIPTS = "bindings costs docs program refuse rust same trusted try_faults try_mutants *.py pages/*.py ../bench/compare"
 # How many columns a line may have, and how many have more.
 LONG = {
     "crates/*/src/**/*.rt": (120, 1),

@@ -152,9 +152,9 @@ fn refused_chunks_are_left(rt: HostRuntime) -> Result<(), Fail> {
 }
 
 // A frame of four bytes in two chunks, of which one write fails, and none is interrupted: whether a vectored write goes
-// on to the second chunk, as Rattle's does and Rust's doesn't, the number of the write that fails, how many bytes a write
-// takes at most, whether `send` fails, and what is written and left then. An error after bytes of the same vectored
-// write is dropped.
+// on to the second chunk, as Rattle's does and Rust's doesn't, the number of the write that fails, how many bytes a
+// write takes at most, whether `send` fails, and what is written and left then. An error after bytes of the same
+// vectored write is dropped.
 type FailedOnce = (bool, usize, usize, bool, &'static [u8], usize);
 
 const FAILED_ONCE: [FailedOnce; 8] = rows! {
