@@ -34,6 +34,7 @@ use crate::proved::iobufs_core::{buf as inner, codec as core};
 use crate::proved::iobufs_values::{self as values, List, Signed};
 use crate::{Builder, Error, IoBuf, IoBufMut, IoBufs, IoBufsMut};
 use bytes::{Buf, BufMut, Bytes, BytesMut};
+use std::cell::Cell;
 use std::ops::RangeBounds;
 
 pub use core::RangeCfg;
@@ -223,13 +224,21 @@ impl<T: values::Look> Decode for T {
     }
 }
 
+thread_local! {
+    /// Why a type refused its parts: a `Fault` has no text, since the prover doesn't follow its lifetime.
+    static REFUSED: Cell<(&'static str, &'static str)> = const { Cell::new(("", "")) };
+}
+
 impl From<values::Fault> for Error {
     fn from(error: values::Fault) -> Self {
         match error {
             values::Fault::Codec(error) => fault(error),
             values::Fault::InvalidBool => Error::InvalidBool,
             values::Fault::InvalidEnum(tag) => Error::InvalidEnum(tag),
-            values::Fault::Invalid(name, reason) => Error::Invalid(name, reason),
+            values::Fault::Invalid => {
+                let (name, reason) = REFUSED.get();
+                Error::Invalid(name, reason)
+            }
             values::Fault::ExtraData(n) => Error::ExtraData(n),
         }
     }
@@ -243,7 +252,10 @@ impl From<Error> for values::Fault {
             Error::InvalidLength(n) => values::Fault::Codec(core::Error::InvalidLength(n)),
             Error::InvalidBool => values::Fault::InvalidBool,
             Error::InvalidEnum(tag) => values::Fault::InvalidEnum(tag),
-            Error::Invalid(name, reason) => values::Fault::Invalid(name, reason),
+            Error::Invalid(name, reason) => {
+                REFUSED.set((name, reason));
+                values::Fault::Invalid
+            }
             Error::ExtraData(n) => values::Fault::ExtraData(n),
         }
     }
