@@ -10,6 +10,6 @@ returns c =
     let behind = drop (length chunk) body in
     let whole : chunk ++ behind ≡ body = ap (λ w. w ++ behind) c.chunk.ensures.front.front ∙ take-append-drop (length chunk) body in (
       behind,
-      sym (ap (λ (u : UnsentBytes). u.bytes) c.self.view_is) ∙ ap (λ w. w ++ body) (sym c.as_slice.ensures) ∙ ap (λ w. head ++ w) (sym whole)
-      ∙ sym (append_assoc head chunk behind),
+      sym (ap (λ (u : UnsentBytes). u.bytes) c.self.view_is) ∙ ap (λ w. w ++ body) (sym c.as_slice.ensures)
+          ∙ ap (λ w. head ++ w) (sym whole) ∙ sym (append_assoc head chunk behind),
     )
