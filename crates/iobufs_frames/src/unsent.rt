@@ -60,6 +60,13 @@ impl Unsent {
         self.body.is_single()
     }
 
+    // The bytes of the length, and the first chunk of the body.
+    pub(crate) fn first_two(&self) -> (&[u8], &[u8])
+        ensures { IsFront (result.0.now ++ result.1.now) self.now.bytes }
+    {
+        (self.head.as_slice(), codec::Buf::chunk(&self.body))
+    }
+
     // Fills `dst` with the first chunks that hold bytes, and returns their number.
     pub(crate) fn fill_slices<'a>(&'a self, dst: &mut [IoSlice<'a>]) -> usize
         ensures room { length dst.new ≡ length dst.old }

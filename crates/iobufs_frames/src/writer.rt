@@ -1,10 +1,11 @@
 //! Frames as lists of chunks, for writes of any size.
-ghost use Rattle.std.specs.Prelude.{◌≡◌, ◌≢◌, ◌≤◌, [], ◌∷◌, length, drop, take, IfErr};
+ghost use Rattle.std.specs.Prelude.{◌≡◌, ◌≢◌, ◌≤◌, [], ◌∷◌, ◌++◌, length, drop, take, IfErr, OnErr, OnOk};
 ghost use Rattle.std.specs.Io.{WritesAtMost};
 ghost use Rattle.std.specs.Io.KnownBytes.{WriteAppends};
 ghost use Rattle.std.specs.Io.Slices.{io_slices_bytes};
 ghost use Rattle.std.specs.IoError.{error_kind};
 ghost use Rattle.std.specs.declared.io.ErrorKind.TheVariants.{Interrupted};
+ghost use Rattle.iobufs_core.specs.declared.codec.base.BufError.TheVariants.{Memory};
 ghost use Rattle.iobufs_frames.specs.Streams.{BeginsWriting, PutsFrame, SendsRest, unsent_bytes, unsent_count, unsent_frames};
 ghost use Rattle.iobufs_frames.specs.Unsent.{ArePassed, IsFront, frames_bytes};
 ghost use Rattle.iobufs_frames.specs.declared.lengths.Prefix.TheVariants.{Spelled};
@@ -76,6 +77,17 @@ impl<W: Drop> FrameWriter<W> {
             self.rest = frame;
             return Ok(());
         }
+        self.push(frame)
+    }
+
+    // Adds a frame after the others.
+    #[inline(never)]
+    fn push(&mut self, frame: Unsent) -> Result<(), Refused<IoBufs>>
+        ensures ok { OnOk result (self.new.more.items ≡ self.old.more.items ++ frame ∷ []) }
+        ensures unchanged { OnErr result (self.new.more.items ≡ self.old.more.items) }
+        ensures err { IfErr result (λ refused. refused ≡ record { cause = Memory; value = frame.body }) }
+        ensures same { self.new ≡ record self.old { more = self.new.more } }
+    {
         match self.more.push_back(frame) {
             Ok(()) => Ok(()),
             Err(failed) => Err(Refused {
@@ -96,7 +108,24 @@ impl<W: Drop> FrameWriter<W> {
     }
 
     // Drops the first `n` unsent bytes, and frames of which none are left.
+    #[inline(always)]
     fn drop_sent(&mut self, n: usize)
+        requires { n ≤ length (unsent_bytes self.old) }
+        ensures bytes { unsent_bytes self.new ≡ drop n (unsent_bytes self.old) }
+        ensures passed { ArePassed (unsent_frames self.old) self.new.rest self.new.more.items }
+        ensures settled { self.new.rest.bytes ≡ [] → self.new.more.items ≡ [] }
+        ensures same { self.new ≡ record self.old { rest = self.new.rest; more = self.new.more } }
+    {
+        if self.more.is_empty() {
+            self.rest.advance(n);
+            return;
+        }
+        self.drop_frames(n);
+    }
+
+    // Acts as `drop_sent` if frames wait.
+    #[inline(never)]
+    fn drop_frames(&mut self, n: usize)
         requires { n ≤ length (unsent_bytes self.old) }
         ensures bytes { unsent_bytes self.new ≡ drop n (unsent_bytes self.old) }
         ensures passed { ArePassed (unsent_frames self.old) self.new.rest self.new.more.items }
@@ -131,23 +160,18 @@ fn fill_slices<'a>(rest: &'a Unsent, more: &'a VecDeque<Unsent>, dst: &mut [IoSl
     count
 }
 
-// Writes the first chunks of these frames once, at most two: a short list costs less to make.
-fn write_two<'a, W: Write>(
-    to: &mut W,
-    rest: &'a Unsent,
-    more: &'a VecDeque<Unsent>,
-) -> io::Result<usize>
-    ensures bound { WritesAtMost result (frames_bytes (rest.now ∷ more.now.items)) }
-    ensures bytes { WriteAppends (W.contents to.old) (W.contents to.new) result
-        (frames_bytes (rest.now ∷ more.now.items)) }
+// Writes the length and the first chunk of a frame once: a short list costs less to make.
+fn write_two<W: Write>(to: &mut W, rest: &Unsent) -> io::Result<usize>
+    ensures bound { WritesAtMost result rest.now.bytes }
+    ensures bytes { WriteAppends (W.contents to.old) (W.contents to.new) result rest.now.bytes }
     ensures retried { IfErr result (λ error. error_kind error ≢ Interrupted) }
 {
-    let mut slices: [IoSlice<'a>; 2] = [IoSlice::new(&[]); 2];
-    let count = fill_slices(rest, more, &mut slices);
-    write_chunks_again(to, &slices[..count])
+    let (head, chunk) = rest.first_two();
+    write_chunks_again(to, &[IoSlice::new(head), IoSlice::new(chunk)])
 }
 
 // Writes the first chunks of these frames once, at most `BATCH`.
+#[inline(never)]
 fn write_batch<'a, W: Write>(
     to: &mut W,
     rest: &'a Unsent,
@@ -174,7 +198,9 @@ impl<W: Write + Drop> FrameWriter<W> {
             return Ok(());
         }
         self.is_flushed = false;
-        self.drop_sent(0);
+        if self.rest.is_empty() {
+            self.drop_sent(0);
+        }
         while !self.rest.is_empty() {
             let n = self.write_front()?;
             if n == 0 {
@@ -193,7 +219,7 @@ impl<W: Write + Drop> FrameWriter<W> {
         ensures same { self.new ≡ record self.old { to = self.new.to } }
     {
         if self.more.is_empty() && self.rest.is_single() {
-            write_two(&mut self.to, &self.rest, &self.more)
+            write_two(&mut self.to, &self.rest)
         } else {
             write_batch(&mut self.to, &self.rest, &self.more)
         }

@@ -36,6 +36,7 @@ pub fn write_again<W: Write>(to: &mut W, bytes: &[u8]) -> io::Result<usize>
 /// `write_again` does. Rattle's `write_vectored` calls `write` for each chunk: an error after bytes of the same call is
 /// dropped, and the next write returns it if it lasts.
 #[tactic(auto, using(crate::proofs::CallerFacts::again))]
+#[inline(always)]
 pub fn write_chunks_again<W: Write>(to: &mut W, chunks: &[IoSlice<'_>]) -> io::Result<usize>
     ensures bound { WritesAtMost result (io_slices_bytes chunks.now) }
     ensures bytes { WriteAppends (W.contents to.old) (W.contents to.new) result (io_slices_bytes chunks.now) }

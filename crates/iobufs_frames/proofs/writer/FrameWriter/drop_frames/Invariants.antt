@@ -1,7 +1,7 @@
 use Rattle.std.proofs.Common.{◌≡◌, ◌≤◌, length, drop}
 use Rattle.iobufs_frames.specs.Streams.{unsent_bytes, unsent_frames}
 use Rattle.iobufs_frames.specs.Unsent.{ArePassed}
-use Rattle.iobufs_frames.proofs.writer.FrameWriter.drop_sent.Given as goal
+use Rattle.iobufs_frames.proofs.writer.FrameWriter.drop_frames.Given as goal
 
 -- the frames before `rest` are dropped, and `left` bytes more go
 abbrev pub invariant-loop-left : goal.invariant-loop-left
