@@ -1,11 +1,11 @@
--- What a session promises, whatever lines mean.
+-- How a session may change what it serves, whatever its lines mean, and its statuses.
 --     stop_status     the status of a session that ends early
 --     IsStatus        0, 2 or 3
 --     TakesOne        a line does one command on named buffers, or nothing
 --     IsNew           a machine in which nothing has happened, as promised
 --     MachineTakes    a line makes a machine, takes one step of it, or does nothing
---     TakesLines      what this many lines make of a service
---     IsServed        what a session makes of it
+--     TakesLines      this many lines change a service so
+--     IsServed        a session changes it so
 use Rattle.std.specs.Prelude.{◌≡◌, ◌⊎◌, ℕ, zero, suc, List, [], ◌∷◌, Option, Some, None, ⊤}
 use Rattle.iobufs_run.specs.Run.{Step}
 use Rattle.iobufs_run.specs.declared.command.Cmd.{Cmd}
@@ -45,11 +45,11 @@ MachineTakes (Some old) None = ⊥
 MachineTakes (Some old) (Some new) = (new ≡ old) ⊎ ((step : MachineStep) × (reply : StepReply)
     × GrowingRuns old (step ∷ []) (reply ∷ []) new × Promises new.state)
 
--- what this many lines make of a service, if `takes` says what one may make of it
+-- this many lines change a service so, if `takes` says how one may change it
 abbrev pub TakesLines : {S : Type 0} → (S → S → Type 0) → ℕ → (old new : S) → Type 0
 TakesLines takes zero old new = new ≡ old
 TakesLines {S} takes (suc n) old new = (mid : S) × TakesLines takes n old mid × takes mid new
 
--- what a session makes of a service: some lines, one after another
+-- a session changes a service so: by some number of lines
 abbrev pub IsServed : {S : Type 0} → (S → S → Type 0) → (old new : S) → Type 0
 IsServed takes old new = (n : ℕ) × TakesLines takes n old new

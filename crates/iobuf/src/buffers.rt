@@ -38,7 +38,7 @@ impl Service for Buffers {
     // It does one command, or nothing.
     ghost Takes = { λ old new. TakesOne old.table new.table };
 
-    // What is shown is printed from where it is, without a copy.
+    // A shown buffer is printed where it is, without a copy.
     fn answer<W: Write>(&mut self, line: &[u8], output: &mut W) -> Result<(), LineError> {
         match command(self.alloc, &mut Words::of(line))? {
             Cmd::Show { target } => match self.table.shown(target) {
@@ -99,7 +99,7 @@ fn command(alloc: Global, words: &mut Words<'_>) -> Result<Cmd, LineError> {
     Ok(cmd)
 }
 
-// A command of a number. In its place, the `?`s of the literals would be locals that each line zeroes.
+// A command of a number. It is a function, since every line zeroes a local for each `?` of a struct literal.
 fn one<T, F: FnOnce(usize) -> T>(words: &mut Words<'_>, make: F) -> Result<T, LineError>
     requires { F.IsAlwaysCallable make }
 {
@@ -145,7 +145,7 @@ fn with_numbers<T, F: FnOnce(usize, Vec<usize>) -> T>(
     Ok(make(words.number()?, numbers(alloc, words)?))
 }
 
-// A view of the letters from one place to another.
+// A view of a range of the letters.
 fn letters(words: &mut Words<'_>) -> Result<Cmd, LineError> {
     let (dst, lo, hi) = (words.number()?, words.number()?, words.number()?);
     match LETTERS.get(lo..hi) {
@@ -190,7 +190,7 @@ fn decode(words: &mut Words<'_>) -> Result<Cmd, LineError> {
     Ok(Cmd::Decode { src, dst, range })
 }
 
-// A place that is included, `i3`, one that is excluded, `e3`, or none, `u`.
+// A bound: `i3` is included, `e3` is excluded, `u` is none.
 fn bound(word: &[u8]) -> Result<Bound<usize>, LineError> {
     match word {
         b"u" => Ok(Bound::Unbounded),
@@ -252,7 +252,7 @@ fn write_refusal<W: Write>(refusal: Refusal, output: &mut W) -> io::Result<()> {
     writeln!(output, "refused {refusal}")
 }
 
-// Writes the line that shows what a name holds.
+// Writes the line that shows a name.
 fn write_slot<W: Write>(slot: &Slot, output: &mut W) -> io::Result<()> {
     match slot {
         Slot::Free => {}
@@ -284,7 +284,7 @@ fn write_slot<W: Write>(slot: &Slot, output: &mut W) -> io::Result<()> {
     output.write_all(b"\n")
 }
 
-// The first word of what is shown.
+// The first word of a shown buffer.
 fn name(kind: Kind) -> &'static [u8] {
     match kind {
         Kind::Part => b"part",

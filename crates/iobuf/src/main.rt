@@ -3,6 +3,7 @@
 //! - `session`: answers each line of an input.
 //! - `buffers`, `owner`: the lines of each half, and their replies.
 //! - `words`: the words of a line, and the numbers and bytes that they say.
+//! - `specs/`: `Session` says how lines may change what is served, and which statuses there are.
 #![tactic(auto)]
 
 ghost use Rattle.std.specs.Prelude.{◌≡◌, ◌≢◌, [], ◌∷◌, codes, map};
@@ -24,7 +25,7 @@ use std::process::ExitCode;
 // How many bytes of replies are written at once.
 const AT_ONCE: usize = 1 << 16;
 
-/// Runs the program on the words after its name, and returns its status. A fault in writing to `errors` changes
+/// Runs the program on the words after its name, and returns its status. An error in writing to `errors` changes
 /// nothing.
 pub fn serve<R: Read + Drop, W: Write, E: Write>(
     alloc: Global,
@@ -53,7 +54,7 @@ pub fn serve<R: Read + Drop, W: Write, E: Write>(
     }
 }
 
-// Tells why a session ends before the end of its input, and gives the status.
+// Writes why a session ended early, and returns the status.
 fn stopped<E: Write>(stop: Stop, errors: &mut E) -> u8
     ensures { result ≡ stop_status stop }
 {

@@ -42,7 +42,7 @@ impl Service for Owner {
         };
         match asked(&mut words)? {
             Ask::Step(step) => {
-                // If it fails, the step says whether it wants the room.
+                // If this fails, a step that needs an entry is refused with `Room`.
                 let _ = machine.reserve(1, 1, 1);
                 writeln!(output, "{}", ReplyText(machine.step(step)))?;
             }
@@ -82,7 +82,7 @@ fn new_machine(alloc: Global, words: &mut Words<'_>) -> Result<Machine, LineErro
     Ok(Machine::new(alloc, threads, ceiling as u64, format)?)
 }
 
-// What a further line asks for: a step, or the answer to a question.
+// The request of a further line: a step or a question.
 #[derive(Clone, Copy, Drop)]
 enum Ask {
     Step(Step),
@@ -91,7 +91,7 @@ enum Ask {
     Freed,
 }
 
-// What a further line asks for.
+// Reads the request of a further line.
 fn asked(words: &mut Words<'_>) -> Result<Ask, LineError> {
     let ask = match words.word()? {
         b"handle" => Ask::Handle(words.number()?),
@@ -152,7 +152,7 @@ fn size(words: &mut Words<'_>) -> Result<u64, LineError> {
 #[derive(Clone, Copy)]
 struct ReplyText(Reply);
 
-// The handle of some number, as it is printed: it may never have been given, or be gone.
+// A handle by its number, as it is printed: it may be gone, or was never made.
 #[derive(Clone, Copy)]
 struct HandleText(Option<Option<Handle>>);
 

@@ -36,10 +36,10 @@ impl fmt::Display for Stop {
 
 /// Answers lines.
 pub trait Service {
-    // What a line may make of it.
+    // How a line may change it.
     ghost Takes: { Self → Self → Type 0 };
 
-    /// Answers a line, which has no end, by a line.
+    /// Answers a line, given without its end, by a line.
     fn answer<W: Write>(&mut self, line: &[u8], output: &mut W) -> Result<(), LineError>
         ensures { Takes self.old self.new };
 }

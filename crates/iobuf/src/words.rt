@@ -80,7 +80,7 @@ impl<'a> Words<'a> {
         bytes(alloc, self.word()?)
     }
 
-    /// No word is left.
+    /// Fails if a word is left.
     pub fn end(&self) -> Result<(), LineError> {
         match self.rest {
             None => Ok(()),
@@ -89,7 +89,7 @@ impl<'a> Words<'a> {
     }
 }
 
-/// Decimal digits, up to the largest number.
+/// Reads decimal digits, up to `usize::MAX`.
 pub fn number(word: &[u8]) -> Result<usize, LineError> {
     if word.is_empty() {
         return Err(LineError::BadCommand);
@@ -109,7 +109,7 @@ fn with_digit(n: usize, digit: u8) -> Option<usize> {
     n.checked_mul(10)?.checked_add((digit - b'0') as usize)
 }
 
-/// An even number of hexadecimal digits, at least two, or a dash for no bytes.
+/// Reads pairs of hexadecimal digits, at least one, or a dash for no bytes.
 pub fn bytes(alloc: Global, word: &[u8]) -> Result<Vec<u8>, LineError> {
     match word {
         b"" => Err(LineError::BadCommand),

@@ -1,6 +1,5 @@
 pub mod Causes
 pub mod Choices
-pub mod Printed
 pub mod Refusals
 pub mod Run
 pub mod Slots

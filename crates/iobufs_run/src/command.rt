@@ -1,9 +1,7 @@
 // The commands, and what is answered to them.
-ghost use Rattle.std.specs.Fmt.{WritesOnOk};
-ghost use Rattle.iobufs_run.specs.Printed.{fault_text, refusal_text};
 ghost use Rattle.iobufs_run.specs.Refusals.{refusal_of, codec_refusal};
 ghost use Rattle.iobufs_run.specs.declared.command.Refusal.TheVariants.{Memory};
-ghost use Rattle.std.specs.Prelude.{Some, ◌≡◌};
+ghost use Rattle.std.specs.Prelude.{◌≡◌};
 
 use bytes::Bytes;
 use iobufs_core::codec::{BufError, Error, RangeCfg, Refused};
@@ -233,8 +231,6 @@ pub enum Refusal {
 pub(crate) type Outcome = Result<Reply, Refusal>;
 
 impl fmt::Display for Refusal {
-    ghost output = { λ refusal. Some (refusal_text refusal) };
-
     fn fmt<W: fmt::Write>(&self, f: &mut fmt::Formatter<W>) -> fmt::Result {
         match self {
             Refusal::NoName => f.write_str("N1 NoName"),
@@ -251,9 +247,7 @@ impl fmt::Display for Refusal {
 }
 
 // A fault of reading, after the number of its kind.
-fn write_codec<W: fmt::Write>(error: Error, f: &mut fmt::Formatter<W>) -> fmt::Result
-    ensures { WritesOnOk W.write_str_gives f.old result (fault_text error) f.new }
-{
+fn write_codec<W: fmt::Write>(error: Error, f: &mut fmt::Formatter<W>) -> fmt::Result {
     match error {
         Error::EndOfBuffer => f.write_str("N8 C1 EndOfBuffer"),
         Error::InvalidVarint => f.write_str("N8 C2 InvalidVarint"),

@@ -6,8 +6,8 @@
 //!   on (`parts`, `made`, `views`, `texts`, `gather`, `build`, `shown`, `slots`); `causes` has the tests that several
 //!   commands share.
 //! - `laws`: what a run leaves open, and what a refused command changes.
-//! - `specs/`: `Slots` and `Causes` (what names hold, and why a command is refused), `Refusals` and `Printed` (how a
-//!   refusal is reported), `Run` and `RunLaws` (`Step`, `Run`), `Choices`.
+//! - `specs/`: `Slots` and `Causes` (what names hold, and why a command is refused), `Refusals` (the refusal for an
+//!   error), `Run` (`Step`, `Run`), `Choices`.
 #![tactic(auto)]
 
 pub mod command;

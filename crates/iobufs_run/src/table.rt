@@ -1,5 +1,5 @@
 // Named buffers, and the commands on them.
-ghost use Rattle.std.specs.Prelude.{◌≡◌, ◌≢◌, true, length, replicate, IfErr, IfOk, IsOk, IsOkUnless, None, OnErr};
+ghost use Rattle.std.specs.Prelude.{◌≡◌, true, length, replicate, IfErr, IfOk, IsOk, IsOkUnless, None, OnErr};
 ghost use Rattle.iobufs_run.specs.Causes.{refusal_for};
 ghost use Rattle.iobufs_run.specs.Run.{Run, Step, reply_of};
 ghost use Rattle.iobufs_run.specs.Slots.{AreSlots, IsSlot, kind_of, slot_named};
@@ -174,7 +174,6 @@ impl Table {
     pub fn shown(&self, target: usize) -> Result<&Slot, Refusal>
         ensures ok { IfOk result (λ slot. (refusal_for self.now (Cmd.Show target) ≡ None)
             × (slot.now ≡ slot_named self.now target)) }
-        ensures held { IfOk result (λ slot. slot.now ≢ Slot.Free) }
         ensures err { IfErr result (λ refusal. Step self.now (Cmd.Show target) (Reply.Refused refusal) self.now) }
     {
         let slots = self.slots.as_slice();

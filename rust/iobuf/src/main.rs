@@ -16,3 +16,16 @@ mod proved {
 fn main() -> ExitCode {
     proved::iobuf::main(HostRuntime)
 }
+
+/// Refusals that no session meets, since lengths stay below 2^64.
+#[test]
+fn rare_refusals_are_printed() {
+    use proved::{iobufs_core::codec::Error, iobufs_run::command::Refusal};
+    let rows = [
+        (Refusal::TooLong, "N6 TooLong"),
+        (Refusal::Codec(Error::Memory), "N8 C4 Memory"),
+        (Refusal::Codec(Error::TooLong), "N8 C5 TooLong"),
+        (Refusal::Codec(Error::BadLayout), "N8 C6 BadLayout"),
+    ];
+    rows.into_iter().for_each(|(refusal, text)| assert_eq!(refusal.to_string(), text));
+}

@@ -1,13 +1,12 @@
 //! The collections, strings, digits, readers and writers of the layer against std's, by random calls.
 use kit::bytes::Bytes;
-use kit::prelude::{Clone as _, String as KitString, Vec as KitVec};
+use kit::prelude::{Clone as _, Vec as KitVec};
 use kit::std::alloc::Global;
 use kit::std::collections::VecDeque as KitDeque;
 use kit::std::io::{self, BufRead as _, BufReader, BufWriter, ErrorKind, Read as _, Write as _};
 use kit::std::sync::Arc;
 use kit::{hex, memchr};
 use std::collections::VecDeque;
-use std::fmt::Write as _;
 use std::{str, thread};
 
 fn random(seed: &mut u64, n: usize) -> usize {
@@ -143,20 +142,6 @@ fn shared_values() {
         drop(shared);
         assert_eq!(dropped.recv().unwrap(), i + 100);
     }
-}
-
-#[test]
-fn strings() {
-    let mut text = KitString::new(Global);
-    let mut model = String::new();
-    for i in 0..1000 {
-        text.push_str("ü").unwrap();
-        write!(text, "{i}").unwrap();
-        model += &format!("ü{i}");
-        assert_eq!((text.as_str(), text.as_bytes()), (&model[..], model.as_bytes()));
-    }
-    text.clear();
-    assert_eq!(text.as_str(), "");
 }
 
 #[test]

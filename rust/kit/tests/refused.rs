@@ -1,7 +1,7 @@
 //! Each allocation of each call refused: the call returns an error, and nothing changes.
 use kit::bytes::{Bytes, BytesMut};
 use kit::hex;
-use kit::prelude::{Clone as _, String as KitString, Vec as KitVec};
+use kit::prelude::{Clone as _, Vec as KitVec};
 use kit::std::alloc::Global;
 use kit::std::collections::VecDeque;
 use kit::std::io::{BufRead as _, BufReader, BufWriter, ErrorKind};
@@ -85,7 +85,6 @@ fn vectors() {
     refuse("split_off", 1, bytes, |it| it.split_off(2).is_ok(), is_same);
     refuse("write", 1, bytes, |it| std::io::Write::write(it, b"12").is_ok(), is_same);
     refuse("decode", 1, || (), |()| hex::decode(Global, b"00").is_ok(), |()| true);
-    refuse("push_str", 1, || KitString::new(Global), |it| it.push_str("a").is_ok(), |it| it.as_str() == "");
     let fails_for_memory =
         |it: std::io::Result<usize>| it.map_err(|it| assert_eq!(it.kind(), ErrorKind::OutOfMemory)).is_ok();
     refuse(
