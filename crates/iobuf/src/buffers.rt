@@ -5,7 +5,7 @@ ghost use Rattle.iobuf.specs.Session.{TakesOne};
 use crate::session::Service;
 use crate::words::{LineError, Words, bytes, number};
 use iobufs_core::codec::{BufError, BufMut, RangeCfg};
-use iobufs_run::command::{Cmd, Item, Kind, Refusal, Reply};
+use iobufs_run::command::{Cmd, Item, Refusal, Reply};
 use iobufs_run::table::{Slot, Table};
 use std::alloc::Global;
 use std::io::{self, Write};
@@ -232,18 +232,8 @@ fn write_reply<W: Write>(reply: &Reply, output: &mut W) -> io::Result<()> {
             output.write_all(b"\n")
         }
         Reply::Refused(refusal) => write_refusal(*refusal, output),
-        Reply::Shown { kind, pieces } => {
-            output.write_all(name(*kind))?;
-            for piece in pieces {
-                match kind {
-                    Kind::View | Kind::Text => write_chunk(piece.bytes.as_slice(), output)?,
-                    Kind::Part | Kind::Parts => {
-                        write_part(piece.bytes.as_slice(), piece.spare, output)?
-                    }
-                }
-            }
-            output.write_all(b"\n")
-        }
+        // No reply: `answer` prints a buffer by `write_slot`.
+        Reply::Shown { .. } => Ok(()),
     }
 }
 
@@ -282,16 +272,6 @@ fn write_slot<W: Write>(slot: &Slot, output: &mut W) -> io::Result<()> {
         }
     }
     output.write_all(b"\n")
-}
-
-// The first word of a shown buffer.
-fn name(kind: Kind) -> &'static [u8] {
-    match kind {
-        Kind::Part => b"part",
-        Kind::View => b"view",
-        Kind::Text => b"text",
-        Kind::Parts => b"parts",
-    }
 }
 
 // Writes a space, the bytes and the spare capacity of a writable buffer.
