@@ -38,7 +38,7 @@ only_memory : (is : Error → Type 0) → ((error : Error) → is error → erro
 only_memory is memory (Codec error) h = ap Codec (memory error h)
 only_memory is memory InvalidBool h = absurd h
 only_memory is memory (InvalidEnum tag) h = absurd h
-only_memory is memory (Invalid name reason) h = absurd h
+only_memory is memory Invalid h = absurd h
 only_memory is memory (ExtraData n) h = absurd h
 
 lifted : (a b : Error) → (a ≡ b) ⊎ ((a ≡ Memory) ⊎ (b ≡ Memory)) → (Codec a ≡ Codec b) ⊎ ((Codec a ≡ no_memory) ⊎ (Codec b ≡ no_memory))
@@ -52,11 +52,11 @@ one_of : (is other : Error → Type 0) → ((a b : Error) → is a → other b �
 one_of is other one (Codec a) (Codec b) p q = lifted a b (one a b p q)
 one_of is other one (Codec a) InvalidBool p q = absurd q
 one_of is other one (Codec a) (InvalidEnum tag) p q = absurd q
-one_of is other one (Codec a) (Invalid name reason) p q = absurd q
+one_of is other one (Codec a) Invalid p q = absurd q
 one_of is other one (Codec a) (ExtraData n) p q = absurd q
 one_of is other one InvalidBool b p q = absurd p
 one_of is other one (InvalidEnum tag) b p q = absurd p
-one_of is other one (Invalid name reason) b p q = absurd p
+one_of is other one Invalid b p q = absurd p
 one_of is other one (ExtraData n) b p q = absurd p
 
 -- ---- nothing

@@ -18,9 +18,10 @@ pub enum Fault {
     /// This byte is of no kind of the value.
     #[error("InvalidEnum")]
     InvalidEnum(u8),
-    /// This type doesn't admit the parts, for this reason (of a layer's types: no value here fails so).
-    #[error("{0}: {1}")]
-    Invalid(&'static str, &'static str),
+    /// The type doesn't admit the parts (of a layer's types: no value here fails so). A reason would be a reference, and
+    /// then the borrow checker covers no call at a tuple of several views.
+    #[error("Invalid")]
+    Invalid,
     /// This number of bytes follows a value that should be all.
     #[error("ExtraData")]
     ExtraData(usize),
