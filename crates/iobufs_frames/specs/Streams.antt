@@ -113,9 +113,9 @@ PutsFrame old body (Ok done) new = CanBeSent old.prefix old.range (length body.b
     × ((IsIdle old → ⊥) → (new.more.items ≡ old.more.items ++ unsent_frame old.prefix body ∷ []) × (new ≡ record old { more = new.more }))
     × (unsent_bytes new ≡ unsent_bytes old ++ frame_written old.prefix body.bytes)
 PutsFrame old body (Err refused) new = (refused.value ≡ body)
+    × (new.more.items ≡ old.more.items) × (new ≡ record old { more = new.more })
     × (((CanBeSent old.prefix old.range (length body.bytes) → ⊥) × (refused.cause ≡ TooLong) × (new ≡ old))
-    ⊎ (CanBeSent old.prefix old.range (length body.bytes) × (refused.cause ≡ Memory) × (IsIdle old → ⊥)
-    × (new.more.items ≡ old.more.items) × (new ≡ record old { more = new.more })))
+    ⊎ (CanBeSent old.prefix old.range (length body.bytes) × (refused.cause ≡ Memory) × (IsIdle old → ⊥)))
 
 -- how a send ends: all went; or some bytes are left after an error that was no interruption
 abbrev pub EndsSend : {W : Type 0} → FrameWriter W → Result (Unit {0}) IoError → Type 0

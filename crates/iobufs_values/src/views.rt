@@ -132,10 +132,7 @@ impl<const N: usize> Look for [u8; N] {
         skip: usize,
         _cfg: &(),
     ) -> Result<([u8; N], usize), Fault> {
-        match bytes_at(buf, skip) {
-            Ok(bytes) => Ok((bytes, N)),
-            Err(fault) => Err(fault),
-        }
+        Ok((bytes_at(buf, skip)?, N))
     }
 
     ghost form = { array_form _ N };

@@ -12,12 +12,7 @@ returns-in_err-five-clause-fault g c =
     (inr (
       c.in_ok-one.one,
       c.in_ok-one.ensures.found,
-      rw (← c.in_ok-one.ensures.len) (inr (
-        c.in_ok-two.two,
-        c.in_ok-two.ensures.found,
-        rw (← c.in_ok-two.ensures.len)
-            (inr (c.in_ok-three.three, c.in_ok-three.ensures.found, search rules)),
-      )),
+      rw (← c.in_ok-one.ensures.len) (inr (c.in_ok-two.two, c.in_ok-two.ensures.found, search rules)),
     ))
 
 pub returns-clause-len : goal.returns-clause-len

@@ -12,12 +12,7 @@ returns-in_err-five-clause-fault g c =
     (inr (
       c.in_ok-one.one,
       c.in_ok-one.ensures.found,
-      rw (← c.in_ok-one.ensures.len) (inr (
-        c.in_ok-two.two,
-        c.in_ok-two.ensures.found,
-        rw (← c.in_ok-two.ensures.len)
-            (inr (c.in_ok-three.three, c.in_ok-three.ensures.found, search rules)),
-      )),
+      rw (← c.in_ok-one.ensures.len) (inr (c.in_ok-two.two, c.in_ok-two.ensures.found, search rules)),
     ))
 
 pub returns-in_err-six-clause-fault : goal.returns-in_err-six-clause-fault
@@ -29,12 +24,8 @@ returns-in_err-six-clause-fault g c =
       rw (← c.in_ok-one.ensures.len) (inr (
         c.in_ok-two.two,
         c.in_ok-two.ensures.found,
-        rw (← c.in_ok-two.ensures.len) (inr (
-          c.in_ok-three.three,
-          c.in_ok-three.ensures.found,
-          rw (← c.in_ok-three.ensures.len)
-              (inr (c.in_ok-four.four, c.in_ok-four.ensures.found, search rules)),
-        )),
+        rw (← c.in_ok-two.ensures.len)
+            (inr (c.in_ok-three.three, c.in_ok-three.ensures.found, search rules)),
       )),
     ))
 
