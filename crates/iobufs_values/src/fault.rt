@@ -18,8 +18,8 @@ pub enum Fault {
     /// This byte is of no kind of the value.
     #[error("InvalidEnum")]
     InvalidEnum(u8),
-    /// The type doesn't admit the parts (of a layer's types: no value here fails so). A reason would be a reference, and
-    /// then the borrow checker covers no call at a tuple of several views.
+    /// The type doesn't admit the parts (of a layer's types: no value here fails so). A reason would be a reference:
+    /// the borrow checker then covers no call at a tuple of several views.
     #[error("Invalid")]
     Invalid,
     /// This number of bytes follows a value that should be all.
