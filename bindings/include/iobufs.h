@@ -34,9 +34,9 @@
  *
  * The comment of a call that returns a status ends with one line or two:
  *   Fails: the statuses other than IOBUFS_OK, each with its cause. A call that has IOBUFS_MEMORY there may allocate,
- *     and returns it if that fails; no other call allocates. "(reserved)": the call doesn't allocate as it is, but a
- *     contract promises that only for no bytes, for those of `iobuf_from_static`, and for a split or a take of all
- *     bytes.
+ *     and returns it if that fails; no other call allocates. "(reserved)": for a later version. The call doesn't
+ *     allocate as it is, and its contract promises that only for no bytes, for those of `iobuf_from_static`, and for
+ *     a split or a take of all bytes.
  *   Keeps: what is unchanged after a failure.
  * The name in brackets is the original's; "own" if it has none.
  */
@@ -44,7 +44,7 @@
 #define IOBUFS_H
 
 /* The version of this header, of the archive and of the Rust crate. It models commonware-runtime 2026.10.0. */
-#define IOBUFS_VERSION "0.1.0"
+#define IOBUFS_VERSION "0.2.0"
 
 #include <stdbool.h>
 #include <stddef.h>
@@ -290,15 +290,15 @@ size_t iobufs_chunks_from(const struct iobufs_at *bufs, size_t first, struct iob
  * Fails: IOBUFS_OUT_OF_RANGE if the offset is at the end, or after it. */
 IOBUFS_CHECKED iobufs_status iobufs_locate(const struct iobufs_at *bufs, size_t at, size_t *index, size_t *offset);
 /* Adds a view at the end, and leaves its handle empty. (append)
- * Fails: IOBUFS_TOO_LONG if the length would pass SIZE_MAX; IOBUFS_MEMORY, at times, for the deque of chunks.
+ * Fails: IOBUFS_TOO_LONG if the length would pass SIZE_MAX; IOBUFS_MEMORY if the list of chunks has to grow.
  * Keeps: both. */
 IOBUFS_CHECKED iobufs_status iobufs_append(struct iobufs_at *bufs, struct iobuf_at *view);
 /* Adds a view at the start, and leaves its handle empty. (prepend)
- * Fails: IOBUFS_TOO_LONG if the length would pass SIZE_MAX; IOBUFS_MEMORY, at times, for the deque of chunks.
+ * Fails: IOBUFS_TOO_LONG if the length would pass SIZE_MAX; IOBUFS_MEMORY if the list of chunks has to grow.
  * Keeps: both. */
 IOBUFS_CHECKED iobufs_status iobufs_prepend(struct iobufs_at *bufs, struct iobuf_at *view);
 /* Takes the first `at` bytes. (IoBufs::split_to)
- * Fails: IOBUFS_OUT_OF_RANGE if there are fewer; IOBUFS_MEMORY, at times. */
+ * Fails: IOBUFS_OUT_OF_RANGE if there are fewer; IOBUFS_MEMORY if the smaller side has several chunks. */
 IOBUFS_CHECKED iobufs_status iobufs_split_to(struct iobufs_at *bufs, size_t at, struct iobufs_at *out);
 /* The bytes from offset lo to hi, in their storage. It costs the chunks of that range alone. (own)
  * Fails: IOBUFS_OUT_OF_RANGE if lo is above hi, or hi above the length; IOBUFS_MEMORY. */
@@ -518,7 +518,7 @@ size_t iobufs_frames_len(const struct iobufs_frames_at *frames);
  * Fails: IOBUFS_MEMORY, for the deque. */
 IOBUFS_CHECKED iobufs_status iobufs_frames_rest(const struct iobufs_frames_at *frames, struct iobufs_at *out);
 /* Adds a view at the end, and leaves its handle empty. (own)
- * Fails: IOBUFS_TOO_LONG if the length would pass SIZE_MAX; IOBUFS_MEMORY, at times.
+ * Fails: IOBUFS_TOO_LONG if the length would pass SIZE_MAX; IOBUFS_MEMORY if the list of chunks has to grow.
  * Keeps: both. */
 IOBUFS_CHECKED iobufs_status iobufs_frames_feed(struct iobufs_frames_at *frames, struct iobuf_at *view);
 /* Takes the first frame, whose length is from lo to hi: shared within a chunk, a copy across chunks. Writes the
@@ -553,7 +553,7 @@ size_t iobufs_received_len(const struct iobufs_received_at *received);
 /* Lends the space for a read: writes its address to `out`, and to `n` how many bytes it has, at least one. They are
  * zeros, or what the block held before. It allocates if there is no space, or if the block was made for one frame
  * above 64 KiB. (own)
- * Fails: IOBUFS_DECLINED if there is no receive block; IOBUFS_MEMORY, at times. */
+ * Fails: IOBUFS_DECLINED if there is no receive block; IOBUFS_MEMORY if it allocates. */
 IOBUFS_CHECKED iobufs_status iobufs_frames_space(struct iobufs_received_at *received, uint8_t **out, size_t *n);
 /* Counts the first n bytes of the space as received, after they were written there; the space is what is after them.
  * (own)
@@ -563,7 +563,8 @@ IOBUFS_CHECKED iobufs_status iobufs_frames_filled(struct iobufs_received_at *rec
 /* Takes the first frame, whose length is from lo to hi, not copied: its body shares the block, and keeps all of it.
  * Writes the length that is outside to `wrong`, as iobufs_frames_next does. (own)
  * Fails: IOBUFS_END_OF_BUFFER if it is not whole yet; IOBUFS_INVALID_VARINT if its length is no varint;
- *   IOBUFS_INVALID_LENGTH if its length is outside; IOBUFS_MEMORY, at times.
+ *   IOBUFS_INVALID_LENGTH if its length is outside; IOBUFS_MEMORY in the kit's build, where a body
+ *   allocates a count.
  * Keeps: both. */
 IOBUFS_CHECKED iobufs_status iobufs_received_next(struct iobufs_received_at *received, size_t lo, size_t hi, struct iobuf_at *out,
     size_t *wrong);

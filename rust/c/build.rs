@@ -7,6 +7,7 @@ fn main() -> Result<(), String> {
     let crates = strip::crates_of("iobufs_c", top)?;
     strip::write_crates(&crates, strip::Also::default(), &top.join("crates"), Path::new(&out))?;
     println!("cargo:rerun-if-changed=src/built.rs");
+    println!("cargo:rustc-cdylib-link-arg=-Wl,-soname,libiobufs.so.0");
     fs::copy("src/built.rs", Path::new(&out).join("iobufs_c/built.rs")).expect("the folder is there");
     Ok(())
 }

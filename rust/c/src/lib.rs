@@ -3,8 +3,9 @@
 //! allocator none: so rustc passes them, as the kit's compiler does, while registers are left. `bindings/c/calls.c`
 //! calls each.
 
-#[cfg(not(target_pointer_width = "64"))]
-compile_error!("the proofs are of 64-bit machines");
+// Slices as two arguments lean on these conventions of calls.
+#[cfg(not(all(target_os = "linux", target_env = "gnu", any(target_arch = "x86_64", target_arch = "aarch64"))))]
+compile_error!("the library is for Linux with glibc, on x86-64 or arm64");
 
 use ::kit;
 
