@@ -109,8 +109,8 @@ impl IoBufsMut {
         dst.iter_mut().zip(self.each_chunk()).map(|(slot, chunk)| *slot = IoSlice::new(chunk)).count()
     }
 
-    /// Takes the first `n` bytes: all of an only buffer without a copy, others as a copy. Panics if there are fewer
-    /// (`Buf`).
+    /// Takes the first `n` bytes. They are shared if they are an only buffer, or the first one and it has no spare
+    /// capacity; else they are copied. Panics if there are fewer (`Buf`).
     #[track_caller]
     pub fn copy_to_bytes(&mut self, n: usize) -> Bytes {
         if let Some(part) = self.as_single_mut() {
