@@ -9,6 +9,9 @@ mod base;
 pub mod bytes;
 #[path = "../layer/deque.rs"]
 mod deque;
+#[allow(unsafe_code)]
+#[path = "../layer/held.rs"]
+pub mod held;
 #[path = "../layer/io.rs"]
 pub mod io;
 #[path = "../layer/names.rs"]

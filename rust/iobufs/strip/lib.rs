@@ -15,6 +15,7 @@
 //! | `crate::`, `iobufs_core::` and the other proved crates | a module of `crate::proved` |
 //! | `std::`, `bytes::`, `hex::`, `memchr::` | the modules of `crate::kit` that have their signatures |
 //! | `fn main` of a program | `pub fn main`, which the binary calls |
+//! | a file of `BY_HAND` | the names of a module of `crate::kit`, which is written by hand |
 //! | a function that takes `impl Abort` | `#[track_caller]`: a failed test names its own line |
 //! | another function with a body | `#[inline]`, since rustc inlines no other function across crates |
 //!
@@ -27,6 +28,9 @@ mod lexer;
 use lexer::Token;
 use std::path::{Path, PathBuf};
 use std::{fs, io};
+
+/// Proved files in whose place a module of `crate::kit` is, which has the same calls.
+pub const BY_HAND: [(&str, &str); 1] = [("iobufs_core/buf/held.rt", "held")];
 
 const IMPORT: &str = "use crate::kit::prelude::*;";
 
@@ -74,6 +78,9 @@ pub fn write_crates<S: AsRef<str>>(crates: &[S], also: Also<'_>, from: &Path, to
             }
             let mut rust = rust_of(&source, name, &crates, also.is_tests)
                 .map_err(|(line, why)| format!("{}:{line}: {why}", file.display()))?;
+            if let Some((_, module)) = BY_HAND.iter().find(|(of, _)| Path::new(name).join(below) == Path::new(of)) {
+                rust = format!("pub(super) use crate::kit::{module}::*;\n");
+            }
             for (_, spare) in also.spares.iter().filter(|(of, _)| Path::new(name).join(below) == Path::new(of)) {
                 rust += &format!("\n#[path = {spare:?}]\nmod spare;\n");
             }

@@ -116,6 +116,11 @@ mod block {
             self.len -= n;
         }
 
+        #[inline]
+        pub(super) fn truncate(&mut self, n: usize) {
+            self.len = self.len.min(n);
+        }
+
         /// Returns the first `n` bytes as one more range.
         #[inline]
         pub(super) fn front(&self, n: usize) -> Result<Block, AllocError> {
@@ -348,6 +353,15 @@ impl Bytes {
         match &mut self.0 {
             Kind::Static(bytes) => *bytes = &bytes[n..],
             Kind::Block(block) => block.advance(n),
+        }
+    }
+
+    /// Drops the bytes after the first `n`.
+    #[inline]
+    pub fn truncate(&mut self, n: usize) {
+        match &mut self.0 {
+            Kind::Static(bytes) => *bytes = &bytes[..n.min(bytes.len())],
+            Kind::Block(block) => block.truncate(n),
         }
     }
 

@@ -3,7 +3,7 @@
 //! words.
 //!
 //! No file names the crate's root, so that another crate can have these files as modules of a module `kit`, with a
-//! `bytes.rs` of its own. `unsafe` stands in `arc`, and in one module of `bytes`.
+//! `bytes.rs` of its own. `unsafe` stands in `arc`, `held`, and in one module of `bytes`.
 #![deny(unsafe_code)]
 
 #[allow(unsafe_code)]
@@ -15,6 +15,9 @@ pub mod bytes;
 #[path = "../../iobufs/layer/deque.rs"]
 mod deque;
 pub mod fs;
+#[allow(unsafe_code)]
+#[path = "../../iobufs/layer/held.rs"]
+pub mod held;
 pub mod hex;
 mod host;
 #[path = "../../iobufs/layer/io.rs"]

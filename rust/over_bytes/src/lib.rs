@@ -18,6 +18,10 @@ mod collections_tests;
 mod deque;
 #[path = "../../kit/src/fs.rs"]
 pub mod fs;
+#[path = "../../iobufs/layer/held.rs"]
+pub mod held;
+#[path = "../../kit/tests/held.rs"]
+mod held_tests;
 #[path = "../../kit/src/hex.rs"]
 pub mod hex;
 #[path = "../../kit/src/host.rs"]

@@ -1,5 +1,7 @@
 //! What is kept, what goes, and what is refused.
-use strip::rust_of;
+use std::fs;
+use std::path::Path;
+use strip::{BY_HAND, rust_of};
 
 const CRATES: [&str; 2] = ["one", "two"];
 const HEAD: &str = "use crate::kit::prelude::*; ";
@@ -199,5 +201,31 @@ fn what_is_refused() {
             Ok(rust) => panic!("{source} is taken: {rust}"),
             Err((at, why)) => assert_eq!(at, line, "{source}: {why}"),
         }
+    }
+}
+
+/// What a file offers: each public function, type and field, in one line without its body.
+fn offered(rust: &str) -> Vec<String> {
+    let lines: Vec<&str> = rust.lines().filter_map(|line| line.split("//").next()).collect();
+    let code = lines.join(" ").replace("pub(super) ", "pub ");
+    let is_item = |it: &str| ["fn ", "struct ", "enum "].iter().any(|word| it.starts_with(word));
+    let until_end = |it: &str| it.split(if is_item(it) { '{' } else { ',' }).next().unwrap_or_default().to_owned();
+    let mut found: Vec<String> = code.split("pub ").skip(1).map(until_end).collect();
+    found.iter_mut().for_each(|it| *it = it.split_whitespace().collect::<Vec<_>>().join(" "));
+    found.sort();
+    found
+}
+
+#[test]
+fn a_file_by_hand_offers_what_the_proved_one_does() {
+    let rust = Path::new(env!("CARGO_MANIFEST_DIR")).join("..");
+    for (of, module) in BY_HAND {
+        let (name, file) = of.split_once('/').unwrap();
+        let source = fs::read_to_string(rust.join("../crates").join(name).join("src").join(file)).unwrap();
+        let by_hand = fs::read_to_string(rust.join(format!("iobufs/layer/{module}.rs"))).unwrap();
+        let proved = offered(&rust_of(&source, name, &[name], false).unwrap());
+        assert_eq!(offered(&by_hand), proved);
+        assert_ne!(offered(&by_hand.replacen(": usize", ": u32", 1)), proved);
+        assert_ne!(offered(&by_hand.replacen("&mut self", "&self", 1)), proved);
     }
 }

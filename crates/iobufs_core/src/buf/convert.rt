@@ -3,8 +3,7 @@ ghost use Rattle.std.specs.Prelude.{◌≡◌, length, IfOk, IsOk, IsOkUnless, M
 ghost use Rattle.iobufs_core.specs.Part.{part_frozen};
 ghost use Rattle.iobufs_core.specs.Recovery.{IsPartOf};
 
-use super::native::Native;
-use super::{IoBuf, IoBufMut};
+use super::{IoBuf, IoBufMut, native};
 use crate::codec::BufError;
 use std::alloc::Global;
 
@@ -37,6 +36,6 @@ impl IoBufMut {
             return Ok(IoBuf::default());
         }
         let alloc = *storage.allocator();
-        Ok(IoBuf::from_native(Native::new(alloc, shell, storage, start, limit)?))
+        Ok(IoBuf::from_native(native::frozen(alloc, shell, storage, start, limit)?))
     }
 }

@@ -11,8 +11,8 @@ ghost use Rattle.std.specs.Cmp.Rules.{comparing};
 ghost use Rattle.std.specs.Fmt.{decimal};
 ghost use Rattle.std.specs.Ordering.{on};
 
-use super::IoBufMut;
-use super::native::Native;
+use super::held::{Held, Native};
+use super::{IoBufMut, native};
 use crate::codec::{Buf, BufError};
 use bytes::{Bytes, BytesMut};
 use std::alloc::{AllocError, Global};
@@ -31,21 +31,14 @@ use std::{fmt, mem};
 ///
 /// A clone of native storage adds one to the count of its owners, and doesn't allocate.
 pub struct IoBuf {
-    storage: Storage,
+    held: Held,
 }
 
 // By hand, so that what is kept privately is none of a caller's business.
 impl Drop for IoBuf {
     fn drop(self) {
-        let IoBuf { storage: _ } = self;
+        let IoBuf { held: _ } = self;
     }
-}
-
-#[derive(Drop)]
-enum Storage {
-    Native(Native),
-    Static(&'static [u8]),
-    Shared(Bytes),
 }
 
 impl Model for IoBuf {
@@ -53,9 +46,7 @@ impl Model for IoBuf {
 
     ghost Value = { View };
 
-    ghost use Rattle.iobufs_core.specs.Storage.{stored_view};
-
-    ghost view = { λ b. stored_view b.storage };
+    ghost view = { λ b. b.held };
 }
 
 impl Default for IoBuf {
@@ -63,7 +54,7 @@ impl Default for IoBuf {
 
     fn default() -> IoBuf {
         IoBuf {
-            storage: Storage::Static(&[]),
+            held: Held::of_static(&[]),
         }
     }
 }
@@ -73,7 +64,7 @@ impl IoBuf {
         ensures { result ≡ record { bytes = native.bytes; mark = native_mark native.room } }
     {
         IoBuf {
-            storage: Storage::Native(native),
+            held: Held::of_native(native),
         }
     }
 
@@ -116,11 +107,7 @@ impl IoBuf {
         ensures value { result ≡ length self.now.bytes }
         ensures room { IsView self.now }
     {
-        match &self.storage {
-            Storage::Static(text) => text.len(),
-            Storage::Shared(bytes) => bytes.len(),
-            Storage::Native(native) => native.len(),
-        }
+        self.held.len()
     }
 
     /// Returns whether there are no bytes (`IoBuf::is_empty`).
@@ -134,15 +121,7 @@ impl IoBuf {
     pub fn as_ref(&self) -> &[u8]
         ensures { result.now ≡ self.now.bytes }
     {
-        // Most views are native: one test costs less than a choice among all kinds.
-        if let Storage::Native(native) = &self.storage {
-            return native.as_slice();
-        }
-        match &self.storage {
-            Storage::Static(text) => text,
-            Storage::Shared(bytes) => bytes.as_slice(),
-            Storage::Native(native) => native.as_slice(),
-        }
+        self.held.as_slice()
     }
 
     /// Drops the first bytes, as a copy of them does.
@@ -187,17 +166,15 @@ impl IoBuf {
         if from == to {
             return Ok(IoBuf::default());
         }
-        match &self.storage {
-            Storage::Native(native) => Ok(IoBuf::from_native(native.slice(from, to)?)),
-            Storage::Static(text) => Ok(IoBuf::from(&text[..to][from..])),
-            Storage::Shared(bytes) => {
-                let mut slice = bytes.slice(..to)?;
-                slice.advance(from);
-                Ok(IoBuf {
-                    storage: Storage::Shared(slice),
-                })
-            }
+        // Most views are native: a share of their own costs less than a choice among all kinds.
+        if self.held.is_static() || self.held.is_shared() {
+            return Ok(IoBuf {
+                held: self.held.share(from, to)?,
+            });
         }
+        Ok(IoBuf {
+            held: self.held.share(from, to)?,
+        })
     }
 
     /// Returns the bytes of a range as `slice` does, if it is within the bytes (own).
@@ -229,11 +206,11 @@ impl IoBuf {
         ensures whole { at ≡ length self.old.bytes → IsOk result }
         ensures static_text { self.old.mark ≡ static_mark → IsOk result }
     {
-        // As in `as_ref`.
-        if let Storage::Native(native) = &mut self.storage {
-            if at != 0 && at < native.len() {
-                return Ok(IoBuf::from_native(native.split_to(at)?));
-            }
+        // Tested first, most splits test the kind of storage once.
+        if at != 0 && at < self.len() {
+            return Ok(IoBuf {
+                held: self.held.split_to(at)?,
+            });
         }
         if at == 0 {
             return Ok(IoBuf::default());
@@ -241,16 +218,9 @@ impl IoBuf {
         if at == self.len() {
             return Ok(mem::take(self));
         }
-        let storage = match &mut self.storage {
-            Storage::Native(native) => Storage::Native(native.split_to(at)?),
-            Storage::Static(text) => {
-                let (front, rest) = text.split_at(at);
-                *text = rest;
-                Storage::Static(front)
-            }
-            Storage::Shared(bytes) => Storage::Shared(bytes.split_to(at)?),
-        };
-        Ok(IoBuf { storage })
+        Ok(IoBuf {
+            held: self.held.split_to(at)?,
+        })
     }
 
     /// Recovers the storage for writing, or returns the view (`IoBuf::try_into_mut`). It recovers native storage that
@@ -258,14 +228,14 @@ impl IoBuf {
     pub fn try_into_mut(self, alloc: Global) -> Result<IoBufMut, IoBuf>
         ensures { IsRecovery self result }
     {
-        let IoBuf { storage } = self;
-        match storage {
-            Storage::Native(native) => match native.try_into_mut() {
+        let IoBuf { held } = self;
+        match held.into_native() {
+            Ok(native) => match native::try_into_mut(native) {
                 Ok(part) => Ok(part),
                 Err(native) => Err(IoBuf::from_native(native)),
             },
-            Storage::Static([]) => Ok(IoBufMut::default(alloc)),
-            storage => Err(IoBuf { storage }),
+            Err(held) if held.is_static() && held.len() == 0 => Ok(IoBufMut::default(alloc)),
+            Err(held) => Err(IoBuf { held }),
         }
     }
 
@@ -293,14 +263,13 @@ impl IoBuf {
         if self.is_empty() {
             return Ok(Bytes::new());
         }
-        let IoBuf { storage } = self;
-        match storage {
-            Storage::Static(text) => Ok(Bytes::from_static(text)),
-            Storage::Shared(bytes) => Ok(bytes),
-            Storage::Native(native) => match native.into_bytes(alloc) {
+        let IoBuf { held } = self;
+        match held.into_native() {
+            Ok(native) => match native::into_bytes(native, alloc) {
                 Ok(bytes) => Ok(bytes),
                 Err(native) => Err(IoBuf::from_native(native)),
             },
+            Err(held) => IoBuf { held }.into_shared(),
         }
     }
 
@@ -326,10 +295,7 @@ impl IoBuf {
     pub fn is_shared(&self) -> bool
         ensures { IsTrue result ↔ (self.now.mark ≡ bytes_mark) }
     {
-        match &self.storage {
-            Storage::Shared(_) => true,
-            _ => false,
-        }
+        self.held.is_shared()
     }
 
     /// Converts into a `Bytes` without copying; native storage comes back (own).
@@ -339,11 +305,10 @@ impl IoBuf {
         ensures static_text { self.mark ≡ static_mark → IsOk result }
         ensures shared_text { self.mark ≡ bytes_mark → IsOk result }
     {
-        let IoBuf { storage } = self;
-        match storage {
-            Storage::Static(text) => Ok(Bytes::from_static(text)),
-            Storage::Shared(bytes) => Ok(bytes),
-            storage => Err(IoBuf { storage }),
+        let IoBuf { held } = self;
+        match held.into_bytes() {
+            Ok(bytes) => Ok(bytes),
+            Err(held) => Err(IoBuf { held }),
         }
     }
 
@@ -392,7 +357,7 @@ impl From<&'static [u8]> for IoBuf {
 
     fn from(text: &'static [u8]) -> IoBuf {
         IoBuf {
-            storage: Storage::Static(text),
+            held: Held::of_static(text),
         }
     }
 }
@@ -405,7 +370,7 @@ impl From<Bytes> for IoBuf {
             return IoBuf::default();
         }
         IoBuf {
-            storage: Storage::Shared(bytes),
+            held: Held::of_bytes(bytes),
         }
     }
 }
@@ -416,12 +381,9 @@ impl Clone for IoBuf {
     ghost is_infallible = { IsFreelyShared };
 
     fn clone(&self) -> Result<IoBuf, AllocError> {
-        let storage = match &self.storage {
-            Storage::Static(text) => Storage::Static(text),
-            Storage::Shared(bytes) => Storage::Shared(bytes.slice(..)?),
-            Storage::Native(native) => Storage::Native(native.front(native.len())?),
-        };
-        Ok(IoBuf { storage })
+        Ok(IoBuf {
+            held: self.held.try_clone()?,
+        })
     }
 }
 
@@ -471,23 +433,11 @@ impl Buf for IoBuf {
     }
 
     fn advance(&mut self, n: usize) {
-        match &mut self.storage {
-            Storage::Static(text) => *text = &text[n..],
-            Storage::Shared(bytes) => bytes.advance(n),
-            Storage::Native(native) => native.advance(n),
-        }
+        self.held.advance(n);
     }
 
     #[inline(always)]
     fn try_advance(&mut self, n: usize) -> bool {
-        // As in `as_ref`.
-        if let Storage::Native(native) = &mut self.storage {
-            if n > native.len() {
-                return false;
-            }
-            native.advance(n);
-            return true;
-        }
         if n > self.len() {
             return false;
         }
@@ -518,10 +468,9 @@ impl Buf for IoBuf {
         if n == self.len() {
             return self.take_bytes(alloc);
         }
-        let bytes = match &self.storage {
-            Storage::Static(text) => Bytes::from_static(&text[..n]),
-            Storage::Shared(bytes) => bytes.slice(..n)?,
-            Storage::Native(native) => Bytes::copy_from_slice(alloc, &native.as_slice()[..n])?,
+        let bytes = match self.held.share(0, n)?.into_bytes() {
+            Ok(bytes) => bytes,
+            Err(native) => Bytes::copy_from_slice(alloc, native.as_slice())?,
         };
         self.advance(n);
         Ok(bytes)

@@ -90,8 +90,7 @@ fn length_at<B: Buf>(buf: &B, skip: usize) -> Result<Spelled, Error>
 }
 
 // Reads on after a first byte that says that others follow. In one function with `length_at`, `decode64_one_chunk`
-// takes
-// 1.3 times the instructions.
+// takes 1.3 times the instructions.
 #[inline(never)]
 fn long_length_at<B: Buf>(buf: &B, skip: usize, first: u8) -> Result<Spelled, Error>
     requires within { skip ≤ length (B.text buf.now) }

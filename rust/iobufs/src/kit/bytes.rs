@@ -127,6 +127,12 @@ impl Bytes {
         self.0.advance(n);
     }
 
+    /// Drops the bytes after the first `n`.
+    #[inline]
+    pub fn truncate(&mut self, n: usize) {
+        self.0.truncate(n);
+    }
+
     /// Takes the block back, to be written, if nothing else shares it; otherwise returns these bytes.
     #[inline]
     pub fn try_into_mut(self) -> Result<BytesMut, Bytes> {

@@ -2,11 +2,11 @@ use Rattle.std.proofs.Common.{ℕ, ◌≡◌, ◌-◌, length, drop, take, arith
 use Rattle.std.proofs.lemmas.List.{drop-take}
 use Rattle.std.specs.Arc.{arc_value}
 use Rattle.iobufs_core.proofs.Windows.{length_window}
-use Rattle.iobufs_core.proofs.buf.native.Native.try_into_mut.Goals as goal
+use Rattle.iobufs_core.proofs.buf.native.try_into_mut.Goals as goal
 
 pub returns-in-Some : goal.returns-in-Some
 returns-in-Some c =
-    let s = c.self.inside in
+    let s = c.native.inside in
     let block = arc_value s.block in
     let cut = c.truncate.new.self in
     let same = c.in-Some.ensures in
@@ -16,4 +16,4 @@ returns-in-Some c =
     rw (c.truncate.ensures.items, same) (drop-take s.start s.len block.items) in
     let spare : s.limit - vec_len cut ≡ s.limit - s.start - length (take s.len (drop s.start block.items)) =
     omega (arith, bytes, c.truncate.ensures.len, same_len) in
-    rw (← c.self.view_is) cc
+    rw (← c.native.view_is) cc

@@ -2,7 +2,7 @@ use Rattle.std.proofs.Common.{◌≤◌, length, arith, ap}
 use Rattle.std.specs.Arc.{arc_value}
 use Rattle.iobufs_core.specs.Native.{NativeText}
 use Rattle.iobufs_core.proofs.Windows.{text_at-advanced, length_window}
-use Rattle.iobufs_core.proofs.buf.native.Native.advance.Goals as goal
+use Rattle.iobufs_core.proofs.buf.held.Native.advance.Goals as goal
 
 pub returns : goal.returns
 returns c =
