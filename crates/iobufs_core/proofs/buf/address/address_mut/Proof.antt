@@ -58,7 +58,9 @@ module _ {M : Type 1} {𝓤 : Ura M} (𝓛 : Logic 𝓤) (at_mem : Memory → SP
     Post = (walk_of 𝓛 F.ended stayed clauses).post bound
 
     exits : Room u8 (length xs)
-        → ent 𝓤 (⋆ 𝓛 (‵ (fobs γ ((coded_holeys u8).code (heres u8 xs))) ∷ ‵ (fbor κ (Held u8 (length xs) b o γ)) ∷ ‵ (flft κ q) ∷ [])) (Post (vptr b o))
+        → ent 𝓤
+        (⋆ 𝓛 (‵ (fobs γ ((coded_holeys u8).code (heres u8 xs))) ∷ ‵ (fbor κ (Held u8 (length xs) b o γ)) ∷ ‵ (flft κ q) ∷ []))
+        (Post (vptr b o))
     exits room =
         qed 𝓛 (‵ (fobs γ ((coded_holeys u8).code (heres u8 xs))) ∷ ‵ (fbor κ (Held u8 (length xs) b o γ)) ∷ ‵ (flft κ q) ∷ []) ∵
         suffices ! _ (ends_at 𝓛 F.ended stayed clauses bound (vptr b o) (block_ptr b o) (xs, tt) (refl, tt)) $ says ! ((λ e. cc), refl) $
@@ -69,7 +71,8 @@ module _ {M : Type 1} {𝓤 : Ura M} (𝓛 : Logic 𝓤) (at_mem : Memory → SP
 
     module _ (C : Calls 𝓤 H) (Λ : Loops 𝓤 H) where
       walk : Room u8 (length xs)
-          → ent 𝓤 (on_entry 𝓛 F.signature (κ, tt) (q, tt) (lent, tt) words) (WpFn 𝓤 H C Λ code.function (slice_val (b, o) (length xs) ∷ []) Post)
+          → ent 𝓤 (on_entry 𝓛 F.signature (κ, tt) (q, tt) (lent, tt) words)
+          (WpFn 𝓤 H C Λ code.function (slice_val (b, o) (length xs) ∷ []) Post)
       walk room =
           qed 𝓛 ((‵ (flft κ q) ⊛ ‵ ftrue) ∷ ‵ (owns (MutSlice (named 0) κ u8 ∷ []) (lent, tt) words) ∷ []) ∵
           enter ! C Λ code.function (slice_val (b, o) (length xs) ∷ []) _ $
