@@ -22,8 +22,14 @@ RULES = [
     ("word of place", 2, PLACE),
     ("figure in prose", 4, re.compile(r"(?<![\w`^.\-])\d+[.,]\d+(?![\w`.])")),  # 0.65
 ]
-# Words that a sentence may have, and words of README, without what is generated.
-LONGEST, MOST = 40, {"README.md": 1100}
+# Words that a sentence may have, and the aim of each page, without what is generated. A page above its aim is told.
+LONGEST = 40
+MOST = {
+    "README.md": 1100, "docs/API.md": 1800, "docs/ASSURANCE.md": 2000, "docs/C.md": 1100, "docs/CONTRIBUTING.md": 1600,
+    "docs/DECISIONS.md": 1900, "docs/DESIGN.md": 1000, "docs/DIFFERENCES.md": 1100, "docs/GUIDE.md": 2200,
+    "docs/MODEL.md": 1900, "docs/OWNER.md": 1600, "docs/PROGRAMS.md": 1500, "bench/README.md": 700,
+    "rust/iobufs/README.md": 1200,
+}
 SCRIPTS = "bindings costs docs program refuse rust same trusted try_faults try_mutants *.py pages/*.py ../bench/compare"
 # How many columns a line may have, and how many have more.
 LONG = {
@@ -61,15 +67,12 @@ def faults_of_style(text):
             yield f"{len(sentence.split())} words: {sentence[:60]}.."
 
 
-def faults_of_length():
-    """Pages with more words than they may have. One that is near its limit is told."""
-    pages = [page for page in PAGES if page.name != "RESULTS.md"]
-    words = {str(page.relative_to(ROOT)): len(MARKED.sub("", page.read_text()).split()) for page in pages}
-    for name, most in MOST.items():
-        if words[name] > most:
-            yield f"{name} has {words[name]} words, more than {most}"
-        elif words[name] > most * 0.95:
-            print(f"docs: {name} has {words[name]} of {most} words", flush=True)
+def tell_length():
+    """Says which pages have more words than their aim, which is no fault."""
+    words = {str(page.relative_to(ROOT)): len(MARKED.sub("", page.read_text()).split()) for page in PAGES}
+    for name in sorted(words.keys() & MOST.keys()):
+        if words[name] > MOST[name]:
+            print(f"docs: {name} has {words[name]} words; its aim is {MOST[name]}", flush=True)
 
 
 def faults_of_width():
