@@ -1,13 +1,14 @@
 """The generated parts of the pages: `PARTS[NAME]` makes what is between `<!-- generated: NAME -->` and its end."""
 import re
 
-from pages.tree import CRATES, MARKED, ROOT, STOP, by_layer, declarations, direct, layer, purpose, uses
+from pages.tree import CRATES, MARKED, OWNER, ROOT, STOP, by_layer, declarations, direct, layer, purpose, uses
 from pages.trusted import contracts
 
 # ---- docs/API.md
 
 SUBJECTS = (ROOT / "tests/pages/subjects").read_text().splitlines()
 API = dict(line.split(": ") for line in SUBJECTS if not line.startswith("#"))
+FOR_LAYERS = set(API.pop("for layers").split())
 COLUMNS = re.compile(r" {2,}")  # Between two columns: len  text_len self\.old
 # The rows of conditions: what a caller knows a part of a condition by, and when a call cannot fail.
 SHORT, SURE = (
@@ -89,35 +90,54 @@ def arguments(declared):
 
 
 def row(comment, name, declared):
-    """The row of a call: with its arguments, what it does, requires, its errors, when it cannot fail, the original."""
+    """The row of a call: its name with its type or trait, if that is needed, and its arguments; what it does, requires,
+    its errors, when it cannot fail, the original."""
     conditions = ", ".join(short(" ".join(it.split())) for it in REQUIRES.findall(declared))
     about = errors(declared, comment), sure(declared), original(comment)
     return f"{name}({', '.join(arguments(declared))})", does(comment), conditions, *about
 
 
-def calls(files):
-    """The rows of these files, and the calls that have nothing to say in them."""
+def calls(files, are_for_layers=False):
+    """The rows of the calls in these files, for users or for layers, and those that have nothing to say in them. Each
+    has its type's name, if the files have calls of several."""
+    found = [it for file in files.split() for it in declarations((CRATES / file).read_text())]
+    owners = {owner for _, owner, name, _ in found if name not in FOR_LAYERS}
     rows, plain = [], []
-    for comment, name, declared in (it for file in files.split() for it in declarations((CRATES / file).read_text())):
-        made = row(comment, name, declared)
-        if any(made[2:5]) or "alloc" in arguments(declared):
-            rows.append(made)
-        else:
-            plain.append(name)
+    for comment, owner, name, declared in found:
+        if (name in FOR_LAYERS) == are_for_layers:
+            named = f"{owner}::{name}" if owner and (len(owners) > 1 or are_for_layers) else name
+            made = row(comment, named, declared)
+            is_plain = not any(made[2:5]) and "alloc" not in arguments(declared) and not are_for_layers
+            plain.append(named) if is_plain else rows.append(made)
     return dict.fromkeys(rows), dict.fromkeys(plain)
 
 
+def traits(files):
+    """The traits that the types of these files implement."""
+    texts = [(CRATES / file).read_text() for file in files.split()]
+    return dict.fromkeys(m[1].split("::")[-1] for text in texts for m in OWNER.finditer(text) if m[1])
+
+
+def table(rows):
+    """The lines of a table of calls."""
+    yield "\n|call|does|requires|errors|cannot fail|original|\n|---|---|---|---|---|---|"
+    yield from (f"|`{row[0]}`|" + "|".join(row[1:]) + "|" for row in rows)
+
+
 def api():
-    """The tables of the public calls, by subject."""
+    """The tables of the public calls, by subject, and the one of those for layers."""
     for title, files in API.items():
         rows, plain = calls(files)
         links = ", ".join(f"[{it.rsplit('/', 1)[1]}](../crates/{it})" for it in files.split())
         yield f"\n## {title}\n\nIn {links}."
         if rows:
-            yield "\n|call|does|requires|errors|cannot fail|original|\n|---|---|---|---|---|---|"
-            yield from (f"|`{row[0]}`|" + "|".join(row[1:]) + "|" for row in rows)
+            yield from table(rows)
         if plain:
             yield "\nNeither condition nor error: " + ", ".join(f"`{name}`" for name in plain) + "."
+        if not rows and not plain:
+            yield "\nIts calls are those of " + ", ".join(f"`{name}`" for name in traits(files)) + "."
+    yield "\n## For layers\n\nOther crates of this repository, C or the Rust crate call these. A user needs none of them."
+    yield from table(row for files in API.values() for row in calls(files, are_for_layers=True)[0])
 
 
 def own():
@@ -125,7 +145,7 @@ def own():
     for title, files in API.items():
         texts = [(CRATES / file).read_text() for file in files.split()]
         found = [name for text in texts for comment, name in TYPE.findall(text) if original(comment) == "own"]
-        found += [name for text in texts for comment, name, _ in declarations(text) if original(comment) == "own"]
+        found += [name for text in texts for comment, _, name, _ in declarations(text) if original(comment) == "own"]
         if found:
             yield f"- {title}: " + ", ".join(f"`{name}`" for name in dict.fromkeys(found))
 
@@ -183,15 +203,15 @@ def by_hand():
     yield f"|by hand: the wrappers in `src`|{hand[0]}|\n|by hand: the layer of calls in `layer`|{hand[1]}|"
 
 
-def table(name):
+def stored(name):
     """The lines of a table of rust/iobufs/tests/same, each what is before its last arrow and after it."""
     return [line.rsplit(" -> ", 1) for line in (ROOT / "rust/iobufs/tests/same" / name).read_text().splitlines()]
 
 
 def differences():
     """What the Rust crate answers otherwise than the original, and what doesn't compile, by reasons."""
-    original, reasons = dict(table("original")), {}
-    for name, other in table("differences"):
+    original, reasons = dict(stored("original")), {}
+    for name, other in stored("differences"):
         here, reason = other.split(" | ")
         reasons.setdefault(reason, []).append((name, here))
     yield "|for example|original|here|reason|how many|\n|---|---|---|---|--:|"
