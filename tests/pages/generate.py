@@ -136,7 +136,7 @@ def api():
             yield "\nNeither condition nor error: " + ", ".join(f"`{name}`" for name in plain) + "."
         if not rows and not plain:
             yield "\nIts calls are those of " + ", ".join(f"`{name}`" for name in traits(files)) + "."
-    yield "\n## For layers\n\nOther crates of this repository, C or the Rust crate call these. A user needs none of them."
+    yield "\n## For layers\n\nOther crates of this repository, C or the Rust crate call these. A user needs none."
     yield from table(row for files in API.values() for row in calls(files, are_for_layers=True)[0])
 
 
