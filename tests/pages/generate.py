@@ -185,6 +185,7 @@ def matrix():
 
 # What the prover alone reads of a source, up to the brace that ends it: ensures ok {    pub ghost value = {
 CONTRACT = re.compile(r"^ *(?:(?:pub )?ghost|ensures|requires|#!?\[tactic)\b.*\n(?:^ {8,}.*\n)*", re.M)
+RESULTS = ROOT / "bench/RESULTS.md"
 RUST_CRATES = ("iobufs_core", "iobufs", "iobufs_frames", "iobufs_values")
 
 
@@ -219,6 +220,25 @@ def differences():
         (name, here), count = rows[0], len(rows)
         shown, then = (f"`{name[5:].split(' }')[0]} }}`", "compiles") if name[:5] == "use: " else (name, original[name])
         yield f"|{shown}|{then}|{here}|{reason}|{count}|"
+
+
+# A mean of bench/RESULTS.md: - 88 comparable rows: time mean **0.68**, .. 27 above 1; instructions mean **0.77**, ..
+OF_BOTH = r"mean \*\*([\d.]+)\*\*, median [\d.]+, (\d+) above 1"
+MEAN = re.compile(rf"^- (\d+) (rows in which|comparable).*: time {OF_BOTH}; instructions {OF_BOTH}", re.M)
+SLOWEST = re.compile(r"^- Slowest by time (.*?);", re.M)  # - Slowest by time `put_u8_64k_freeze` 3.06, ..; fastest
+
+
+def speed():
+    """The means of bench/RESULTS.md."""
+    yield "||workloads|instructions|more in|time|slower in|\n|---|--:|--:|--:|--:|--:|"
+    for n, (rows, kind, time, slower, instructions, more) in enumerate(MEAN.findall(RESULTS.read_text())):
+        steps = "with the same steps" if kind.startswith("rows") else "all comparable"
+        yield f"|{('Rattle', 'the Rust crate')[n // 2]}, {steps}|{rows}|{instructions}|{more}|{time}|{slower}|"
+
+
+def slowest():
+    """The slowest workloads of the Rust crate by time."""
+    yield f"Slowest by time: {SLOWEST.findall(RESULTS.read_text())[-1]}."
 
 
 def crates():
@@ -277,7 +297,7 @@ def trusted():
 
 PARTS = {
     "trusted": trusted, "api": api, "own calls": own, "matrix": matrix, "crates": crates, "graph": graph,
-    "promises": promises, "by hand": by_hand, "differences": differences,
+    "promises": promises, "by hand": by_hand, "differences": differences, "speed": speed, "slowest": slowest,
 }
 
 
