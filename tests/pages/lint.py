@@ -22,12 +22,12 @@ MOST = {
     "docs/MODEL.md": 1900, "docs/OWNER.md": 1600, "docs/PROGRAMS.md": 1500, "bench/README.md": 700,
     "rust/iobufs/README.md": 1200,
 }
-SCRIPTS = "bindings costs docs gate_page program refuse rust same trusted try_faults try_mutants *.py pages/*.py ../bench/compare"
+SCRIPTS = "bindings costs docs gate_page program refuse rust same trusted try_faults try_mutants *.py pages/*.py"
 # How many columns a line may have, and how many have more.
 LONG = {
     "crates/*/src/**/*.rt": (120, 1),
     "crates/*/[ps]*/**/*.antt": (140, 0),
-    **{f"tests/{name}": (120, 0) for name in SCRIPTS.split()},
+    **{f"tests/{name}": (120, 0) for name in [*SCRIPTS.split(), "../bench/compare"]},
 }
 USE = re.compile(r"\s*(?:pub |ghost |unfoldable )*use ")  # pub use Rattle.std.specs.Prelude.{List}
 PART = re.compile(r"\n(?=\s*[-*\d]|\s*\n|\||#)")  # Before an item, an empty line, a row or a heading: \n- One
