@@ -91,14 +91,22 @@ impl IoBufsMut {
         self.0.capacity()
     }
 
-    /// Makes `n` bytes readable: each buffer whole before the next has one. Bytes that were not readable are zero, and
-    /// readable bytes outside the first `n` are lost.
+    /// Makes `n` bytes readable: the first buffer to its capacity, then the second, and so on. Bytes that were not
+    /// readable are zero. A buffer loses readable bytes that are above its share of the `n`.
     ///
     /// ```
-    /// let mut bufs = iobufs::IoBufsMut::from([1, 2].map(iobufs::IoBufMut::with_capacity));
+    /// use iobufs::IoBufMut;
+    ///
+    /// let mut bufs = iobufs::IoBufsMut::from([1, 2].map(IoBufMut::with_capacity));
     /// bufs.put_u8(7);
     /// bufs.set_len(3);
     /// assert_eq!(bufs.freeze(), [7, 0, 0]);
+    ///
+    /// let mut parts = [4, 4].map(IoBufMut::with_capacity);
+    /// parts.iter_mut().for_each(|part| part.put_u8(7));
+    /// let mut bufs = iobufs::IoBufsMut::from(parts);
+    /// bufs.set_len(2);
+    /// assert_eq!(bufs.freeze(), [7, 0]); // all of the first buffer, and no byte of the second
     /// ```
     ///
     /// # Panics
@@ -165,7 +173,7 @@ impl IoBufsMut {
         IoBufs(shared(self.0.freeze(Global)))
     }
 
-    /// Coalesces the buffers into one: an only buffer as it is, several as a copy.
+    /// Coalesces the buffers into one: a single buffer as it is, several as a copy.
     ///
     /// ```
     /// let bufs = iobufs::IoBufsMut::from([b"ab", b"cd"].map(iobufs::IoBufMut::from));
@@ -208,7 +216,7 @@ impl IoBufsMut {
         dst.iter_mut().zip(self.each_chunk()).map(|(slot, chunk)| *slot = IoSlice::new(chunk)).count()
     }
 
-    /// Takes the first `n` bytes: all of an only buffer without a copy, others as a copy (`Buf`).
+    /// Takes the first `n` bytes: all of a single buffer without a copy, others as a copy (`Buf`).
     ///
     /// ```
     /// let mut bufs = iobufs::IoBufsMut::from([b"ab", b"cd"].map(iobufs::IoBufMut::from));

@@ -310,7 +310,7 @@ impl IoBufs {
         }
     }
 
-    /// Coalesces the chunks into one view: an only chunk as it is, several as a copy.
+    /// Coalesces the chunks into one view: a single chunk as it is, several as a copy.
     ///
     /// ```
     /// assert_eq!(iobufs::IoBufs::from(["ab".into(), "cde".into()]).coalesce(), "abcde");
