@@ -180,7 +180,10 @@ def matrix():
     # A row of tests/requests: how many were answered, ended the program, and changed nothing, and the session.
     refused = sum(int(number) for it in rows for number in it[:3])
     failed = f"Allocations that `tests/refuse` fails in turn: {refused} of {len(rows)} stored sessions."
-    yield f"\n{totals[4]} mutants, {named} of them named. {failed}"
+    resting = sum("\nrests: " in edit for crate in uses() for edit in edits(crate))
+    open_rows = len((ROOT / "tests/unguarded").read_text().splitlines())
+    yield f"\n{totals[4]} mutants, {named} of them named, {resting} with a definition that they rest on. {failed}"
+    yield f"Rows of definitions that public contracts name, and no mutant rests on (`tests/unguarded`): {open_rows}."
 
 
 # What the prover alone reads of a source, up to the brace that ends it: ensures ok {    pub ghost value = {

@@ -2,9 +2,8 @@
 //!
 //! - `command`: what is asked and answered (`Cmd`, `Reply`, `Refusal`).
 //! - `table`: `Table`, with a function for each command, and one for `Append` and `Prepend`, in the file of what it
-//! works
-//!   on (`parts`, `made`, `views`, `texts`, `gather`, `build`, `shown`, `slots`); `causes` has the tests that several
-//!   commands share.
+//!   works on (`parts`, `made`, `views`, `texts`, `gather`, `build`, `shown`, `slots`); `causes` has the tests that
+//!   several commands share.
 //! - `laws`: what a run leaves open, and what a refused command changes.
 //! - `specs/`: `Slots` and `Causes` (what names hold, and why a command is refused), `Refusals` (the refusal for an
 //!   error), `Run` (`Step`, `Run`), `Choices`.
