@@ -1,12 +1,21 @@
 //! Values that are written and read, by calls with the names of the original's codec.
 //!
-//! A number of a fixed size is written with its highest byte first, a `usize` as a length, and an `IoBuf` after its
-//! length. A `bool` is one byte, an `Option` a `bool` and then its value, an array its bytes, a `Vec` its length and
-//! its items, a `String` its length and its bytes, a tuple its fields. A view that is read shares the buffer's storage,
-//! if it is in one chunk. **A value is read whole: if that fails, the buffer is unchanged.**
+//! | value | bytes | [`Cfg`](Decode::Cfg) |
+//! |---|---|---|
+//! | `u8` to `u128`, `i8` to `i128` | the highest byte first | `()` |
+//! | `usize` | a length: a varint | a [`RangeCfg`] |
+//! | `bool` | 0 or 1 | `()` |
+//! | `[u8; N]` | as they are | `()` |
+//! | [`IoBuf`], [`Bytes`], `String` | their length, then their bytes | a [`RangeCfg`] |
+//! | `Option<T>` | a `bool`, then the value if there is one | that of `T` |
+//! | `Vec<T>` | the number of items as a length, then each item | a [`RangeCfg`], and that of `T` |
+//! | a tuple of two to six | each field | a tuple of theirs |
 //!
-//! A type of a caller is written and read as a tuple of its fields ([`fields!`](crate::fields)), or as one of several
-//! kinds after a byte that says which ([`kinds!`](crate::kinds)):
+//! A view that is read shares the buffer's storage, if it is in one chunk. **A value is read whole: if that fails, the
+//! buffer is unchanged.**
+//!
+//! A struct of a caller is written and read as the tuple of its fields, by [`fields!`](crate::fields). An enum is a byte
+//! that says which variant it is, and then the variant's fields, by [`kinds!`](crate::kinds):
 //!
 //! ```
 //! use iobufs::IoBuf;

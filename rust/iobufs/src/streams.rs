@@ -190,9 +190,9 @@ impl FrameCodec {
     }
 }
 
-/// Takes frames from a reader: lengths, each followed by a body. A read fills the space of one block, and a body shares
-/// that block: it isn't copied, and keeps the whole block, of up to 64 KiB, or of twice a longer frame that came before
-/// it. Copy a small body that you keep: [`IoBuf::copy_from_slice`].
+/// Takes frames from a reader: lengths, each followed by a body. A read fills the space of one block, which its bodies
+/// share: they aren't copied. A body keeps the whole block: up to 64 KiB, or twice a longer frame that came before it.
+/// Copy a small body that you keep, by [`IoBuf::copy_from_slice`].
 ///
 /// ```
 /// use iobufs::{FrameReader, FrameWriter};
