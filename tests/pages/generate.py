@@ -277,7 +277,7 @@ def promises():
         yield "|" + ", ".join(f"`{name}`" for name in FIELD.findall(fields)) + f"|{said}|"
 
 
-LANGUAGES = {".rt": "rust", ".c": "c"}
+LANGUAGES = {".rt": "rust", ".rs": "rust", ".c": "c"}
 # The lines of a source that a page shows: // [docs: echo]\n..\n// [docs end]
 SHOWN = re.compile(r"^ *(?://|--) \[docs: ([^\]\n]*)\]\n(.*?)^ *(?://|--) \[docs end\]", re.M | re.S)
 
@@ -285,6 +285,7 @@ SHOWN = re.compile(r"^ *(?://|--) \[docs: ([^\]\n]*)\]\n(.*?)^ *(?://|--) \[docs
 def code(name):
     """The lines of a source or a proof between `// [docs: NAME]` and `// [docs end]` (there `-- ..`)."""
     globs = ["crates/*/src/**/*.rt", "crates/*/proofs/**/*.antt", "bindings/c/examples/*.c"]
+    globs.append("rust/iobufs/examples/*.rs")
     for file in [file for it in globs for file in sorted(ROOT.glob(it))]:
         if found := dict(SHOWN.findall(file.read_text())).get(name):
             path = file.relative_to(ROOT)
