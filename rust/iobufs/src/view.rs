@@ -271,7 +271,8 @@ impl IoBuf {
     /// ```
     ///
     /// # Errors
-    /// Returns the view if another one shares its storage, or if an owner or a `static` has its bytes.
+    /// Returns the view if another one shares its storage, or if it was made of a static slice, an owner, a [`Bytes`] or
+    /// a `BytesMut`. [`IoBufMut::from`] copies these.
     #[inline]
     pub fn try_into_mut(self) -> Result<IoBufMut, Self> {
         self.0.try_into_mut(Global).map(IoBufMut).map_err(IoBuf)
