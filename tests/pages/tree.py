@@ -5,7 +5,7 @@ from functools import cache
 import common
 from common import CRATES, TOP as ROOT
 
-PAGES = [ROOT / it for it in ("README.md", "rust/iobufs/README.md")]
+PAGES = [ROOT / it for it in ("README.md", "rust/iobufs/README.md", "rust/tokio/README.md")]
 PAGES += [page for folder in ("docs", "bench") for page in sorted((ROOT / folder).glob("*.md"))]
 # A generated part of a page: <!-- generated: crates -->\n..\n<!-- end -->
 MARKED = re.compile(r"<!-- generated: ([^>]*) -->\n(.*?)<!-- end -->", re.S)
