@@ -224,6 +224,7 @@ impl IoBufs {
         ensures index { IfSome result (λ place. place.index + 1 ≡ keys_upto self.now at) }
         ensures offset { IfSome result (λ place. greatest_key self.now at + place.offset ≡ at) }
         ensures probes { IfSome result (λ place. 2 ^ place.probes ≤ 2 * count_of self.now) }
+        ensures halves { IfSome result (λ place. count_of self.now < 2 ^ (place.probes + 1)) }
     {
         if at >= self.len() {
             return None;

@@ -1,5 +1,5 @@
 // Writable buffers, read and filled in order. A clause sees a list of them (`Part`), each its bytes and spare capacity.
-ghost use Rattle.std.specs.Prelude.{IsTrue, IsFalse, nat_le, ◌≡◌, ◌+◌, ◌<◌, ◌≤◌, ◌==◌, ◌^◌, ◌++◌, ◌∷◌, [], List, length, slice_get, Err, IfErr, IfOk, IsOk, IsOkUnless, MatchResult, OnErr, Some, codes, ⊤};
+ghost use Rattle.std.specs.Prelude.{IsTrue, IsFalse, nat_le, ◌≡◌, ◌+◌, ◌<◌, ◌≤◌, ◌==◌, ◌^◌, ◌++◌, ◌∷◌, [], List, length, slice_get, take, Err, IfErr, IfNone, IfOk, IfSome, IsOk, IsOkUnless, MatchResult, OnErr, Some, codes, ⊤};
 ghost use Rattle.std.specs.Fmt.{decimal};
 ghost use Rattle.std.specs.Iterator.{DrainsIf, IsFinite};
 ghost use Rattle.std.specs.Iterator.Runs.{SomeRun, WholeRun};
@@ -21,7 +21,7 @@ use bytes::Bytes;
 use few::Few;
 use iobufs_core::buf::IoBufMut;
 use iobufs_core::codec::{Buf, BufError, BufMut};
-use several::{Several, visit_part};
+use several::{Several, take_whole, visit_part};
 use std::alloc::{AllocError, Global};
 use std::fmt;
 use std::marker::Model;
@@ -107,6 +107,24 @@ impl Shape {
                     *self = Shape::One(part);
                 }
             }
+        }
+    }
+
+    // Takes the first `n` bytes with their storage, if a part without spare capacity holds just these.
+    #[tactic(auto, using(crate::proofs::Parts::FewLaws::keeping))]
+    fn take_front(&mut self, alloc: Global, n: usize) -> Result<Option<Bytes>, BufError>
+        requires { 0 < n }
+        ensures front { IfOk result (λ front. IfSome front (λ bytes.
+            (bytes ≡ take n (parts_filled (shape_parts self.old)))
+            × (shape_parts self.new ≡ parts_drained (shape_parts self.old) n))) }
+        ensures none { IfOk result (λ front. IfNone front (shape_parts self.new ≡ shape_parts self.old)) }
+        ensures unchanged { OnErr result (shape_parts self.new ≡ shape_parts self.old) }
+        ensures memory { IsOkUnless result BufError.Memory }
+    {
+        match self {
+            Shape::One(part) => take_whole(alloc, part, n),
+            Shape::Few(parts) => parts.take_front(alloc, n),
+            Shape::Many(parts) => parts.take_front(alloc, n),
         }
     }
 
@@ -452,11 +470,15 @@ impl Buf for IoBufsMut {
         self.advance(dst.len());
     }
 
-    /// Takes the first `n` bytes, and leaves what `advance` leaves.
+    /// Takes the first `n` bytes, and leaves what `advance` leaves. It shares them if they are the first chunk whole,
+    /// whose buffer has no spare capacity, and copies them otherwise.
     #[tactic(auto, using(crate::proofs::Parts::PartChunks::reading, crate::proofs::Parts::FewLaws::keeping))]
     fn copy_to_bytes(&mut self, alloc: Global, n: usize) -> Result<Bytes, BufError> {
         if n == 0 {
             return Ok(Bytes::new());
+        }
+        if let Some(bytes) = self.shape.take_front(alloc, n)? {
+            return Ok(bytes);
         }
         let bytes = match &self.shape {
             Shape::One(part) => Bytes::copy_from_slice(alloc, &part.as_ref()[..n])?,

@@ -216,11 +216,13 @@ impl IoBufsMut {
         dst.iter_mut().zip(self.each_chunk()).map(|(slot, chunk)| *slot = IoSlice::new(chunk)).count()
     }
 
-    /// Takes the first `n` bytes: all of a single buffer without a copy, others as a copy (`Buf`).
+    /// Takes the first `n` bytes (`Buf`). They are shared if they are a single buffer, or the whole first one and it has no
+    /// spare capacity; else they are copied.
     ///
     /// ```
     /// let mut bufs = iobufs::IoBufsMut::from([b"ab", b"cd"].map(iobufs::IoBufMut::from));
-    /// assert_eq!(bufs.copy_to_bytes(3), "abc");
+    /// assert_eq!(bufs.copy_to_bytes(2), "ab"); // shared
+    /// assert_eq!(bufs.copy_to_bytes(1), "c"); // a copy
     /// assert_eq!(bufs.chunk(), b"d");
     /// ```
     ///

@@ -1,5 +1,6 @@
 -- A row of parts whose bytes are dropped, part by part.
-use Rattle.iobufs.proofs.Text.{AreBehind, AreKept, HaveCapacity, HaveNoSpare, IsParts, List, Part, [], ap, append_assoc, arith, drop, drop_all, empty_part, first_drained, get_or, in_order, kept_parts, length, length-append, length-drop, part_capacity, part_drained, parts_capacity, parts_drained, parts_filled, parts_or_default, parts_shared_out, refl, subst, sum_by_push, sym, take, take-append-drop, ℕ, ◌++◌, ◌+◌, ◌-◌, ◌<◌, ◌^◌, ◌∙◌, ◌∷◌, ◌≡◌, ◌≤◌}
+use Rattle.iobufs.proofs.Text.{AreBehind, AreKept, HaveCapacity, HaveNoSpare, IsParts, List, Part, [], ap, append_assoc, arith, drop, drop_all, empty_part, first_drained, get_or, in_order, kept_parts, length, length-append, length-drop, length-take, part_capacity, part_drained, parts_capacity, parts_drained, parts_filled, parts_or_default, parts_shared_out, refl, subst, sum_by_push, sym, take, take-append-drop, ℕ, ◌++◌, ◌+◌, ◌-◌, ◌<◌, ◌^◌, ◌∙◌, ◌∷◌, ◌≡◌, ◌≤◌}
+use Rattle.std.proofs.Math.Seq.{take-append_seam}
 use Rattle.iobufs.proofs.Parts.DrainShapes.{able-both, able-front, able-rest, capacity-shared_out, shared_out-behind, shared_out-first, shared_out-none, with_capacity-spent}
 use Rattle.iobufs.proofs.Parts.FewLaws.{drained-parts, kept-same, parts-kept}
 use Rattle.iobufs.proofs.Parts.FullLaws.{full-drained, full-push}
@@ -171,6 +172,35 @@ module _ (row rest : List Part) (p q : Part) (used n len : ℕ) (left : List Par
         some = fewer others are;
         left_is = sym (ap parts_or_default (with_capacity-spent d.behind (parts_shared_out others (n - len)) q none)) ∙ shared others are;
       }
+
+-- the first part goes whole, where others are left
+pub front-taken : (row rest : List Part) (used n : ℕ) (bytes : List ℕ) → AreBehind row used → IsParts (in_order row used) → 0 < n
+    → row ≡ record { filled = bytes; spare = 0 } ∷ rest → length bytes ≡ n → 0 < length rest
+    → (in_order rest used ≡ parts_drained (in_order row used) n) × AreBehind rest used
+front-taken row rest used n bytes behind parts more front len_is beside =
+    let p : Part = record { filled = bytes; spare = 0 } in
+    let some : n ≤ length (parts_filled row) =
+    omega (arith, ap (λ ps. length (parts_filled ps)) front, length-append bytes (parts_filled rest), len_is) in
+    let begun = draining-begins row used n behind parts some in
+    draining-ends rest used (n - n) _ (omega arith)
+    (draining-spent row rest p (part_drained p n) used n n _ begun more front (sym len_is) (omega arith) refl
+    (omega (arith, length-drop n bytes, len_is)) beside)
+
+-- its bytes are the first ones
+pub front-filled : (row rest : List Part) (used n : ℕ) (bytes : List ℕ) → AreBehind row used
+    → row ≡ record { filled = bytes; spare = 0 } ∷ rest → length bytes ≡ n → bytes ≡ take n (parts_filled (in_order row used))
+front-filled row rest used n bytes behind front len_is =
+    sym (take-append_seam bytes (parts_filled rest)) ∙ ap (λ k. take k (bytes ++ parts_filled rest)) len_is
+    ∙ ap (λ ps. take n (parts_filled ps)) (sym front) ∙ ap (take n) (filled-order row used behind)
+
+pub front-fits : (row rest : List Part) (used n : ℕ) (bytes : List ℕ) → AreBehind row used
+    → row ≡ record { filled = bytes; spare = 0 } ∷ rest → length bytes ≡ n → n ≤ length (parts_filled (in_order row used))
+front-fits row rest used n bytes behind front len_is = omega (
+  arith,
+  ap length (front-filled row rest used n bytes behind front len_is),
+  length-take n (parts_filled (in_order row used)),
+  len_is,
+)
 
 -- the first part alone loses bytes
 pub shortened-row : (row new : List Part) (used n : ℕ) → AreBehind row used → IsParts (in_order row used)

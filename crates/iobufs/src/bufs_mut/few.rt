@@ -1,6 +1,6 @@
 // Up to three parts in place.
 ghost use Rattle.std.specs.Option.{option_copied};
-ghost use Rattle.std.specs.Prelude.{◌≡◌, ◌+◌, ◌-◌, ◌^◌, ◌<◌, ◌≤◌, ◌++◌, [], ◌∷◌, drop, false, length, map, replicate, slice_get, take, ◌==◌, if◌then◌else◌, Err, IfOk, OnOk, IfNone, IfSome, IsOk, IsOkUnless, IsTrue};
+ghost use Rattle.std.specs.Prelude.{◌≡◌, ◌+◌, ◌-◌, ◌^◌, ◌<◌, ◌≤◌, ◌++◌, [], ◌∷◌, drop, false, length, map, replicate, slice_get, take, ◌==◌, if◌then◌else◌, Err, IfOk, OnOk, IfNone, IfSome, IsOk, IsOkUnless, IsTrue, OnErr};
 ghost use Rattle.iobufs_core.specs.Chunks.{first_chunk};
 ghost use Rattle.iobufs_core.specs.MarkedText.{of_view};
 ghost use Rattle.iobufs_core.specs.Part.{empty_part, part_capacity, part_drained, part_frozen, part_put};
@@ -10,10 +10,12 @@ ghost use Rattle.std.specs.Fn.{CalledAtMut};
 ghost use Rattle.iobufs.specs.Parts.{HaveCapacity, IsParts, kept_parts, parts_capacity, parts_chunks, parts_fill, parts_filled, parts_frozen, parts_overwritten, parts_shared_out, parts_spare, parts_with_len, single_part, with_capacity};
 
 use super::several::{
-    Several, copy_share, extend_share, len_share, put_bytes_share, read_share, visit_part,
+    Several, copy_share, extend_share, len_share, put_bytes_share, read_share, take_whole,
+    visit_part,
 };
 use crate::bufs::IoBufs;
 use crate::bufs::row::NewRow;
+use bytes::Bytes;
 use iobufs_core::buf::IoBufMut;
 use iobufs_core::codec::{Buf, BufError, BufMut};
 use std::alloc::{AllocError, Global};
@@ -381,6 +383,24 @@ impl Few {
             free_used(self.alloc, &mut self.second);
             free_used(self.alloc, &mut self.third);
         }
+    }
+
+    /// Takes the first `n` bytes with their storage, if they are a part without spare capacity.
+    pub(super) fn take_front(&mut self, alloc: Global, n: usize) -> Result<Option<Bytes>, BufError>
+        requires { 0 < n }
+        ensures front { IfOk result (λ front. IfSome front (λ bytes.
+            (bytes ≡ take n (parts_filled self.old)) × (self.new ≡ parts_shared_out self.old n))) }
+        ensures none { IfOk result (λ front. IfNone front (self.new ≡ self.old)) }
+        ensures unchanged { OnErr result (self.new ≡ self.old) }
+        ensures memory { IsOkUnless result BufError.Memory }
+    {
+        if !self.first.is_empty() {
+            return take_whole(alloc, &mut self.first, n);
+        }
+        if !self.second.is_empty() {
+            return take_whole(alloc, &mut self.second, n);
+        }
+        take_whole(alloc, &mut self.third, n)
     }
 
     pub(super) fn chunk(&self) -> &[u8]

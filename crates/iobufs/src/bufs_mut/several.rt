@@ -1,6 +1,6 @@
 // A row of parts with their sums.
 ghost use Rattle.std.specs.Option.{option_copied};
-ghost use Rattle.std.specs.Prelude.{◌≡◌, ◌+◌, ◌-◌, ◌^◌, ◌<◌, ◌≤◌, ◌++◌, [], ◌∷◌, drop, false, fold, length, map, min, nat_lt, replicate, slice_get, slice_index_or, take, Err, IfNone, IfOk, IfSome, IsOk, IsOkUnless, IsTrue, OnOk, vec_capacity, vec_len};
+ghost use Rattle.std.specs.Prelude.{◌≡◌, ◌+◌, ◌-◌, ◌^◌, ◌<◌, ◌≤◌, ◌++◌, [], ◌∷◌, drop, false, fold, length, map, min, nat_lt, replicate, slice_get, slice_index_or, take, Err, IfNone, IfOk, IfSome, IsOk, IsOkUnless, IsTrue, OnErr, OnOk, vec_capacity, vec_len};
 ghost use Rattle.iobufs_core.specs.Chunks.{first_chunk};
 ghost use Rattle.iobufs_core.specs.MarkedText.{of_view, text_append};
 ghost use Rattle.iobufs_core.specs.Part.{empty_part, part_capacity, part_frozen, part_overwritten, part_put, part_with_len};
@@ -12,6 +12,7 @@ ghost use Rattle.iobufs.specs.Parts.{HaveCapacity, IsParts, kept_parts, parts_ca
 use crate::bufs::IoBufs;
 use crate::bufs::reserved::put_reserved;
 use crate::bufs::row::NewRow;
+use bytes::Bytes;
 use iobufs_core::buf::{IoBuf, IoBufMut};
 use iobufs_core::codec::{Buf, BufError, BufMut};
 use std::alloc::{AllocError, Global};
@@ -235,6 +236,25 @@ impl Several {
         }
     }
 
+    /// Takes the first `n` bytes with their storage, if a part of the row without spare capacity holds just these, and
+    /// others are left.
+    pub(super) fn take_front(&mut self, alloc: Global, n: usize) -> Result<Option<Bytes>, BufError>
+        requires { 0 < n }
+        ensures front { IfOk result (λ front. IfSome front (λ bytes.
+            (bytes ≡ take n (parts_filled self.old)) × (self.new ≡ parts_drained self.old n))) }
+        ensures none { IfOk result (λ front. IfNone front (self.new ≡ self.old)) }
+        ensures unchanged { OnErr result (self.new ≡ self.old) }
+        ensures memory { IsOkUnless result BufError.Memory }
+    {
+        let Some(bytes) = take_first(&mut self.row, alloc, n)? else {
+            return Ok(None);
+        };
+        self.full = self.full.saturating_sub(1);
+        self.len -= n;
+        self.capacity -= n;
+        Ok(Some(bytes))
+    }
+
     /// The first part that holds bytes, or none of them.
     #[tactic(auto, using(crate::proofs::Parts::PartChunks::reading))]
     pub(super) fn chunk(&self) -> &[u8]
@@ -354,6 +374,51 @@ impl Several {
         }
         Ok(whole)
     }
+}
+
+// Takes all bytes of a part with their storage, if they are `n` and it has no spare capacity.
+#[inline(always)]
+pub(super) fn take_whole(
+    alloc: Global,
+    part: &mut IoBufMut,
+    n: usize,
+) -> Result<Option<Bytes>, BufError>
+    requires { 0 < n }
+    ensures whole { IfOk result (λ front. IfSome front (λ bytes.
+        (part.old ≡ record { filled = bytes; spare = 0 }) × (length bytes ≡ n) × (part.new ≡ empty_part 0))) }
+    ensures none { IfOk result (λ front. IfNone front (part.new ≡ part.old)) }
+    ensures unchanged { OnErr result (part.new ≡ part.old) }
+    ensures memory { IsOkUnless result BufError.Memory }
+{
+    if part.len() != n || part.remaining_mut() != 0 {
+        return Ok(None);
+    }
+    Ok(Some(part.copy_to_bytes(alloc, n)?))
+}
+
+// Takes the first part of the row with its storage, if it holds `n` bytes and no spare capacity, and others are left.
+fn take_first(
+    row: &mut VecDeque<IoBufMut>,
+    alloc: Global,
+    n: usize,
+) -> Result<Option<Bytes>, BufError>
+    requires some { 0 < length row.old.items }
+    requires bytes { 0 < n }
+    ensures first { IfOk result (λ front. IfSome front (λ bytes.
+        (row.old.items ≡ record { filled = bytes; spare = 0 } ∷ row.new.items) × (length bytes ≡ n)
+        × (0 < length row.new.items))) }
+    ensures none { IfOk result (λ front. IfNone front (row.new.items ≡ row.old.items)) }
+    ensures unchanged { OnErr result (row.new.items ≡ row.old.items) }
+    ensures memory { IsOkUnless result BufError.Memory }
+{
+    if row.len() == 1 {
+        return Ok(None);
+    }
+    let Some(bytes) = take_whole(alloc, &mut row[0], n)? else {
+        return Ok(None);
+    };
+    row.pop_front();
+    Ok(Some(bytes))
 }
 
 // Copies the bytes of a part to a place of `dst`, as many as fit, and returns the place after them.

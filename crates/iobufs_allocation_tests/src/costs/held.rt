@@ -1,9 +1,11 @@
-// How much memory is held for bytes that are received, and for buffers that are coalesced. A test prints the most
-// bytes held since its last line. `tests/costs` compares the memory that was allocated and not freed meanwhile.
+// How much memory is held for bytes that are received, for buffers that are coalesced, and for chunks after others are
+// gone. A test prints the most bytes held since its last line. `tests/costs` compares the memory that was allocated and
+// not freed meanwhile.
 use crate::costs::calls::ANY;
 use crate::word::mark;
+use iobufs::bufs::IoBufs;
 use iobufs_core::buf::IoBuf;
-use iobufs_core::codec::BufError;
+use iobufs_core::codec::{Buf, BufError};
 use iobufs_frames::{Prefix, Received};
 use iobufs_made::parts;
 use std::alloc::Global;
@@ -118,10 +120,25 @@ fn coalesce_many(rt: &(impl Print + Abort + AllocGlobal)) -> Result<(), Fail> {
     Ok(())
 }
 
+// Advances 65,536 chunks without storage to the last one, which keeps no deque for the others.
+fn drain_chunks(rt: &(impl Print + Abort + AllocGlobal)) -> Result<(), Fail> {
+    let mut text = IoBufs::default();
+    mark(rt, "call");
+    for _ in 0..65536usize {
+        text.append(rt.alloc(), IoBuf::from(b"ab".as_slice()))?;
+    }
+    println!(rt; "chunks {}", 65536 * 64)?;
+    text.advance(131070);
+    println!(rt; "advanced {}", 65536 * 64)?;
+    println!(rt; "last_chunk {}", text.len())?;
+    Ok(())
+}
+
 #[test]
 fn held(rt: HostRuntime) -> Result<(), Fail> {
     for case in &CASES {
         receive(&rt, case)?;
     }
-    coalesce_many(&rt)
+    coalesce_many(&rt)?;
+    drain_chunks(&rt)
 }

@@ -1,5 +1,5 @@
 // A buffer of fixed capacity, to be written.
-ghost use Rattle.std.specs.Prelude.{◌≡◌, ◌+◌, ◌-◌, ◌<◌, ◌≤◌, ◌==◌, [], ◌∷◌, length, drop, replicate, vec_len, vec_capacity, false, IfOk, OnErr, Err, ◌^◌, IsOk, IsOkUnless, IsTrue, IsFalse, MatchResult, nat_le, ◌↔◌, Some, codes, ◌++◌};
+ghost use Rattle.std.specs.Prelude.{◌≡◌, ◌+◌, ◌-◌, ◌<◌, ◌≤◌, ◌==◌, [], ◌∷◌, length, drop, replicate, vec_len, vec_capacity, false, IfOk, OnErr, OnOk, Err, ◌^◌, IsOk, IsOkUnless, IsTrue, IsFalse, MatchResult, nat_le, ◌↔◌, Some, codes, ◌++◌};
 ghost use Rattle.std.specs.Align.{IsLayout};
 ghost use Rattle.iobufs_core.specs.Part.{empty_part, is_bad_layout as bad_layout, part_capacity, part_copied, part_drained, part_overwritten, part_put, part_with_len, part_truncated};
 ghost use Rattle.std.specs.Borrow.{Lends, Array, sem, u8 as byte};
@@ -215,8 +215,8 @@ impl IoBufMut {
         IoBufMut::from_shell(None, storage, start, limit)
     }
 
-    /// Makes an empty buffer of `n` bytes of capacity after the bytes of a block, which are dropped with it (own): a
-    /// caller that pads the block up to an address has an aligned buffer. A block with less room comes back.
+    /// Makes an empty buffer of `n` bytes of capacity after the bytes of a block, which are dropped with it (own, for
+    /// layers): a caller that pads the block up to an address has an aligned buffer. A block with less room comes back.
     pub fn behind(block: Vec<u8>, n: usize) -> Result<IoBufMut, Vec<u8>>
         ensures fits { IsOk result ↔ (vec_len block + n ≤ vec_capacity block) }
         ensures same { MatchResult result (λ b. b ≡ empty_part n) (λ back. back ≡ block) }
@@ -226,6 +226,30 @@ impl IoBufMut {
             return Err(block);
         }
         Ok(IoBufMut::from_storage(block, start, start + n))
+    }
+
+    // Takes all bytes as a `Bytes`, in their storage.
+    fn take_bytes(&mut self, alloc: Global) -> Result<Bytes, BufError>
+        requires full { self.old.spare ≡ 0 }
+        ensures ok { IfOk result (λ bytes. bytes ≡ self.old.filled) }
+        ensures rest { OnOk result (self.new ≡ empty_part 0) }
+        ensures unchanged { OnErr result (self.new ≡ self.old) }
+        ensures memory { IsOkUnless result BufError.Memory }
+    {
+        let whole = mem::replace(self, IoBufMut::default(alloc));
+        let (storage, start, _, shell) = whole.into_storage();
+        match Bytes::from_vec(storage) {
+            Ok(mut bytes) => {
+                bytes.advance(start);
+                Ok(bytes)
+            }
+            Err(refused) => {
+                let storage = refused.value;
+                let limit = storage.len();
+                *self = IoBufMut::from_shell(shell, storage, start, limit);
+                Err(BufError::Memory)
+            }
+        }
     }
 
     // Makes the shell too, so that freezing takes no memory.
@@ -467,6 +491,9 @@ impl Buf for IoBufMut {
     fn copy_to_bytes(&mut self, alloc: Global, n: usize) -> Result<Bytes, BufError> {
         if n == 0 {
             return Ok(Bytes::new());
+        }
+        if n == self.len() && self.remaining_mut() == 0 {
+            return self.take_bytes(alloc);
         }
         let bytes = Bytes::copy_from_slice(alloc, &self.as_ref()[..n])?;
         if n == self.len() {

@@ -1,4 +1,5 @@
 // Buffers as readers and writers of std, and `IoBufs` that are written to one.
+use crate::callers::streams::counts::long;
 use crate::callers::streams::fakes::FakeWriter;
 use crate::same::assert_same;
 use iobufs::bufs::IoBufs;
@@ -28,6 +29,16 @@ fn many_chunks_are_written_bit_by_bit(rt: HostRuntime) -> Result<(), Fail> {
     let mut to = FakeWriter::new(rt.alloc(), 2);
     text.write_to(&mut to)?;
     assert!(rt; to.record.as_slice() == all.as_slice() && text.is_empty());
+    Ok(())
+}
+
+// A long chunk goes by one write.
+#[test]
+fn a_long_chunk_is_written_at_once(rt: HostRuntime) -> Result<(), Fail> {
+    let mut chunk = long(rt.alloc(), 1 << 20)?;
+    let mut to = FakeWriter::new(rt.alloc(), usize::MAX);
+    chunk.write_to(&mut to)?;
+    assert_same!(rt; (to.calls, to.record.len()), (1, 1 << 20));
     Ok(())
 }
 
