@@ -62,7 +62,7 @@ enum iobufs_code {
     IOBUFS_TOO_LONG = 3,       /* a sum of lengths or capacities would pass SIZE_MAX */
     IOBUFS_OUT_OF_RANGE = 4,   /* a range or an offset is outside the bytes, or bytes don't fit */
     IOBUFS_END_OF_BUFFER = 5,  /* fewer bytes remain than the call needs */
-    IOBUFS_INVALID_VARINT = 6, /* the bytes are no varint */
+    IOBUFS_INVALID_VARINT = 6, /* the bytes are an invalid varint */
     IOBUFS_INVALID_LENGTH = 7, /* the length is outside the range */
     IOBUFS_DECLINED = 8,       /* the buffer can't be converted, and stays */
     IOBUFS_BAD_KIND = 9       /* the kind of a bound is unknown */
@@ -73,7 +73,7 @@ typedef uint8_t iobufs_status;
 static inline const char *iobufs_strerror(iobufs_status status) {
     static const char *const texts[] = {
         "done", "an allocation failed", "capacity too large", "lengths or capacities add up to too much",
-        "outside the bytes or the space", "fewer bytes remain", "no varint", "length outside the range",
+        "outside the bytes or the space", "fewer bytes remain", "invalid varint", "length outside the range",
         "the buffer can't be converted", "unknown kind",
     };
     return status < sizeof texts / sizeof *texts ? texts[status] : "no status";
@@ -445,24 +445,24 @@ IOBUFS_CHECKED iobufs_status iobufs_builder_finish(struct iobufs_builder_at *bui
 /* The number of bytes of a varint length: at most ten. (usize::encode_size) */
 size_t iobufs_length_size(size_t n);
 /* Reads the length at the front, from lo to hi, and drops it. (usize::read_cfg)
- * Fails: IOBUFS_END_OF_BUFFER if it may continue after the end; IOBUFS_INVALID_VARINT if it is no varint;
+ * Fails: IOBUFS_END_OF_BUFFER if it may continue after the end; IOBUFS_INVALID_VARINT if it is invalid;
  *   IOBUFS_INVALID_LENGTH if it is outside, which writes it.
  * Keeps: the bytes. */
 IOBUFS_CHECKED iobufs_status iobufs_read_length(struct iobufs_at *bufs, size_t lo, size_t hi, size_t *out);
 /* Reads the length at the front of a view, as iobufs_read_length does. (Read)
- * Fails: IOBUFS_END_OF_BUFFER if it may continue after the end; IOBUFS_INVALID_VARINT if it is no varint;
+ * Fails: IOBUFS_END_OF_BUFFER if it may continue after the end; IOBUFS_INVALID_VARINT if it is invalid;
  *   IOBUFS_INVALID_LENGTH if it is outside, which writes it.
  * Keeps: the bytes. */
 IOBUFS_CHECKED iobufs_status iobuf_read_length(struct iobuf_at *src, size_t lo, size_t hi, size_t *out);
 /* Reads a length from lo to hi and the bytes after it, as one view: shared within a chunk, a copy across chunks.
  * (IoBuf::read_cfg)
  * Fails: IOBUFS_END_OF_BUFFER if the length may continue after the end, or fewer bytes follow; IOBUFS_INVALID_VARINT
- *   if it is no varint; IOBUFS_INVALID_LENGTH if it is outside; IOBUFS_MEMORY, for the copy.
+ *   if it is invalid; IOBUFS_INVALID_LENGTH if it is outside; IOBUFS_MEMORY, for the copy.
  * Keeps: both. */
 IOBUFS_CHECKED iobufs_status iobufs_read_view(struct iobufs_at *bufs, size_t lo, size_t hi, struct iobuf_at *out);
 /* Reads a length and the bytes after it from a view, in its storage, as iobufs_read_view does. (IoBuf::read_cfg)
  * Fails: IOBUFS_END_OF_BUFFER if the length may continue after the end, or fewer bytes follow; IOBUFS_INVALID_VARINT
- *   if it is no varint; IOBUFS_INVALID_LENGTH if it is outside; IOBUFS_MEMORY (reserved).
+ *   if it is invalid; IOBUFS_INVALID_LENGTH if it is outside; IOBUFS_MEMORY (reserved).
  * Keeps: both. */
 IOBUFS_CHECKED iobufs_status iobuf_read_view(struct iobuf_at *src, size_t lo, size_t hi, struct iobuf_at *out);
 
@@ -524,7 +524,7 @@ IOBUFS_CHECKED iobufs_status iobufs_frames_feed(struct iobufs_frames_at *frames,
 /* Takes the first frame, whose length is from lo to hi: shared within a chunk, a copy across chunks. Writes the
  * length that is outside to `wrong`. No further bytes make a frame whole after IOBUFS_INVALID_VARINT or
  * IOBUFS_INVALID_LENGTH. A loop of iobufs_frames_feed and this call is `Frames::run`. (own)
- * Fails: IOBUFS_END_OF_BUFFER if it is not whole yet; IOBUFS_INVALID_VARINT if its length is no varint;
+ * Fails: IOBUFS_END_OF_BUFFER if it is not whole yet; IOBUFS_INVALID_VARINT if its length is invalid;
  *   IOBUFS_INVALID_LENGTH if its length is outside; IOBUFS_MEMORY, for the copy.
  * Keeps: both. */
 IOBUFS_CHECKED iobufs_status iobufs_frames_next(struct iobufs_frames_at *frames, size_t lo, size_t hi, struct iobuf_at *out,
@@ -562,7 +562,7 @@ IOBUFS_CHECKED iobufs_status iobufs_frames_space(struct iobufs_received_at *rece
 IOBUFS_CHECKED iobufs_status iobufs_frames_filled(struct iobufs_received_at *received, size_t n);
 /* Takes the first frame, whose length is from lo to hi, not copied: its body shares the block, and keeps all of it.
  * Writes the length that is outside to `wrong`, as iobufs_frames_next does. (own)
- * Fails: IOBUFS_END_OF_BUFFER if it is not whole yet; IOBUFS_INVALID_VARINT if its length is no varint;
+ * Fails: IOBUFS_END_OF_BUFFER if it is not whole yet; IOBUFS_INVALID_VARINT if its length is invalid;
  *   IOBUFS_INVALID_LENGTH if its length is outside; IOBUFS_MEMORY in the kit's build, where a body
  *   allocates a count.
  * Keeps: both. */

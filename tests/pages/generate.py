@@ -1,13 +1,14 @@
 """The generated parts of the pages: `PARTS[NAME]` makes what is between `<!-- generated: NAME -->` and its end."""
 import re
 
-from pages.tree import CRATES, MARKED, ROOT, STOP, by_layer, declarations, direct, layer, purpose, uses
+from pages.tree import CRATES, MARKED, OWNER, ROOT, STOP, by_layer, declarations, direct, layer, purpose, uses
 from pages.trusted import contracts
 
 # ---- docs/API.md
 
 SUBJECTS = (ROOT / "tests/pages/subjects").read_text().splitlines()
 API = dict(line.split(": ") for line in SUBJECTS if not line.startswith("#"))
+FOR_LAYERS = set(API.pop("for layers").split())
 COLUMNS = re.compile(r" {2,}")  # Between two columns: len  text_len self\.old
 # The rows of conditions: what a caller knows a part of a condition by, and when a call cannot fail.
 SHORT, SURE = (
@@ -89,35 +90,54 @@ def arguments(declared):
 
 
 def row(comment, name, declared):
-    """The row of a call: with its arguments, what it does, requires, its errors, when it cannot fail, the original."""
+    """The row of a call: its name with its type or trait, if that is needed, and its arguments; what it does, requires,
+    its errors, when it cannot fail, the original."""
     conditions = ", ".join(short(" ".join(it.split())) for it in REQUIRES.findall(declared))
     about = errors(declared, comment), sure(declared), original(comment)
     return f"{name}({', '.join(arguments(declared))})", does(comment), conditions, *about
 
 
-def calls(files):
-    """The rows of these files, and the calls that have nothing to say in them."""
+def calls(files, are_for_layers=False):
+    """The rows of the calls in these files, for users or for layers, and those that have nothing to say in them. Each
+    has its type's name, if the files have calls of several."""
+    found = [it for file in files.split() for it in declarations((CRATES / file).read_text())]
+    owners = {owner for _, owner, name, _ in found if name not in FOR_LAYERS}
     rows, plain = [], []
-    for comment, name, declared in (it for file in files.split() for it in declarations((CRATES / file).read_text())):
-        made = row(comment, name, declared)
-        if any(made[2:5]) or "alloc" in arguments(declared):
-            rows.append(made)
-        else:
-            plain.append(name)
+    for comment, owner, name, declared in found:
+        if (name in FOR_LAYERS) == are_for_layers:
+            named = f"{owner}::{name}" if owner and (len(owners) > 1 or are_for_layers) else name
+            made = row(comment, named, declared)
+            is_plain = not any(made[2:5]) and "alloc" not in arguments(declared) and not are_for_layers
+            plain.append(named) if is_plain else rows.append(made)
     return dict.fromkeys(rows), dict.fromkeys(plain)
 
 
+def traits(files):
+    """The traits that the types of these files implement."""
+    texts = [(CRATES / file).read_text() for file in files.split()]
+    return dict.fromkeys(m[1].split("::")[-1] for text in texts for m in OWNER.finditer(text) if m[1])
+
+
+def table(rows):
+    """The lines of a table of calls."""
+    yield "\n|call|does|requires|errors|cannot fail|original|\n|---|---|---|---|---|---|"
+    yield from (f"|`{row[0]}`|" + "|".join(row[1:]) + "|" for row in rows)
+
+
 def api():
-    """The tables of the public calls, by subject."""
+    """The tables of the public calls, by subject, and the one of those for layers."""
     for title, files in API.items():
         rows, plain = calls(files)
         links = ", ".join(f"[{it.rsplit('/', 1)[1]}](../crates/{it})" for it in files.split())
         yield f"\n## {title}\n\nIn {links}."
         if rows:
-            yield "\n|call|does|requires|errors|cannot fail|original|\n|---|---|---|---|---|---|"
-            yield from (f"|`{row[0]}`|" + "|".join(row[1:]) + "|" for row in rows)
+            yield from table(rows)
         if plain:
             yield "\nNeither condition nor error: " + ", ".join(f"`{name}`" for name in plain) + "."
+        if not rows and not plain:
+            yield "\nIts calls are those of " + ", ".join(f"`{name}`" for name in traits(files)) + "."
+    yield "\n## For layers\n\nOther crates of this repository, C or the Rust crate call these. A user needs none."
+    yield from table(row for files in API.values() for row in calls(files, are_for_layers=True)[0])
 
 
 def own():
@@ -125,7 +145,7 @@ def own():
     for title, files in API.items():
         texts = [(CRATES / file).read_text() for file in files.split()]
         found = [name for text in texts for comment, name in TYPE.findall(text) if original(comment) == "own"]
-        found += [name for text in texts for comment, name, _ in declarations(text) if original(comment) == "own"]
+        found += [name for text in texts for comment, _, name, _ in declarations(text) if original(comment) == "own"]
         if found:
             yield f"- {title}: " + ", ".join(f"`{name}`" for name in dict.fromkeys(found))
 
@@ -168,13 +188,14 @@ def matrix():
 
 # What the prover alone reads of a source, up to the brace that ends it: ensures ok {    pub ghost value = {
 CONTRACT = re.compile(r"^ *(?:(?:pub )?ghost|ensures|requires|#!?\[tactic)\b.*\n(?:^ {8,}.*\n)*", re.M)
+RESULTS = ROOT / "bench/RESULTS.md"
 RUST_CRATES = ("iobufs_core", "iobufs", "iobufs_frames", "iobufs_values")
 
 
 def code_lines(files):
-    """How many lines sources have without contracts, comments and empty ones."""
+    """How many lines sources have without contracts, comments, lines of documentation and empty ones."""
     lines = (line.strip() for file in files for line in CONTRACT.sub("", file.read_text()).splitlines())
-    return sum(bool(line) and not line.startswith("//") for line in lines)
+    return sum(bool(line) and not line.startswith(("//", "#[doc = ")) for line in lines)
 
 
 def by_hand():
@@ -186,15 +207,15 @@ def by_hand():
     yield f"|by hand: the wrappers in `src`|{hand[0]}|\n|by hand: the layer of calls in `layer`|{hand[1]}|"
 
 
-def table(name):
+def stored(name):
     """The lines of a table of rust/iobufs/tests/same, each what is before its last arrow and after it."""
     return [line.rsplit(" -> ", 1) for line in (ROOT / "rust/iobufs/tests/same" / name).read_text().splitlines()]
 
 
 def differences():
     """What the Rust crate answers otherwise than the original, and what doesn't compile, by reasons."""
-    original, reasons = dict(table("original")), {}
-    for name, other in table("differences"):
+    original, reasons = dict(stored("original")), {}
+    for name, other in stored("differences"):
         here, reason = other.split(" | ")
         reasons.setdefault(reason, []).append((name, here))
     yield "|for example|original|here|reason|how many|\n|---|---|---|---|--:|"
@@ -202,6 +223,25 @@ def differences():
         (name, here), count = rows[0], len(rows)
         shown, then = (f"`{name[5:].split(' }')[0]} }}`", "compiles") if name[:5] == "use: " else (name, original[name])
         yield f"|{shown}|{then}|{here}|{reason}|{count}|"
+
+
+# A mean of bench/RESULTS.md: - 88 comparable rows: time mean **0.68**, .. 27 above 1; instructions mean **0.77**, ..
+OF_BOTH = r"mean \*\*([\d.]+)\*\*, median [\d.]+, (\d+) above 1"
+MEAN = re.compile(rf"^- (\d+) (rows in which|comparable).*: time {OF_BOTH}; instructions {OF_BOTH}", re.M)
+SLOWEST = re.compile(r"^- Slowest by time (.*?);", re.M)  # - Slowest by time `put_u8_64k_freeze` 3.06, ..; fastest
+
+
+def speed():
+    """The means of bench/RESULTS.md."""
+    yield "||workloads|instructions|more in|time|slower in|\n|---|--:|--:|--:|--:|--:|"
+    for n, (rows, kind, time, slower, instructions, more) in enumerate(MEAN.findall(RESULTS.read_text())):
+        steps = "with the same steps" if kind.startswith("rows") else "all comparable"
+        yield f"|{('Rattle', 'the Rust crate')[n // 2]}, {steps}|{rows}|{instructions}|{more}|{time}|{slower}|"
+
+
+def slowest():
+    """The slowest workloads of the Rust crate by time."""
+    yield f"Slowest by time: {SLOWEST.findall(RESULTS.read_text())[-1]}."
 
 
 def crates():
@@ -237,7 +277,7 @@ def promises():
         yield "|" + ", ".join(f"`{name}`" for name in FIELD.findall(fields)) + f"|{said}|"
 
 
-LANGUAGES = {".rt": "rust", ".c": "c"}
+LANGUAGES = {".rt": "rust", ".rs": "rust", ".c": "c"}
 # The lines of a source that a page shows: // [docs: echo]\n..\n// [docs end]
 SHOWN = re.compile(r"^ *(?://|--) \[docs: ([^\]\n]*)\]\n(.*?)^ *(?://|--) \[docs end\]", re.M | re.S)
 
@@ -245,6 +285,7 @@ SHOWN = re.compile(r"^ *(?://|--) \[docs: ([^\]\n]*)\]\n(.*?)^ *(?://|--) \[docs
 def code(name):
     """The lines of a source or a proof between `// [docs: NAME]` and `// [docs end]` (there `-- ..`)."""
     globs = ["crates/*/src/**/*.rt", "crates/*/proofs/**/*.antt", "bindings/c/examples/*.c"]
+    globs.append("rust/iobufs/examples/*.rs")
     for file in [file for it in globs for file in sorted(ROOT.glob(it))]:
         if found := dict(SHOWN.findall(file.read_text())).get(name):
             path = file.relative_to(ROOT)
@@ -260,7 +301,7 @@ def trusted():
 
 PARTS = {
     "trusted": trusted, "api": api, "own calls": own, "matrix": matrix, "crates": crates, "graph": graph,
-    "promises": promises, "by hand": by_hand, "differences": differences,
+    "promises": promises, "by hand": by_hand, "differences": differences, "speed": speed, "slowest": slowest,
 }
 
 

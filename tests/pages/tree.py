@@ -5,7 +5,7 @@ from functools import cache
 import common
 from common import CRATES, TOP as ROOT
 
-PAGES = [ROOT / it for it in ("README.md", "rust/iobufs/README.md")]
+PAGES = [ROOT / it for it in ("README.md", "rust/iobufs/README.md", "rust/tokio/README.md")]
 PAGES += [page for folder in ("docs", "bench") for page in sorted((ROOT / folder).glob("*.md"))]
 # A generated part of a page: <!-- generated: crates -->\n..\n<!-- end -->
 MARKED = re.compile(r"<!-- generated: ([^>]*) -->\n(.*?)<!-- end -->", re.S)
@@ -18,6 +18,8 @@ STOP = re.compile(r"(?<=\.)\s")  # The end of a sentence, and its blank: first. 
 TRAIT = re.compile(r"^pub trait .*?^\}", re.M | re.S)  # A public trait: pub trait Buf {\n..\n}
 # A function with its comment and attributes: /// Drops.\n    #[inline]\n    pub const fn clear(
 FUNCTION = re.compile(r"((?:^ *///[^\n]*\n)*)(?:^ *#\[[^\n]*\n)*^( *)((?:pub |final |const )*)fn (\w+)", re.M)
+# Where the methods of a type or a trait begin: impl<T: Drop> FrameReader<T> {    impl Decoder for FrameCodec {
+OWNER = re.compile(r"^(?:impl(?:<.*>)? (?:([\w:]+)(?:<.*>)? for )?(\w+)|pub trait (\w+))", re.M)
 # The end of its declaration: with clauses a brace on a line of its own, else one at the end of a line; or a semicolon.
 DECLARATION = re.compile(r"^ *\{$|^(?! *(?:requires|ensures)).*\{$|;$", re.M)
 
@@ -70,13 +72,16 @@ def purpose(crate):
 
 
 def declarations(text):
-    """Each public function of a source, and each function of a public trait: its comment, its name, its declaration."""
+    """Each public function of a source, and each function of a public trait: its comment, its type or trait, its name,
+    its declaration."""
+    owners = [(m.start(), m[2] or m[3]) for m in OWNER.finditer(text)]
     traits = [m.span() for m in TRAIT.finditer(text)]
     for m in FUNCTION.finditer(text):
-        comment, _, public, name = m.groups()
+        comment, indent, public, name = m.groups()
         if "pub" in public or ("///" in comment and any(a < m.start() < b for a, b in traits)):
             rest = text[m.start(4) :]
             end = DECLARATION.search(rest)
             lines = (line.strip() for line in comment.splitlines())
             said = " ".join(line.removeprefix("///").strip() for line in lines if "///" in line)
-            yield said, name, rest[: end.end() if end else 400]
+            owner = next((it for start, it in reversed(owners) if start < m.start() and indent), "")
+            yield said, owner, name, rest[: end.end() if end else 400]

@@ -251,6 +251,26 @@ fn text_clone_drop(n: usize) -> Run {
     timed(count(n), || (0..count(n)).map(|_| mark(black_box(&text).clone().chunk())).sum())
 }
 
+/// The offsets that are searched.
+fn offsets(n: usize) -> impl Iterator<Item = usize> {
+    (0..1000).map(move |i| i * 7919 * 257 % (256 * n))
+}
+
+fn locate(n: usize) -> Run {
+    let text = text(n);
+    let place = |at| text.locate(at).map_or(0, |(index, offset)| (index + offset) as u64);
+    timed(1000, || offsets(n).map(place).sum())
+}
+
+/// Takes 1,000 bytes from the front, up to 200 times of each `IoBufs`.
+fn split_few(n: usize) -> Run {
+    let (copies, turns) = (count(n), (256 * n / 1000).min(200));
+    let mut texts: Vec<IoBufs> = (0..copies).map(|_| text(n)).collect();
+    timed(copies * turns, || {
+        texts.iter_mut().map(|text| (0..turns).map(|_| mark(text.split_to(1000).chunk())).sum::<u64>()).sum()
+    })
+}
+
 fn walk(n: usize) -> Run {
     let text = text(n);
     timed(n * count(n), || {
@@ -358,13 +378,22 @@ fn workloads() -> Vec<Workload> {
     all
 }
 
+/// The workloads of the picture by number of chunks, which run if they are named.
+fn by_chunks() -> impl Iterator<Item = Workload> {
+    [4, 64, 1024, 16384, 65537].into_iter().flat_map(|n| -> [Workload; 2] {
+        [
+            (format!("text{n}_locate"), Box::new(move || locate(n))),
+            (format!("text{n}_split1000_few"), Box::new(move || split_few(n))),
+        ]
+    })
+}
+
 fn main() {
     let words: Vec<String> = env::args().skip(1).collect();
     let (flags, names): (Vec<&String>, Vec<&String>) = words.iter().partition(|word| *word == "--sums");
-    for (name, run) in workloads() {
-        if !names.is_empty() && !names.contains(&&name) {
-            continue;
-        }
+    let is_named = |it: &Workload| names.contains(&&it.0);
+    let usual = workloads().into_iter().filter(|it| names.is_empty() || is_named(it));
+    for (name, run) in usual.chain(by_chunks().filter(is_named)) {
         if flags.is_empty() {
             let each = |(nanos, operations, _): Run| nanos as f64 / operations as f64;
             let least = (0..5).map(|_| each(run())).fold(f64::INFINITY, f64::min);

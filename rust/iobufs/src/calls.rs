@@ -132,19 +132,36 @@ macro_rules! derefs {
 }
 pub(crate) use derefs;
 
-/// Puts at the end: for writable buffers and a builder, which panic by a function of what is asked and what fits.
+/// Puts at the end: for writable buffers and a builder, which panic by a function of what is asked and what fits. The
+/// examples begin with a buffer for eight bytes, and end with what it becomes.
 macro_rules! puts {
-    ($past:path) => {
-        crate::calls::puts! { $past, u16, put_u16; u32, put_u32; u64, put_u64; }
+    ($past:path, $make:literal, $end:literal) => {
+        crate::calls::puts! { $past, $make, $end,
+            u16, put_u16, "[0, 7]"; u32, put_u32, "[0, 0, 0, 7]"; u64, put_u64, "[0, 0, 0, 0, 0, 0, 0, 7]"; }
     };
-    ($past:path, $($number:ty, $put:ident;)*) => {
+    ($past:path, $make:literal, $end:literal, $($number:ty, $put:ident, $bytes:literal;)*) => {
         /// Returns how many bytes may still be put (`BufMut`).
+        ///
+        /// ```
+        #[doc = $make]
+        /// buf.put_u16(7);
+        /// assert_eq!(buf.remaining_mut(), 6);
+        /// ```
         #[inline]
         pub fn remaining_mut(&self) -> usize {
             core::BufMut::remaining_mut(&self.0)
         }
 
-        /// Puts bytes. Panics if they don't fit (`BufMut`).
+        /// Puts a copy of bytes (`BufMut`).
+        ///
+        /// ```
+        #[doc = $make]
+        /// buf.put_slice(b"hello");
+        #[doc = concat!("assert_eq!(buf.", $end, "(), \"hello\");")]
+        /// ```
+        ///
+        /// # Panics
+        /// Panics if they don't fit.
         #[inline]
         #[track_caller]
         pub fn put_slice(&mut self, src: &[u8]) {
@@ -159,7 +176,16 @@ macro_rules! puts {
             core::BufMut::try_put_slice(&mut self.0, src)
         }
 
-        /// Puts a byte `n` times. Panics if they don't fit (`BufMut`).
+        /// Puts a byte `n` times (`BufMut`).
+        ///
+        /// ```
+        #[doc = $make]
+        /// buf.put_bytes(b'-', 3);
+        #[doc = concat!("assert_eq!(buf.", $end, "(), \"---\");")]
+        /// ```
+        ///
+        /// # Panics
+        /// Panics if they don't fit.
         #[inline]
         #[track_caller]
         pub fn put_bytes(&mut self, value: u8, n: usize) {
@@ -168,14 +194,32 @@ macro_rules! puts {
             }
         }
 
-        /// Puts a length as a varint. Panics if it doesn't fit (`usize::write`).
+        /// Puts a length as a varint, of [`length_size`](crate::length_size) bytes (`usize::write`).
+        ///
+        /// ```
+        #[doc = $make]
+        /// buf.put_length(300);
+        #[doc = concat!("assert_eq!(buf.", $end, "(), [0xac, 0x02]);")]
+        /// ```
+        ///
+        /// # Panics
+        /// Panics if it doesn't fit.
         #[inline]
         #[track_caller]
         pub fn put_length(&mut self, n: usize) {
             self.put_slice(crate::proved::iobufs_frames::Prefix::Spelled.head(n).as_slice());
         }
 
-        /// Puts a byte. Panics if it doesn't fit (`BufMut`).
+        /// Puts a byte (`BufMut`).
+        ///
+        /// ```
+        #[doc = $make]
+        /// buf.put_u8(7);
+        #[doc = concat!("assert_eq!(buf.", $end, "(), [7]);")]
+        /// ```
+        ///
+        /// # Panics
+        /// Panics if it doesn't fit.
         #[inline]
         #[track_caller]
         pub fn put_u8(&mut self, n: u8) {
@@ -183,7 +227,16 @@ macro_rules! puts {
         }
 
         $(
-            /// Puts a number, the highest byte first. Panics if it doesn't fit (`BufMut`).
+            /// Puts a number, the highest byte first (`BufMut`).
+            ///
+            /// ```
+            #[doc = $make]
+            #[doc = concat!("buf.", stringify!($put), "(7);")]
+            #[doc = concat!("assert_eq!(buf.", $end, "(), ", $bytes, ");")]
+            /// ```
+            ///
+            /// # Panics
+            /// Panics if it doesn't fit.
             #[inline]
             #[track_caller]
             pub fn $put(&mut self, n: $number) {
@@ -194,35 +247,81 @@ macro_rules! puts {
 }
 pub(crate) use puts;
 
-/// Reads from the front: for every buffer but a builder. A copy of more bytes than there are panics by a function.
+/// Reads from the front: for every buffer but a builder. A copy of more bytes than there are panics by a function. The
+/// examples begin with the bytes `hello`.
 macro_rules! reads {
-    ($short:path) => {
+    ($short:path, $make:literal) => {
         /// Returns how many bytes are left (`Buf`).
+        ///
+        /// ```
+        #[doc = $make]
+        /// buf.advance(1);
+        /// assert_eq!(buf.remaining(), 4);
+        /// ```
         #[inline]
         pub fn remaining(&self) -> usize {
             self.len()
         }
 
         /// Returns whether bytes are left (`Buf`).
+        ///
+        /// ```
+        #[doc = $make]
+        /// assert!(buf.has_remaining());
+        /// buf.advance(5);
+        /// assert!(!buf.has_remaining());
+        /// ```
         #[inline]
         pub fn has_remaining(&self) -> bool {
             !self.is_empty()
         }
 
-        /// Returns the first chunk of the bytes (`Buf`).
+        /// Returns the first chunk of the bytes, without a copy (`Buf`). It is empty if no byte is left.
+        ///
+        /// ```
+        #[doc = $make]
+        /// let mut bytes = Vec::new();
+        /// while buf.has_remaining() {
+        ///     bytes.extend_from_slice(buf.chunk());
+        ///     buf.advance(buf.chunk().len());
+        /// }
+        /// assert_eq!(bytes, b"hello");
+        /// ```
         #[inline]
         pub fn chunk(&self) -> &[u8] {
             core::Buf::chunk(&self.0)
         }
 
-        /// Drops the first `n` bytes. Panics if there are fewer (`Buf`).
+        /// Drops the first `n` bytes (`Buf`).
+        ///
+        /// ```
+        #[doc = $make]
+        /// buf.advance(2);
+        /// let mut rest = [0; 3];
+        /// buf.copy_to_slice(&mut rest);
+        /// assert_eq!(&rest, b"llo");
+        /// ```
+        ///
+        /// # Panics
+        /// Panics if there are fewer bytes.
         #[inline(always)]
         #[track_caller]
         pub fn advance(&mut self, n: usize) {
             assert!(core::Buf::try_advance(&mut self.0, n), "{}", crate::error::PAST);
         }
 
-        /// Fills `dst` with the first bytes, and drops these. Panics if there are fewer (`Buf`).
+        /// Fills `dst` with the first bytes, and drops these (`Buf`).
+        ///
+        /// ```
+        #[doc = $make]
+        /// let mut front = [0; 4];
+        /// buf.copy_to_slice(&mut front);
+        /// assert_eq!(&front, b"hell");
+        /// assert_eq!(buf.remaining(), 1);
+        /// ```
+        ///
+        /// # Panics
+        /// Panics if there are fewer bytes than `dst` has.
         #[inline]
         #[track_caller]
         pub fn copy_to_slice(&mut self, dst: &mut [u8]) {
@@ -231,8 +330,17 @@ macro_rules! reads {
             }
         }
 
-        /// Acts as `copy_to_slice`, if there are enough bytes; else nothing changes, and the error has both lengths
-        /// (`Buf`).
+        /// Fills `dst` with the first bytes, and drops these, if there are enough (`Buf`).
+        ///
+        /// ```
+        #[doc = $make]
+        /// let error = buf.try_copy_to_slice(&mut [0; 6]).unwrap_err();
+        /// assert_eq!((error.requested, error.available), (6, 5));
+        /// assert_eq!(buf.remaining(), 5); // nothing changed
+        /// ```
+        ///
+        /// # Errors
+        /// Returns both lengths if there are fewer bytes than `dst` has; then nothing changes.
         #[inline]
         pub fn try_copy_to_slice(&mut self, dst: &mut [u8]) -> Result<(), crate::TryGetError> {
             core::Buf::try_copy_to_slice(&mut self.0, dst).map_err(crate::error::short)
@@ -241,26 +349,45 @@ macro_rules! reads {
 }
 pub(crate) use reads;
 
-/// Takes from the front, and reads numbers and lengths: for `IoBuf` and `IoBufs`.
+/// Takes from the front, and reads numbers and lengths: for `IoBuf` and `IoBufs`, by whose name the examples call it.
 macro_rules! gets {
-    () => {
-        crate::calls::gets! {
-            u8, get_u8, try_get_u8;
-            u16, get_u16, try_get_u16;
-            u32, get_u32, try_get_u32;
-            u64, get_u64, try_get_u64;
+    ($buffer:literal) => {
+        crate::calls::gets! { $buffer,
+            u8, get_u8, try_get_u8, "&[7, 8]";
+            u16, get_u16, try_get_u16, "&[0, 7, 8]";
+            u32, get_u32, try_get_u32, "&[0, 0, 0, 7, 8]";
+            u64, get_u64, try_get_u64, "&[0, 0, 0, 0, 0, 0, 0, 7, 8]";
         }
     };
-    ($($number:ty, $get:ident, $try_get:ident;)*) => {
-        /// Takes the first `n` bytes as one view: shared within a chunk, copied across chunks. Panics if there are
-        /// fewer.
+    ($buffer:literal, $($number:ty, $get:ident, $try_get:ident, $bytes:literal;)*) => {
+        /// Takes the first `n` bytes as one view: shared within a chunk, copied across chunks.
+        ///
+        /// ```
+        #[doc = concat!("let mut buf = iobufs::", $buffer, "::from(b\"hello\");")]
+        /// let view: iobufs::IoBuf = buf.take_view(2);
+        /// assert_eq!(view, "he");
+        /// assert_eq!(buf, "llo");
+        /// ```
+        ///
+        /// # Panics
+        /// Panics if there are fewer bytes.
         #[inline]
         #[track_caller]
         pub fn take_view(&mut self, n: usize) -> IoBuf {
             self.taken(n, "take_owned out of bounds")
         }
 
-        /// Takes the first `n` bytes, as `take_view` does, as a `T`. Panics if there are fewer (`Buf`).
+        /// Takes the first `n` bytes, as [`take_view`](Self::take_view) does, as a `T` (`Buf`).
+        ///
+        /// ```
+        #[doc = concat!("let mut buf = iobufs::", $buffer, "::from(b\"hello\");")]
+        /// let front = buf.take_owned::<bytes::Bytes>(2);
+        /// let rest: Vec<u8> = buf.take_owned(3);
+        /// assert_eq!((&front[..], &rest[..]), (&b"he"[..], &b"llo"[..]));
+        /// ```
+        ///
+        /// # Panics
+        /// Panics if there are fewer bytes.
         #[inline]
         #[track_caller]
         pub fn take_owned<T: From<IoBuf>>(&mut self, n: usize) -> T {
@@ -278,7 +405,16 @@ macro_rules! gets {
         }
 
         $(
-            /// Reads the number at the front, the highest byte first. Panics if there are fewer bytes (`Buf`).
+            /// Reads the number at the front, the highest byte first (`Buf`).
+            ///
+            /// ```
+            #[doc = concat!("let mut buf = iobufs::", $buffer, "::from(", $bytes, ");")]
+            #[doc = concat!("assert_eq!(buf.", stringify!($get), "(), 7);")]
+            /// assert_eq!(buf, [8]);
+            /// ```
+            ///
+            /// # Panics
+            /// Panics if there are fewer bytes.
             #[inline]
             #[track_caller]
             pub fn $get(&mut self) -> $number {
@@ -288,8 +424,17 @@ macro_rules! gets {
                 }
             }
 
-            /// Reads the number at the front, the highest byte first; if there are fewer bytes, nothing changes
-            /// (`Buf`).
+            /// Reads the number at the front, the highest byte first (`Buf`).
+            ///
+            /// ```
+            #[doc = concat!("let mut buf = iobufs::", $buffer, "::from(", $bytes, ");")]
+            #[doc = concat!("assert_eq!(buf.", stringify!($try_get), "().unwrap(), 7);")]
+            /// buf.clear();
+            #[doc = concat!("assert!(buf.", stringify!($try_get), "().is_err());")]
+            /// ```
+            ///
+            /// # Errors
+            /// Returns both lengths if there are fewer bytes; then nothing changes.
             #[inline]
             pub fn $try_get(&mut self) -> Result<$number, crate::TryGetError> {
                 let mut bytes = [0; size_of::<$number>()];
@@ -298,7 +443,19 @@ macro_rules! gets {
             }
         )*
 
-        /// Reads the length at the front, if it is in the range (`usize::read_cfg`).
+        /// Reads the length at the front, a varint, if it is in the range (`usize::read_cfg`).
+        ///
+        /// ```
+        #[doc = concat!("let mut buf = iobufs::", $buffer, "::from(b\"\\xac\\x02\");")]
+        /// assert_eq!(buf.read_length(..=255), Err(iobufs::Error::InvalidLength(300)));
+        /// assert_eq!(buf.read_length(..=1024), Ok(300));
+        /// assert_eq!(buf.read_length(..), Err(iobufs::Error::EndOfBuffer));
+        /// ```
+        ///
+        /// # Errors
+        /// Returns [`Error::InvalidVarint`](crate::Error::InvalidVarint) if no varint of 64 bits begins here,
+        /// [`Error::InvalidLength`](crate::Error::InvalidLength) if the length is outside the range, and
+        /// [`Error::EndOfBuffer`](crate::Error::EndOfBuffer) if the bytes end inside the varint. Then nothing changes.
         #[inline]
         pub fn read_length(&mut self, range: impl RangeBounds<usize>) -> Result<usize, crate::Error> {
             let range = core::RangeCfg::new(range);
@@ -307,6 +464,17 @@ macro_rules! gets {
 
         /// Reads the bytes after a length in the range, as one view: shared within a chunk, copied across chunks
         /// (`IoBuf::read_cfg`).
+        ///
+        /// ```
+        #[doc = concat!("let mut buf = iobufs::", $buffer, "::from(b\"\\x05world\");")]
+        /// assert!(buf.read_view(..=4).is_err());
+        /// assert_eq!(buf.read_view(..=1024)?, "world");
+        /// # Ok::<(), iobufs::Error>(())
+        /// ```
+        ///
+        /// # Errors
+        /// Returns the errors of [`read_length`](Self::read_length), and
+        /// [`Error::EndOfBuffer`](crate::Error::EndOfBuffer) if fewer bytes follow. Then nothing changes.
         #[inline]
         pub fn read_view(&mut self, range: impl RangeBounds<usize>) -> Result<IoBuf, crate::Error> {
             let range = core::RangeCfg::new(range);

@@ -1,12 +1,21 @@
 //! Values that are written and read, by calls with the names of the original's codec.
 //!
-//! A number of a fixed size is written with its highest byte first, a `usize` as a length, and an `IoBuf` after its
-//! length. A `bool` is one byte, an `Option` a `bool` and then its value, an array its bytes, a `Vec` its length and
-//! its items, a `String` its length and its bytes, a tuple its fields. A view that is read shares the buffer's storage,
-//! if it is in one chunk. **A value is read whole: if that fails, the buffer is unchanged.**
+//! | value | bytes | [`Cfg`](Decode::Cfg) |
+//! |---|---|---|
+//! | `u8` to `u128`, `i8` to `i128` | the highest byte first | `()` |
+//! | `usize` | a length: a varint | a [`RangeCfg`] |
+//! | `bool` | 0 or 1 | `()` |
+//! | `[u8; N]` | as they are | `()` |
+//! | [`IoBuf`], [`Bytes`], `String` | their length, then their bytes | a [`RangeCfg`] |
+//! | `Option<T>` | a `bool`, then the value if there is one | that of `T` |
+//! | `Vec<T>` | the number of items as a length, then each item | a [`RangeCfg`], and that of `T` |
+//! | a tuple of two to six | each field | a tuple of theirs |
 //!
-//! A type of a caller is written and read as a tuple of its fields, or as one of several kinds after a byte that tells
-//! which:
+//! A view that is read shares the buffer's storage, if it is in one chunk. **A value is read whole: if that fails, the
+//! buffer is unchanged.**
+//!
+//! A struct of a caller is written and read as the tuple of its fields, by [`fields!`](crate::fields). An enum is a byte
+//! that says which variant it is, and then the variant's fields, by [`kinds!`](crate::kinds):
 //!
 //! ```
 //! use iobufs::IoBuf;
@@ -23,10 +32,11 @@
 //! let events = vec![Event::Put(Entry { number: 1, time: -2, note: "3".into(), body: b"4".into() }), Event::Flush];
 //! let mut bufs = events.encode_iobufs();
 //! assert_eq!(Vec::<Event>::read_cfg(&mut bufs, &((..9).into(), ())), Ok(events));
-//! assert!(Event::read_cfg(&mut IoBuf::from(b"\x01\0\0\0\x07\x05"), &()).is_err()); // no `bool`
+//! assert!(Event::read_cfg(&mut IoBuf::from(b"\x01\0\0\0\x07\x05"), &()).is_err()); // an invalid `bool`
 //! ```
 //!
-//! `ByParts` is what these write, for types that need more.
+//! Both write a [`ByParts`], which types that need more implement themselves. `examples/client.rs` sends such records
+//! in frames, and keeps them in pages.
 #![forbid(unsafe_code)]
 use crate::error::{LAYOUT, PAST, fault, out_of_memory};
 use crate::kit::{Global, bytes as kit};
@@ -40,8 +50,8 @@ use std::ops::RangeBounds;
 pub use core::RangeCfg;
 pub use values::{Either, Kind};
 
-/// The proved traits, for values that no tuple describes, and what they name. Their clauses are comments here: whoever
-/// implements one has to meet them.
+/// The proved traits, for values that no tuple describes, and the types that they name. An implementation has to do
+/// what each method's comment says.
 pub mod proved {
     pub use crate::kit::Global;
     pub use crate::proved::iobufs_core::codec::{BufMut, BufsMut, EncodeSize, Error, Peek, Write};
@@ -49,7 +59,15 @@ pub mod proved {
 }
 
 impl RangeCfg {
-    /// Admits this length alone.
+    /// Accepts this length alone.
+    ///
+    /// ```
+    /// use iobufs::codec::{Decode, RangeCfg};
+    ///
+    /// let mut buf = iobufs::IoBuf::from(b"\x03one");
+    /// assert!(String::read_cfg(&mut buf, &RangeCfg::exact(2)).is_err());
+    /// assert_eq!(String::read_cfg(&mut buf, &RangeCfg::exact(3)), Ok("one".into()));
+    /// ```
     pub fn exact(n: usize) -> Self {
         RangeCfg { lo: n, hi: n }
     }
@@ -61,7 +79,16 @@ impl<R: RangeBounds<usize>> From<R> for RangeCfg {
     }
 }
 
-/// A source of values: `IoBuf` and `IoBufs`.
+/// A source of values: [`IoBuf`] and [`IoBufs`].
+///
+/// ```
+/// use iobufs::codec::{Decode, Source};
+///
+/// fn pair(from: &mut impl Source) -> Result<(u16, u8), iobufs::Error> {
+///     Decode::read_cfg(from, &((), ()))
+/// }
+/// assert_eq!(pair(&mut iobufs::IoBuf::from(b"\0\x07\x08")), Ok((7, 8)));
+/// ```
 pub trait Source: Buf {
     #[doc(hidden)]
     type Inner: core::Peek;
@@ -70,7 +97,18 @@ pub trait Source: Buf {
     fn inner(&mut self) -> &mut Self::Inner;
 }
 
-/// A destination of values: `IoBufMut`, `IoBufsMut` and `Builder`.
+/// A destination of values: [`IoBufMut`], [`IoBufsMut`] and [`Builder`].
+///
+/// ```
+/// use iobufs::codec::{Encode, Sink};
+///
+/// fn put_pair(to: &mut impl Sink) {
+///     (7u16, 8u8).write(to);
+/// }
+/// let mut buf = iobufs::IoBufMut::with_capacity(3);
+/// put_pair(&mut buf);
+/// assert_eq!(buf, [0, 7, 8]);
+/// ```
 pub trait Sink: BufMut {
     #[doc(hidden)]
     type Inner: core::BufMut;
@@ -99,7 +137,15 @@ wrapped! {
     Sink Builder crate::proved::iobufs::Builder;
 }
 
-/// A source of one whole value: a buffer to write is frozen first.
+/// A source of one whole value, for [`Decode::decode_cfg`]: any buffer of this crate, a [`Bytes`] or a [`BytesMut`]. A
+/// buffer to write is frozen first.
+///
+/// ```
+/// use iobufs::codec::Decode;
+///
+/// assert_eq!(u16::decode_cfg(iobufs::IoBufMut::from(b"\0\x07"), &()), Ok(7));
+/// assert_eq!(u16::decode_cfg(bytes::Bytes::from_static(b"\0\x07"), &()), Ok(7));
+/// ```
 pub trait Input: Into<Self::Buf> {
     /// The source that it becomes.
     type Buf: Source;
@@ -115,34 +161,114 @@ macro_rules! inputs {
 
 inputs! { IoBuf IoBuf IoBufMut IoBuf Bytes IoBuf BytesMut IoBuf IoBufs IoBufs IoBufsMut IoBufs }
 
-/// What is written.
+/// A value that can be written. A type of a caller becomes one by [`fields!`](crate::fields),
+/// [`kinds!`](crate::kinds) or [`by_parts!`](crate::by_parts).
+///
+/// ```
+/// fn size(value: &impl iobufs::codec::Written) -> usize {
+///     iobufs::codec::Encode::encode_size(value)
+/// }
+/// assert_eq!(size(&(7u16, true, [0u8; 4])), 7);
+/// ```
 pub trait Written: core::Write {}
 
 impl<T: core::Write> Written for T {}
 
-/// What is written and read.
+/// A value that can be written and read. A type of a caller becomes one as it becomes [`Written`].
+///
+/// ```
+/// use iobufs::codec::{Decode, Encode, Value};
+///
+/// fn is_read_back<T: Value + PartialEq>(value: T, cfg: &<T as Decode>::Cfg) -> bool {
+///     <T as Decode>::decode_cfg(value.encode(), cfg).is_ok_and(|read| read == value)
+/// }
+/// assert!(is_read_back((7u16, "one".to_string()), &((), (..=32).into())));
+/// ```
 pub trait Value: Written + values::Look {}
 
 impl<T: Written + values::Look> Value for T {}
 
-/// Writing a value.
+/// Writing a value. Each [`Written`] has it.
+///
+/// ```
+/// use iobufs::codec::Encode;
+///
+/// assert_eq!((7u16, "one".to_string()).encode(), "\0\x07\x03one");
+/// ```
 pub trait Encode {
-    /// Returns the number of bytes. Panics if they are more than `usize::MAX`.
+    /// Returns the number of bytes.
+    ///
+    /// ```
+    /// # use iobufs::codec::Encode;
+    /// assert_eq!((7u16, 300usize).encode_size(), 4); // 300 as a varint has two bytes
+    /// ```
+    ///
+    /// # Panics
+    /// Panics if they are more than `usize::MAX`.
     fn encode_size(&self) -> usize;
 
-    /// Returns how many of them `write_bufs` doesn't push.
+    /// Returns how many of them [`write_bufs`](Self::write_bufs) doesn't push.
+    ///
+    /// ```
+    /// # use iobufs::codec::Encode;
+    /// let value = (7u16, iobufs::IoBuf::from("hello"));
+    /// assert_eq!((value.encode_size(), value.encode_inline_size()), (8, 3));
+    /// ```
+    ///
+    /// # Panics
+    /// Panics if the value has more bytes than `usize::MAX`.
     fn encode_inline_size(&self) -> usize;
 
-    /// Puts it. Panics if it doesn't fit: then nothing is put.
+    /// Puts the value into a buffer.
+    ///
+    /// ```
+    /// # use iobufs::codec::Encode;
+    /// let mut buf = iobufs::IoBufMut::with_capacity(8);
+    /// (7u16, true).write(&mut buf);
+    /// assert_eq!(buf, [0, 7, 1]);
+    /// ```
+    ///
+    /// # Panics
+    /// Panics if the value doesn't fit: then nothing is put.
     fn write(&self, buf: &mut impl Sink);
 
-    /// Puts it, with views pushed and not copied. Panics if what isn't pushed doesn't fit.
+    /// Puts the value into a builder, with its views pushed and not copied.
+    ///
+    /// ```
+    /// # use iobufs::codec::Encode;
+    /// let value = (7u16, iobufs::IoBuf::from("hello"));
+    /// let mut builder = iobufs::Builder::new(value.encode_inline_size());
+    /// value.write_bufs(&mut builder);
+    /// assert_eq!(builder.finish(), "\0\x07\x05hello");
+    /// ```
+    ///
+    /// # Panics
+    /// Panics if the bytes that aren't pushed don't fit: then nothing is put.
     fn write_bufs(&self, buf: &mut Builder);
 
-    /// Writes it into a buffer of exactly its size.
+    /// Writes the value into storage of exactly its size.
+    ///
+    /// ```
+    /// # use iobufs::codec::Encode;
+    /// assert_eq!(vec![7u16, 8].encode(), &[2, 0, 7, 0, 8][..]);
+    /// ```
+    ///
+    /// # Panics
+    /// Panics if the value has more bytes than `isize::MAX`.
     fn encode(&self) -> Bytes;
 
-    /// Writes it into an `IoBufs`, without copying its views.
+    /// Writes the value into an [`IoBufs`], without copying its views.
+    ///
+    /// ```
+    /// # use iobufs::codec::Encode;
+    /// let body = iobufs::IoBuf::from(b"hello".to_vec());
+    /// let bufs = (7u16, body.clone()).encode_iobufs();
+    /// assert_eq!(bufs, "\0\x07\x05hello");
+    /// assert_eq!(bufs.chunk_at(1).unwrap().as_ptr(), body.as_ptr());
+    /// ```
+    ///
+    /// # Panics
+    /// Panics if the value has more bytes than `usize::MAX`.
     fn encode_iobufs(&self) -> IoBufs;
 }
 
@@ -198,15 +324,43 @@ fn written<T>(made: Result<T, core::Error>) -> T {
     }
 }
 
-/// Reading a value.
+/// Reading a value. Each [`Value`] has it.
+///
+/// ```
+/// use iobufs::IoBuf;
+/// use iobufs::codec::Decode;
+///
+/// let mut buf = IoBuf::from(b"\0\x07\x03one");
+/// assert_eq!(u16::read_cfg(&mut buf, &()), Ok(7));
+/// assert_eq!(String::read_cfg(&mut buf, &(..=32).into()), Ok("one".into()));
+/// ```
 pub trait Decode: Sized {
-    /// What is required of the value: `()`, or which lengths are admitted, or a tuple of these.
+    /// The requirement of a value: `()`, a [`RangeCfg`] of lengths, or a tuple of these.
     type Cfg;
 
-    /// Reads a value from the front, whole. An error leaves the buffer unchanged.
+    /// Reads a value from the front, whole.
+    ///
+    /// ```
+    /// # use iobufs::{Error, IoBufs, codec::Decode};
+    /// let mut buf = IoBufs::from(b"\0\x07\x05");
+    /// assert_eq!(<(u16, bool)>::read_cfg(&mut buf, &((), ())), Err(Error::InvalidBool));
+    /// assert_eq!(buf, "\0\x07\x05"); // nothing changed
+    /// ```
+    ///
+    /// # Errors
+    /// Returns the [`Error`] that says what is wrong. Then the buffer is unchanged.
     fn read_cfg(buf: &mut impl Source, cfg: &Self::Cfg) -> Result<Self, Error>;
 
-    /// Reads the value that is all of the buffer. Returns `Error::ExtraData` if bytes are left after it.
+    /// Reads the value that is all of the buffer.
+    ///
+    /// ```
+    /// # use iobufs::{Error, IoBuf, codec::Decode};
+    /// assert_eq!(u16::decode_cfg(IoBuf::from(b"\0\x07"), &()), Ok(7));
+    /// assert_eq!(u16::decode_cfg(IoBuf::from(b"\0\x07\x08"), &()), Err(Error::ExtraData(1)));
+    /// ```
+    ///
+    /// # Errors
+    /// Returns the errors of [`read_cfg`](Self::read_cfg), and [`Error::ExtraData`] if bytes are left after the value.
     fn decode_cfg(buf: impl Input, cfg: &Self::Cfg) -> Result<Self, Error>;
 }
 
@@ -289,22 +443,80 @@ impl From<Error> for values::Fault {
 /// assert_eq!(Even::decode_cfg(Even(8).encode(), &()).map(|it| it.0), Ok(8));
 /// ```
 pub trait ByParts: Sized {
-    /// What it is read as.
+    /// The value as which it is read.
     type Parts: Value;
-    /// What is required of it.
+    /// The requirement of the value: `()`, or a range of lengths.
     type Cfg;
 
-    /// Returns what this requires of the parts.
+    /// Returns the requirement of the parts.
+    ///
+    /// ```
+    /// use iobufs::codec::{ByParts, Decode, RangeCfg, Written};
+    /// use iobufs::{Error, IoBuf};
+    ///
+    /// struct Name(String);
+    ///
+    /// impl ByParts for Name {
+    ///     type Parts = String;
+    ///     type Cfg = RangeCfg;
+    ///
+    ///     fn cfg(lengths: &RangeCfg) -> RangeCfg {
+    ///         lengths.clone()
+    ///     }
+    ///
+    ///     fn from_parts(name: String) -> Result<Self, Error> {
+    ///         Ok(Name(name))
+    ///     }
+    ///
+    ///     fn parts(&self) -> impl Written {
+    ///         &self.0
+    ///     }
+    /// }
+    /// iobufs::by_parts! { Name }
+    ///
+    /// assert!(Name::decode_cfg(IoBuf::from(b"\x03Eve"), &(..=2).into()).is_err());
+    /// assert!(Name::decode_cfg(IoBuf::from(b"\x03Eve"), &(..=32).into()).is_ok());
+    /// ```
     fn cfg(cfg: &Self::Cfg) -> <Self::Parts as values::Look>::Cfg;
 
-    /// Makes the value of its parts, if they are admitted.
+    /// Makes the value of its parts.
+    ///
+    /// # Errors
+    /// Returns [`Error::Invalid`] with the type's name and a reason if it doesn't accept the parts.
     fn from_parts(parts: Self::Parts) -> Result<Self, Error>;
 
-    /// Returns what is written of it.
+    /// Returns the value that is written: a tuple, borrowed or not, with the bytes of `Parts`.
     fn parts(&self) -> impl Written;
 }
 
-/// Makes a type that is `ByParts` a value: `by_parts! { Type }`, or `by_parts! { impl[T: Value] Type<T> }`.
+/// Makes a type that is [`ByParts`](crate::codec::ByParts) a value: `by_parts! { Type }`, or
+/// `by_parts! { impl[T: Value] Type<T> }`.
+///
+/// ```
+/// use iobufs::codec::{ByParts, Encode, Value, Written};
+///
+/// struct Pair<T>(T, T);
+///
+/// impl<T: Value<Cfg: Clone>> ByParts for Pair<T> {
+///     type Parts = (T, T);
+///     type Cfg = <(T, T) as iobufs::codec::proved::Look>::Cfg;
+///
+///     fn cfg(cfg: &Self::Cfg) -> Self::Cfg {
+///         cfg.clone()
+///     }
+///
+///     fn from_parts(parts: (T, T)) -> Result<Self, iobufs::Error> {
+///         Ok(Pair(parts.0, parts.1))
+///     }
+///
+///     fn parts(&self) -> impl Written {
+///         (&self.0, &self.1)
+///     }
+/// }
+/// iobufs::by_parts! { impl[T: Value<Cfg: Clone>] Pair<T> }
+///
+/// assert_eq!(Pair(7u16, 8).encode(), &[0, 7, 0, 8][..]);
+/// ```
 #[macro_export]
 macro_rules! by_parts {
     ($type:ty) => { $crate::by_parts! { impl[] $type } };
@@ -354,8 +566,26 @@ macro_rules! by_parts {
     };
 }
 
-/// Makes a struct of up to six fields a value, field by field: `fields! { Entry { number: u32, body: IoBuf = ..=1024 } }`.
-/// After `=` is what is required of a field, `()` if it isn't there.
+/// Makes a struct of up to six fields a value, field by field. A field's requirement is after its `=`: a range of
+/// lengths. A field without one requires `()`.
+///
+/// ```
+/// use iobufs::codec::{Decode, Encode};
+/// use iobufs::{Error, IoBuf};
+///
+/// #[derive(Debug, PartialEq)]
+/// struct Entry {
+///     number: u32,
+///     body: IoBuf,
+/// }
+/// iobufs::fields! { Entry { number: u32, body: IoBuf = ..=1024 } }
+///
+/// let entry = Entry { number: 7, body: "hello".into() };
+/// let bytes = entry.encode();
+/// assert_eq!(bytes, "\0\0\0\x07\x05hello");
+/// assert_eq!(Entry::decode_cfg(bytes, &()), Ok(entry));
+/// assert_eq!(Entry::decode_cfg(IoBuf::from(b"\0\0\0\x07\x81\x08"), &()), Err(Error::InvalidLength(1025)));
+/// ```
 #[macro_export]
 macro_rules! fields {
     ($name:ident { $($field:ident: $type:ty $(= $cfg:expr)?),+ $(,)? }) => {
@@ -383,8 +613,23 @@ macro_rules! fields {
     };
 }
 
-/// Makes an enum a value, a byte and then the fields of a variant, up to six:
-/// `kinds! { Event { 0 => Put(key: u32, body: IoBuf = ..=1024), 1 => Flush } }`.
+/// Makes an enum a value: a byte that says which variant it is, and then the variant's fields, up to six.
+///
+/// ```
+/// use iobufs::codec::{Decode, Encode};
+/// use iobufs::{Error, IoBuf};
+///
+/// #[derive(Debug, PartialEq)]
+/// enum Event {
+///     Put(u32, IoBuf),
+///     Flush,
+/// }
+/// iobufs::kinds! { Event { 0 => Put(key: u32, body: IoBuf = ..=1024), 1 => Flush } }
+///
+/// assert_eq!(Event::Put(7, "hi".into()).encode(), "\0\0\0\0\x07\x02hi");
+/// assert_eq!(Event::decode_cfg(IoBuf::from(b"\x01"), &()), Ok(Event::Flush));
+/// assert_eq!(Event::decode_cfg(IoBuf::from(b"\x02"), &()), Err(Error::InvalidEnum(2)));
+/// ```
 #[macro_export]
 macro_rules! kinds {
     ($name:ident { $($tag:literal => $kind:ident $(($($field:ident: $type:ty $(= $cfg:expr)?),+))?),+ $(,)? }) => {

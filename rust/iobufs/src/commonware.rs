@@ -72,9 +72,25 @@ impl Read for IoBuf {
     }
 }
 
-/// Encoding into an `IoBufs`, which copies no view.
+/// Encoding into an [`IoBufs`], which copies no view: of the values of the crate `commonware-codec`.
+///
+/// ```
+/// use iobufs::EncodeExt;
+///
+/// assert_eq!(iobufs::IoBuf::from("hello").encode_iobufs(), "\x05hello");
+/// ```
 pub trait EncodeExt: EncodeSize + Write {
-    /// Writes the value into an `IoBufs`, without copying its views.
+    /// Writes the value into an [`IoBufs`], without copying its views.
+    ///
+    /// ```
+    /// use iobufs::EncodeExt;
+    ///
+    /// let body = iobufs::IoBuf::from(b"hello".to_vec());
+    /// assert_eq!(body.encode_iobufs().chunk_at(1).unwrap().as_ptr(), body.as_ptr());
+    /// ```
+    ///
+    /// # Panics
+    /// Panics if the value writes more or fewer bytes than its `encode_size`.
     fn encode_iobufs(&self) -> IoBufs {
         let mut to = Builder::new(self.encode_inline_size());
         self.write_bufs(&mut to);

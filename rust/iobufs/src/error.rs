@@ -11,20 +11,29 @@ pub(crate) const PAST: &str = "cannot advance past end of buffer";
 pub(crate) const LAYOUT: &str = "alignment must be a power of two and the size must fit a layout";
 
 /// Why a value was not read (the codec's `Error`).
+///
+/// ```
+/// use iobufs::{Error, IoBuf};
+///
+/// let mut buf = IoBuf::from(b"\x05hel");
+/// assert_eq!(buf.read_view(..=4), Err(Error::InvalidLength(5)));
+/// assert_eq!(buf.read_view(..=1024), Err(Error::EndOfBuffer));
+/// assert_eq!(buf.len(), 4); // nothing changed
+/// ```
 #[derive(Clone, Copy, Debug, PartialEq, Eq)]
 #[non_exhaustive]
 pub enum Error {
     /// Fewer bytes are left than the value has.
     EndOfBuffer,
-    /// The bytes are no varint.
+    /// The bytes are an invalid varint: of more than 64 bits, or not in the shortest form.
     InvalidVarint,
     /// This length is outside the range.
     InvalidLength(usize),
-    /// A byte that is no `bool`.
+    /// A byte that is neither 0 nor 1.
     InvalidBool,
-    /// A byte that is no variant of an enum.
+    /// No variant of the enum has this byte.
     InvalidEnum(u8),
-    /// This type doesn't admit the bytes, for this reason.
+    /// This type doesn't accept the bytes, for this reason.
     Invalid(&'static str, &'static str),
     /// A value that has to be all bytes has this many after it.
     ExtraData(usize),
@@ -34,10 +43,10 @@ impl fmt::Display for Error {
     fn fmt(&self, f: &mut fmt::Formatter<'_>) -> fmt::Result {
         match self {
             Error::EndOfBuffer => f.write_str("fewer bytes are left than the value has"),
-            Error::InvalidVarint => f.write_str("the bytes are no varint"),
+            Error::InvalidVarint => f.write_str("invalid varint"),
             Error::InvalidLength(n) => write!(f, "the length {n} is outside the range"),
-            Error::InvalidBool => f.write_str("the byte is no bool"),
-            Error::InvalidEnum(tag) => write!(f, "the byte {tag} is no variant"),
+            Error::InvalidBool => f.write_str("invalid bool"),
+            Error::InvalidEnum(tag) => write!(f, "invalid variant {tag}"),
             Error::Invalid(name, reason) => write!(f, "invalid {name}: {reason}"),
             Error::ExtraData(n) => write!(f, "{n} bytes are left after the value"),
         }
@@ -55,6 +64,11 @@ impl From<Error> for io::Error {
 }
 
 /// Memory for a buffer couldn't be allocated, or no buffer has this size.
+///
+/// ```
+/// let error = iobufs::IoBufMut::try_with_capacity(usize::MAX).unwrap_err();
+/// assert_eq!(error.bytes, usize::MAX);
+/// ```
 #[derive(Clone, Copy, Debug, PartialEq, Eq)]
 #[non_exhaustive]
 pub struct AllocError {

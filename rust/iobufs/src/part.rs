@@ -16,18 +16,38 @@ use std::num::NonZeroUsize;
 /// buf.put_slice(b"done");
 /// assert_eq!(buf.freeze(), b"done");
 /// ```
+///
+/// It never grows: a put that doesn't fit panics, and as a writer of std it takes the bytes that fit.
+/// [`freeze`](Self::freeze) makes an [`IoBuf`] of it, and [`IoBuf::try_into_mut`] goes back.
 #[repr(transparent)]
 pub struct IoBufMut(pub(crate) inner::IoBufMut);
 
 impl IoBufMut {
-    /// Makes an empty buffer of this capacity.
+    /// Makes an empty buffer of this capacity, in bytes.
+    ///
+    /// ```
+    /// let buf = iobufs::IoBufMut::with_capacity(4);
+    /// assert_eq!((buf.len(), buf.capacity()), (0, 4));
+    /// ```
+    ///
+    /// # Panics
+    /// Panics above `isize::MAX`. If the storage can't be allocated, the process ends.
     #[inline]
     #[track_caller]
     pub fn with_capacity(capacity: usize) -> Self {
         IoBufMut(made(inner::IoBufMut::with_capacity(Global, capacity), Some(capacity), LAYOUT))
     }
 
-    /// Makes an empty buffer of this capacity, whose first byte has this alignment.
+    /// Makes an empty buffer of this capacity, whose first byte has this alignment, in bytes.
+    ///
+    /// ```
+    /// let mut page = iobufs::IoBufMut::with_alignment(4096, 512.try_into().unwrap());
+    /// assert_eq!(page.as_mut_ptr().addr() % 512, 0);
+    /// ```
+    ///
+    /// # Panics
+    /// Panics if the alignment isn't a power of two, or the capacity, rounded up to it, passes `isize::MAX`. If the
+    /// storage can't be allocated, the process ends.
     #[track_caller]
     pub fn with_alignment(capacity: usize, alignment: NonZeroUsize) -> Self {
         let align = alignment.get();
@@ -42,13 +62,31 @@ impl IoBufMut {
         IoBufMut(part.expect("the gap is shorter than the alignment"))
     }
 
-    /// Makes a buffer of `len` zeros.
+    /// Makes a buffer of `len` zeros, all of them readable.
+    ///
+    /// ```
+    /// let mut buf = iobufs::IoBufMut::zeroed(3);
+    /// buf[1] = 7;
+    /// assert_eq!(buf, [0, 7, 0]);
+    /// ```
+    ///
+    /// # Panics
+    /// Panics above `isize::MAX`. If the storage can't be allocated, the process ends.
     #[track_caller]
     pub fn zeroed(len: usize) -> Self {
         IoBufMut(made(inner::IoBufMut::zeroed(Global, len), Some(len), LAYOUT))
     }
 
-    /// Makes a buffer of `len` zeros, whose first byte has this alignment.
+    /// Makes a buffer of `len` zeros, whose first byte has this alignment, in bytes.
+    ///
+    /// ```
+    /// let page = iobufs::IoBufMut::zeroed_with_alignment(4096, 512.try_into().unwrap());
+    /// assert_eq!(page.as_ptr().addr() % 512, 0);
+    /// assert_eq!(page, [0; 4096]);
+    /// ```
+    ///
+    /// # Panics
+    /// Panics as [`with_alignment`](Self::with_alignment) does.
     #[track_caller]
     pub fn zeroed_with_alignment(len: usize, alignment: NonZeroUsize) -> Self {
         let mut zeros = Self::with_alignment(len, alignment);
@@ -56,50 +94,115 @@ impl IoBufMut {
         zeros
     }
 
-    /// Makes an empty buffer of this capacity, or returns an error if that fails.
+    /// Makes an empty buffer of this capacity, in bytes.
+    ///
+    /// ```
+    /// use iobufs::IoBufMut;
+    ///
+    /// assert_eq!(IoBufMut::try_with_capacity(4)?.capacity(), 4);
+    /// assert_eq!(IoBufMut::try_with_capacity(usize::MAX).unwrap_err().bytes, usize::MAX);
+    /// # Ok::<(), iobufs::AllocError>(())
+    /// ```
+    ///
+    /// # Errors
+    /// Returns [`AllocError`] if the storage can't be allocated, or no storage is that large.
     pub fn try_with_capacity(capacity: usize) -> Result<Self, AllocError> {
         tried(inner::IoBufMut::with_capacity(Global, capacity), capacity, IoBufMut)
     }
 
-    /// Makes a buffer of `len` zeros, or returns an error if that fails.
+    /// Makes a buffer of `len` zeros, all of them readable.
+    ///
+    /// ```
+    /// assert_eq!(iobufs::IoBufMut::try_zeroed(3)?, [0; 3]);
+    /// # Ok::<(), iobufs::AllocError>(())
+    /// ```
+    ///
+    /// # Errors
+    /// Returns [`AllocError`] if the storage can't be allocated, or no storage is that large.
     pub fn try_zeroed(len: usize) -> Result<Self, AllocError> {
         tried(inner::IoBufMut::zeroed(Global, len), len, IoBufMut)
     }
 
-    /// Copies these bytes, or returns an error if that fails.
+    /// Copies these bytes into storage of their own, which has no spare capacity.
+    ///
+    /// ```
+    /// assert_eq!(iobufs::IoBufMut::try_copy_from_slice(b"one")?, "one");
+    /// # Ok::<(), iobufs::AllocError>(())
+    /// ```
+    ///
+    /// # Errors
+    /// Returns [`AllocError`] if the storage can't be allocated.
     pub fn try_copy_from_slice(data: &[u8]) -> Result<Self, AllocError> {
         tried(inner::IoBufMut::copy_from_slice(Global, data), data.len(), IoBufMut)
     }
 
     /// Returns the number of readable bytes.
+    ///
+    /// ```
+    /// let mut buf = iobufs::IoBufMut::with_capacity(4);
+    /// buf.put_u8(7);
+    /// assert_eq!(buf.len(), 1);
+    /// ```
     #[inline]
     pub fn len(&self) -> usize {
         self.0.len()
     }
 
     /// Returns whether no byte is readable.
+    ///
+    /// ```
+    /// assert!(iobufs::IoBufMut::with_capacity(4).is_empty());
+    /// ```
     #[inline]
     pub fn is_empty(&self) -> bool {
         self.0.is_empty()
     }
 
-    /// Returns how many bytes fit, counted from the first readable one.
+    /// Returns how many bytes fit, counted from the first readable one: [`advance`](Self::advance) lowers it.
+    ///
+    /// ```
+    /// let mut buf = iobufs::IoBufMut::with_capacity(4);
+    /// buf.put_slice(b"abc");
+    /// buf.advance(2);
+    /// assert_eq!((buf.len(), buf.capacity()), (1, 2));
+    /// ```
     #[inline]
     pub fn capacity(&self) -> usize {
         self.0.capacity()
     }
 
-    /// Returns the address of the first byte. The whole capacity may be written from there on; `set_len` makes that
-    /// readable.
+    /// Returns the address of the first byte. The whole capacity may be written from there on;
+    /// [`set_len`](Self::set_len) makes that readable.
+    ///
+    /// ```
+    /// let mut buf = iobufs::IoBufMut::with_capacity(2);
+    /// // SAFETY: two bytes are within the capacity.
+    /// unsafe { buf.as_mut_ptr().copy_from_nonoverlapping(b"ok".as_ptr(), 2) };
+    /// // SAFETY: both are written.
+    /// unsafe { buf.set_len(2) };
+    /// assert_eq!(buf.freeze(), "ok");
+    /// ```
     #[inline]
     pub fn as_mut_ptr(&mut self) -> *mut u8 {
         self.0.address()
     }
 
-    /// Makes `n` bytes readable. Panics above the capacity.
+    /// Makes the first `n` bytes readable: more than before, or fewer.
+    ///
+    /// ```
+    /// let mut buf = iobufs::IoBufMut::with_capacity(4);
+    /// buf.put_slice(b"abcd");
+    /// // SAFETY: all bytes are written.
+    /// unsafe { buf.set_len(2) };
+    /// assert_eq!(buf, "ab");
+    /// ```
     ///
     /// # Safety
-    /// Those that were not readable are written.
+    /// The caller must have written each of the first `n` bytes, by a put or at
+    /// [`as_mut_ptr`](Self::as_mut_ptr).
+    ///
+    /// # Panics
+    /// Panics if `n` is above the capacity.
     #[inline]
     #[track_caller]
     #[allow(unsafe_code)]
@@ -112,40 +215,88 @@ impl IoBufMut {
         }
     }
 
-    /// Keeps at most the first `len` bytes.
+    /// Keeps at most the first `len` bytes, and the capacity.
+    ///
+    /// ```
+    /// let mut buf = iobufs::IoBufMut::from(b"hello");
+    /// buf.truncate(4);
+    /// assert_eq!((&buf[..], buf.capacity()), (&b"hell"[..], 5));
+    /// ```
     #[inline]
     pub fn truncate(&mut self, len: usize) {
         self.0.truncate(len)
     }
 
     /// Keeps no byte, and the capacity.
+    ///
+    /// ```
+    /// let mut buf = iobufs::IoBufMut::from(b"hello");
+    /// buf.clear();
+    /// assert_eq!((buf.len(), buf.capacity()), (0, 5));
+    /// ```
     #[inline]
     pub fn clear(&mut self) {
         self.0.clear()
     }
 
-    /// Puts bytes, as `put_slice` does. Panics if they don't fit.
+    /// Puts a copy of bytes, as [`put_slice`](Self::put_slice) does.
+    ///
+    /// ```
+    /// let mut buf = iobufs::IoBufMut::with_capacity(3);
+    /// buf.extend_from_slice(b"abc");
+    /// assert_eq!(buf, "abc");
+    /// ```
+    ///
+    /// # Panics
+    /// Panics if they don't fit.
     #[inline]
     #[track_caller]
     pub fn extend_from_slice(&mut self, bytes: &[u8]) {
         self.put_slice(bytes);
     }
 
-    /// Keeps the first `len` bytes, or puts `value` until there are as many. Panics above the capacity.
+    /// Keeps the first `len` bytes, or puts `value` until there are as many.
+    ///
+    /// ```
+    /// let mut buf = iobufs::IoBufMut::with_capacity(4);
+    /// buf.resize(3, b'-');
+    /// assert_eq!(buf, "---");
+    /// buf.resize(1, b'-');
+    /// assert_eq!(buf, "-");
+    /// ```
+    ///
+    /// # Panics
+    /// Panics if `len` is above the capacity.
     #[track_caller]
     pub fn resize(&mut self, len: usize, value: u8) {
         self.put_bytes(value, len.saturating_sub(self.len()));
         self.truncate(len);
     }
 
-    /// Freezes the buffer to a view, without a copy.
+    /// Freezes the buffer to a view of its readable bytes, without a copy.
+    ///
+    /// ```
+    /// let mut buf = iobufs::IoBufMut::with_capacity(4);
+    /// buf.put_slice(b"abcd");
+    /// let at = buf.as_ptr();
+    /// assert_eq!(buf.freeze().as_ptr(), at);
+    /// ```
     #[inline]
     #[must_use]
     pub fn freeze(self) -> IoBuf {
         IoBuf(shared(self.0.freeze()))
     }
 
-    /// Takes the first `n` bytes: the whole buffer without a copy, fewer as a copy. Panics if there are fewer (`Buf`).
+    /// Takes the first `n` bytes: the whole buffer without a copy, fewer as a copy (`Buf`).
+    ///
+    /// ```
+    /// let mut buf = iobufs::IoBufMut::from(b"hello");
+    /// assert_eq!(buf.copy_to_bytes(2), "he");
+    /// assert_eq!(buf, "llo");
+    /// ```
+    ///
+    /// # Panics
+    /// Panics if there are fewer bytes.
     #[track_caller]
     pub fn copy_to_bytes(&mut self, n: usize) -> Bytes {
         if n > 0 && n == self.len() {
@@ -156,9 +307,9 @@ impl IoBufMut {
         front
     }
 
-    reads! { crate::error::too_short }
+    reads! { crate::error::too_short, "let mut buf = iobufs::IoBufMut::from(b\"hello\");" }
 
-    puts! { crate::error::full }
+    puts! { crate::error::full, "let mut buf = iobufs::IoBufMut::with_capacity(8);", "freeze" }
 }
 
 impl Default for IoBufMut {

@@ -19,53 +19,113 @@ use std::{fmt, mem};
 /// bufs.put_slice(b"abc");
 /// assert_eq!(bufs.freeze(), "abc");
 /// ```
+///
+/// It never grows: its capacity is that of its buffers. A vectored read fills it by
+/// [`io_slices_mut`](Self::io_slices_mut).
 pub struct IoBufsMut(pub(crate) inner::IoBufsMut);
 
 impl IoBufsMut {
     /// Returns the number of readable bytes.
+    ///
+    /// ```
+    /// let mut bufs = iobufs::IoBufsMut::from([1, 2].map(iobufs::IoBufMut::with_capacity));
+    /// bufs.put_slice(b"ab");
+    /// assert_eq!(bufs.len(), 2);
+    /// ```
     #[inline]
     pub fn len(&self) -> usize {
         self.0.len()
     }
 
     /// Returns whether no byte is readable.
+    ///
+    /// ```
+    /// assert!(iobufs::IoBufsMut::default().is_empty());
+    /// ```
     #[inline]
     pub fn is_empty(&self) -> bool {
         self.0.is_empty()
     }
 
     /// Returns whether there is just one buffer.
+    ///
+    /// ```
+    /// assert!(iobufs::IoBufsMut::from(*b"one").is_single());
+    /// ```
     #[inline]
     pub fn is_single(&self) -> bool {
         self.0.is_single()
     }
 
     /// Returns the only buffer, if there is just one.
+    ///
+    /// ```
+    /// let bufs = iobufs::IoBufsMut::from(*b"one");
+    /// assert_eq!(*bufs.as_single().unwrap(), "one");
+    /// ```
     #[inline]
     pub fn as_single(&self) -> Option<&IoBufMut> {
         self.0.as_single().map(IoBufMut::wrap)
     }
 
-    /// Returns the only buffer, if there is just one.
+    /// Returns the only buffer, if there is just one, to change it.
+    ///
+    /// ```
+    /// let mut bufs = iobufs::IoBufsMut::from(*b"one");
+    /// bufs.as_single_mut().unwrap().truncate(2);
+    /// assert_eq!(bufs.freeze(), "on");
+    /// ```
     #[inline]
     pub fn as_single_mut(&mut self) -> Option<&mut IoBufMut> {
         self.0.as_single_mut().map(IoBufMut::wrap_mut)
     }
 
     /// Returns how many bytes fit, counted from the first readable one.
+    ///
+    /// ```
+    /// let bufs = iobufs::IoBufsMut::from([1, 2].map(iobufs::IoBufMut::with_capacity));
+    /// assert_eq!(bufs.capacity(), 3);
+    /// ```
     #[inline]
     pub fn capacity(&self) -> usize {
         self.0.capacity()
     }
 
-    /// Makes `n` bytes readable, the buffers filled in order. Those that were not readable are zero. Panics above the
-    /// capacity.
+    /// Makes `n` bytes readable: the first buffer to its capacity, then the second, and so on. Bytes that were not
+    /// readable are zero. A buffer loses readable bytes that are above its share of the `n`.
+    ///
+    /// ```
+    /// use iobufs::IoBufMut;
+    ///
+    /// let mut bufs = iobufs::IoBufsMut::from([1, 2].map(IoBufMut::with_capacity));
+    /// bufs.put_u8(7);
+    /// bufs.set_len(3);
+    /// assert_eq!(bufs.freeze(), [7, 0, 0]);
+    ///
+    /// let mut parts = [4, 4].map(IoBufMut::with_capacity);
+    /// parts.iter_mut().for_each(|part| part.put_u8(7));
+    /// let mut bufs = iobufs::IoBufsMut::from(parts);
+    /// bufs.set_len(2);
+    /// assert_eq!(bufs.freeze(), [7, 0]); // all of the first buffer, and no byte of the second
+    /// ```
+    ///
+    /// # Panics
+    /// Panics if `n` is above the capacity.
     #[track_caller]
     pub fn set_len(&mut self, n: usize) {
         assert!(self.0.try_set_len(n), "set_len({n}) exceeds capacity({})", self.capacity());
     }
 
-    /// Writes over the readable bytes. Panics if there are not just as many.
+    /// Writes over the readable bytes.
+    ///
+    /// ```
+    /// let mut bufs = iobufs::IoBufsMut::from([b"a", b"b"].map(iobufs::IoBufMut::from));
+    /// bufs.copy_from_slice(b"cd");
+    /// assert_eq!(bufs.freeze(), "cd");
+    /// ```
+    ///
+    /// # Panics
+    /// Panics if `src` hasn't as many bytes as are readable.
     #[track_caller]
     pub fn copy_from_slice(&mut self, src: &[u8]) {
         assert_eq!(src.len(), self.len(), "source slice length must match buffer length");
@@ -73,24 +133,55 @@ impl IoBufsMut {
     }
 
     /// Calls `visit` on each chunk that holds bytes, in order, to change them in place.
+    ///
+    /// ```
+    /// let mut bufs = iobufs::IoBufsMut::from([b"ab", b"cd"].map(iobufs::IoBufMut::from));
+    /// bufs.for_each_chunk_mut(|chunk| chunk.make_ascii_uppercase());
+    /// assert_eq!(bufs.freeze(), "ABCD");
+    /// ```
     #[inline]
     pub fn for_each_chunk_mut(&mut self, visit: impl FnMut(&mut [u8])) {
         self.0.for_each_chunk_mut(visit);
     }
 
     /// Returns the chunks that hold bytes, in order, to be written over by vectored reads.
+    ///
+    /// ```
+    /// use std::io::Read;
+    ///
+    /// let mut bufs = iobufs::IoBufsMut::from([2, 3].map(iobufs::IoBufMut::zeroed));
+    /// let n = (&b"hello"[..]).read_vectored(&mut bufs.io_slices_mut())?;
+    /// assert_eq!(n, 5);
+    /// assert_eq!(bufs.freeze(), "hello");
+    /// # Ok::<(), std::io::Error>(())
+    /// ```
     pub fn io_slices_mut(&mut self) -> Vec<IoSliceMut<'_>> {
         self.0.filled().map(IoSliceMut::new).collect()
     }
 
-    /// Freezes the buffers that hold bytes to the chunks of one `IoBufs`.
+    /// Freezes the buffers that hold bytes to the chunks of one [`IoBufs`], without a copy.
+    ///
+    /// ```
+    /// let bufs = iobufs::IoBufsMut::from([b"ab", b"cd"].map(iobufs::IoBufMut::from));
+    /// let bufs = bufs.freeze();
+    /// assert_eq!(bufs, "abcd");
+    /// assert_eq!(bufs.chunk_count(), 2);
+    /// ```
     #[inline]
     #[must_use]
     pub fn freeze(self) -> IoBufs {
         IoBufs(shared(self.0.freeze(Global)))
     }
 
-    /// Coalesces the buffers into one, with a copy of several.
+    /// Coalesces the buffers into one: a single buffer as it is, several as a copy.
+    ///
+    /// ```
+    /// let bufs = iobufs::IoBufsMut::from([b"ab", b"cd"].map(iobufs::IoBufMut::from));
+    /// assert_eq!(bufs.coalesce(), "abcd");
+    /// ```
+    ///
+    /// # Panics
+    /// Panics if the bytes pass `isize::MAX`. If the copy can't be allocated, the process ends.
     #[track_caller]
     #[must_use]
     pub fn coalesce(self) -> IoBufMut {
@@ -98,19 +189,45 @@ impl IoBufsMut {
         IoBufMut(made(self.0.coalesce(Global), Some(len), "the bytes are too many for one buffer"))
     }
 
-    /// Returns the only buffer, or the buffers themselves if there are more.
+    /// Returns the only buffer.
+    ///
+    /// ```
+    /// assert_eq!(iobufs::IoBufsMut::from(*b"one").try_into_single().unwrap(), "one");
+    /// ```
+    ///
+    /// # Errors
+    /// Returns the buffers themselves if there isn't just one.
     #[expect(clippy::result_large_err, reason = "the original hands the buffers back")]
     pub fn try_into_single(self) -> Result<IoBufMut, Self> {
         self.0.try_into_single().map(IoBufMut).map_err(IoBufsMut)
     }
 
     /// Fills `dst` with the first chunks of the readable bytes, and returns how many (`Buf`).
+    ///
+    /// ```
+    /// use std::io::IoSlice;
+    ///
+    /// let bufs = iobufs::IoBufsMut::from([b"ab", b"cd"].map(iobufs::IoBufMut::from));
+    /// let mut slices = [IoSlice::new(&[]); 4];
+    /// assert_eq!(bufs.chunks_vectored(&mut slices), 2);
+    /// assert_eq!(&slices[1][..], b"cd");
+    /// ```
     pub fn chunks_vectored<'a>(&'a self, dst: &mut [IoSlice<'a>]) -> usize {
         dst.iter_mut().zip(self.each_chunk()).map(|(slot, chunk)| *slot = IoSlice::new(chunk)).count()
     }
 
-    /// Takes the first `n` bytes. They are shared if they are an only buffer, or the first one and it has no spare
-    /// capacity; else they are copied. Panics if there are fewer (`Buf`).
+    /// Takes the first `n` bytes (`Buf`). They are shared if they are a single buffer, or the whole first one and it has no
+    /// spare capacity; else they are copied.
+    ///
+    /// ```
+    /// let mut bufs = iobufs::IoBufsMut::from([b"ab", b"cd"].map(iobufs::IoBufMut::from));
+    /// assert_eq!(bufs.copy_to_bytes(2), "ab"); // shared
+    /// assert_eq!(bufs.copy_to_bytes(1), "c"); // a copy
+    /// assert_eq!(bufs.chunk(), b"d");
+    /// ```
+    ///
+    /// # Panics
+    /// Panics if there are fewer bytes.
     #[track_caller]
     pub fn copy_to_bytes(&mut self, n: usize) -> Bytes {
         if let Some(part) = self.as_single_mut() {
@@ -120,9 +237,16 @@ impl IoBufsMut {
         made(core::Buf::copy_to_bytes(&mut self.0, Global, n), Some(n), "").0
     }
 
-    reads! { crate::error::short_chunks }
+    reads! {
+        crate::error::short_chunks,
+        "let mut buf = iobufs::IoBufsMut::from([&b\"he\"[..], b\"llo\"].map(iobufs::IoBufMut::from));"
+    }
 
-    puts! { crate::error::past }
+    puts! {
+        crate::error::past,
+        "let mut buf = iobufs::IoBufsMut::from([3, 5].map(iobufs::IoBufMut::with_capacity));",
+        "freeze"
+    }
 
     /// Returns the chunks of the readable bytes, in order.
     pub(crate) fn each_chunk(&self) -> impl Iterator<Item = &[u8]> {
@@ -199,7 +323,7 @@ fn claimed<T: Into<Bytes> + 'static>(chunk: T) -> IoBuf {
     }
 }
 
-/// Encoded bytes and existing buffers, put together as one `IoBufs`.
+/// Encoded bytes and existing buffers, put together as one [`IoBufs`].
 ///
 /// ```
 /// let mut builder = iobufs::Builder::new(1);
@@ -207,39 +331,84 @@ fn claimed<T: Into<Bytes> + 'static>(chunk: T) -> IoBuf {
 /// builder.push("world"); // not copied
 /// assert_eq!(builder.finish(), "\x05world");
 /// ```
+///
+/// [`encode_iobufs`](crate::codec::Encode::encode_iobufs) builds a whole value so.
 pub struct Builder(pub(crate) inner::Builder);
 
 impl Builder {
-    /// Makes a builder for `capacity` bytes that are put.
+    /// Makes a builder for `capacity` bytes that are put. Those that are pushed don't count.
+    ///
+    /// ```
+    /// let mut builder = iobufs::Builder::new(2);
+    /// builder.put_u16(7);
+    /// assert_eq!(builder.remaining_mut(), 0);
+    /// ```
+    ///
+    /// # Panics
+    /// Panics above `isize::MAX`. If the storage can't be allocated, the process ends.
     #[track_caller]
     pub fn new(capacity: usize) -> Self {
         Builder(made(inner::Builder::new(Global, capacity), Some(capacity), LAYOUT))
     }
 
     /// Returns how many bytes were put and pushed.
+    ///
+    /// ```
+    /// let mut builder = iobufs::Builder::new(2);
+    /// builder.put_u8(7);
+    /// builder.push("abc");
+    /// assert_eq!(builder.len(), 4);
+    /// ```
     pub fn len(&self) -> usize {
         self.0.len()
     }
 
     /// Returns whether no byte was put or pushed.
+    ///
+    /// ```
+    /// assert!(iobufs::Builder::new(2).is_empty());
+    /// ```
     pub fn is_empty(&self) -> bool {
         self.len() == 0
     }
 
-    /// Finishes the builder to all that was put and pushed, in order.
+    /// Finishes the builder to all that was put and pushed, in order. It copies nothing.
+    ///
+    /// ```
+    /// let mut builder = iobufs::Builder::new(2);
+    /// builder.put_u8(b'<');
+    /// builder.push("body");
+    /// builder.put_u8(b'>');
+    /// let bufs = builder.finish();
+    /// assert_eq!(bufs, "<body>");
+    /// assert_eq!(bufs.chunk_count(), 3);
+    /// ```
     #[must_use]
     pub fn finish(self) -> IoBufs {
         IoBufs(shared(self.0.finish()))
     }
 
-    /// Pushes a buffer, which is not copied (`BufsMut`).
+    /// Pushes a buffer, which isn't copied (`BufsMut`): an [`IoBuf`], or what becomes a [`Bytes`].
+    ///
+    /// ```
+    /// let body = iobufs::IoBuf::from(b"body".to_vec());
+    /// let mut builder = iobufs::Builder::new(0);
+    /// builder.push(body.clone());
+    /// builder.push(bytes::Bytes::from_static(b", static"));
+    /// let bufs = builder.finish();
+    /// assert_eq!(bufs.chunk().as_ptr(), body.as_ptr());
+    /// assert_eq!(bufs, "body, static");
+    /// ```
+    ///
+    /// # Panics
+    /// Panics if the length of all passes `usize::MAX`.
     #[inline]
     #[track_caller]
     pub fn push(&mut self, chunk: impl Into<Bytes> + 'static) {
         made(core::BufsMut::push(&mut self.0, claimed(chunk).0), None, "length overflow");
     }
 
-    puts! { crate::error::past }
+    puts! { crate::error::past, "let mut buf = iobufs::Builder::new(8);", "finish" }
 }
 
 impl fmt::Debug for Builder {

@@ -12,6 +12,13 @@ use std::ops::RangeBounds;
 use std::{error, fmt, mem};
 
 /// Why no frame is taken from a reader.
+///
+/// ```
+/// use iobufs::{FrameError, FrameReader};
+///
+/// let mut from = FrameReader::new(&b"\x05wo"[..], ..=1024);
+/// assert!(matches!(from.next(), Err(FrameError::Cut)));
+/// ```
 #[derive(Debug)]
 #[non_exhaustive]
 pub enum FrameError {
@@ -76,8 +83,8 @@ impl From<FrameError> for io::Error {
     }
 }
 
-/// Takes frames from the front of a `BytesMut`, and puts them at its end, for readers and writers that have such a
-/// buffer.
+/// Takes frames from the front of a [`BytesMut`], and puts them at its end, for readers and writers that have such a
+/// buffer. The crate `iobufs-tokio` makes it a codec of `tokio_util::codec::Framed`.
 ///
 /// ```
 /// use bytes::BytesMut;
@@ -96,12 +103,35 @@ pub struct FrameCodec {
 
 impl FrameCodec {
     /// Makes a codec of frames with lengths in `range` that are written as `prefix`.
+    ///
+    /// ```
+    /// use iobufs::{FrameCodec, Prefix};
+    ///
+    /// const CODEC_LIMIT: usize = 1024;
+    /// let codec = FrameCodec::new(Prefix::Varint, 1..=CODEC_LIMIT); // no empty frame
+    /// assert!(codec.decode(&mut b"\0"[..].into()).is_err());
+    /// ```
     pub fn new(prefix: Prefix, range: impl RangeBounds<usize>) -> Self {
         FrameCodec { prefix: prefix.inner(), range: RangeCfg::new(range) }
     }
 
-    /// Takes the first body, which shares the storage of `src`; `None` if its frame isn't whole yet. Fails if no
-    /// further bytes can make it whole. Unless a frame is taken, `src` is unchanged.
+    /// Takes the first body, which shares the storage of `src`; `None` if its frame isn't whole yet. Unless a frame is
+    /// taken, `src` is unchanged.
+    ///
+    /// ```
+    /// use bytes::BytesMut;
+    ///
+    /// let codec = iobufs::FrameCodec::new(iobufs::Prefix::Varint, ..=1024);
+    /// let mut src = BytesMut::from("\x02ok\x05wo");
+    /// assert_eq!(codec.decode(&mut src)?.unwrap(), "ok");
+    /// assert_eq!(codec.decode(&mut src)?, None);
+    /// src.extend_from_slice(b"rld");
+    /// assert_eq!(codec.decode(&mut src)?.unwrap(), "world");
+    /// # Ok::<(), iobufs::Error>(())
+    /// ```
+    ///
+    /// # Errors
+    /// Returns [`Error::InvalidVarint`] or [`Error::InvalidLength`] if no further bytes can make the frame whole.
     pub fn decode(&self, src: &mut BytesMut) -> Result<Option<IoBuf>, Error> {
         let mut held = inner::Received::new(Global, self.prefix);
         *held.block_mut() = kit::BytesMut::of(mem::take(src));
@@ -110,15 +140,41 @@ impl FrameCodec {
         Ok(body.map_err(fault)?.map(IoBuf))
     }
 
-    /// Appends the frame of a body, which is copied. Fails with `Error::InvalidLength` if the length is outside the
-    /// range, or can't be written as the prefix; then `dst` is unchanged.
+    /// Appends the frame of a body, which is copied.
+    ///
+    /// ```
+    /// use bytes::BytesMut;
+    /// use iobufs::{Error, FrameCodec, Prefix};
+    ///
+    /// let codec = FrameCodec::new(Prefix::U8, ..=1024);
+    /// let mut dst = BytesMut::new();
+    /// codec.encode(&"ok".into(), &mut dst)?;
+    /// assert_eq!(&dst[..], b"\x02ok");
+    /// assert_eq!(codec.encode(&vec![0; 300].into(), &mut dst), Err(Error::InvalidLength(300)));
+    /// # Ok::<(), iobufs::Error>(())
+    /// ```
+    ///
+    /// # Errors
+    /// Returns [`Error::InvalidLength`] if the length is outside the range, or can't be written as the prefix. Then
+    /// `dst` is unchanged.
     pub fn encode(&self, body: &IoBufs, dst: &mut BytesMut) -> Result<(), Error> {
         self.begin(body.len(), dst)?;
         body.for_each_chunk(|chunk| dst.extend_from_slice(chunk));
         Ok(())
     }
 
-    /// Appends the frame of these bytes, as `encode` does.
+    /// Appends the frame of these bytes, as [`encode`](Self::encode) does.
+    ///
+    /// ```
+    /// let codec = iobufs::FrameCodec::new(iobufs::Prefix::U16Le, ..=1024);
+    /// let mut dst = bytes::BytesMut::new();
+    /// codec.encode_slice(b"ok", &mut dst)?;
+    /// assert_eq!(&dst[..], b"\x02\0ok");
+    /// # Ok::<(), iobufs::Error>(())
+    /// ```
+    ///
+    /// # Errors
+    /// Returns the errors of `encode`.
     pub fn encode_slice(&self, body: &[u8], dst: &mut BytesMut) -> Result<(), Error> {
         self.begin(body.len(), dst)?;
         dst.extend_from_slice(body);
@@ -134,8 +190,9 @@ impl FrameCodec {
     }
 }
 
-/// Takes frames from a reader: lengths, each followed by a body. A read fills the space of one block, and a body shares
-/// that block: it isn't copied, and keeps the whole block.
+/// Takes frames from a reader: lengths, each followed by a body. A read fills the space of one block, which its bodies
+/// share: they aren't copied. A body keeps the whole block: up to 64 KiB, or twice a longer frame that came before it.
+/// Copy a small body that you keep, by [`IoBuf::copy_from_slice`].
 ///
 /// ```
 /// use iobufs::{FrameReader, FrameWriter};
@@ -147,46 +204,110 @@ impl FrameCodec {
 /// assert!(from.next()?.is_none());
 /// # Ok::<(), Box<dyn std::error::Error>>(())
 /// ```
+///
+/// `examples/server.rs` echoes frames over TCP so.
 pub struct FrameReader<R>(inner::FrameReader<R>);
 
 impl<R> FrameReader<R> {
     /// Makes a reader of frames with varint lengths in `range`.
+    ///
+    /// ```
+    /// let mut from = iobufs::FrameReader::new(&b"\x02ok"[..], ..=1024);
+    /// assert_eq!(from.next()?.unwrap(), "ok");
+    /// # Ok::<(), iobufs::FrameError>(())
+    /// ```
     pub fn new(from: R, range: impl RangeBounds<usize>) -> Self {
         Self::with_prefix(from, Prefix::Varint, range)
     }
 
     /// Makes a reader of frames with lengths in `range` that are written as `prefix`.
+    ///
+    /// ```
+    /// use iobufs::{FrameReader, Prefix};
+    ///
+    /// let mut from = FrameReader::with_prefix(&b"\0\x02ok"[..], Prefix::U16Be, ..=1024);
+    /// assert_eq!(from.next()?.unwrap(), "ok");
+    /// # Ok::<(), iobufs::FrameError>(())
+    /// ```
     pub fn with_prefix(from: R, prefix: Prefix, range: impl RangeBounds<usize>) -> Self {
         FrameReader(shared(inner::FrameReader::with_prefix(Global, from, prefix.inner(), RangeCfg::new(range))))
     }
 
     /// Takes the next body if its whole frame was read, without a read; otherwise returns `None`.
+    ///
+    /// ```
+    /// let mut from = iobufs::FrameReader::new(&b"\x02ok\x02no"[..], ..=1024);
+    /// assert_eq!(from.try_next()?, None); // nothing was read
+    /// assert_eq!(from.next()?.unwrap(), "ok");
+    /// assert_eq!(from.try_next()?.unwrap(), "no"); // by the same read
+    /// # Ok::<(), iobufs::FrameError>(())
+    /// ```
+    ///
+    /// # Errors
+    /// Returns [`Error::InvalidVarint`] or [`Error::InvalidLength`] if no further bytes can make the frame whole.
     pub fn try_next(&mut self) -> Result<Option<IoBuf>, Error> {
         let body = self.0.try_next().map_err(fault)?;
         Ok(body.map(IoBuf))
     }
 
     /// Returns the reader.
+    ///
+    /// ```
+    /// let from = iobufs::FrameReader::new(&b"\x02ok"[..], ..=1024);
+    /// assert_eq!(from.get_ref().len(), 3); // nothing was read
+    /// ```
     pub fn get_ref(&self) -> &R {
         &self.0.from
     }
 
     /// Returns the reader. Bytes that are read from it are missing from the frames.
+    ///
+    /// ```
+    /// use std::io::Read;
+    ///
+    /// let mut from = iobufs::FrameReader::new(&b"v1\x02ok"[..], ..=1024);
+    /// let mut version = [0; 2];
+    /// from.get_mut().read_exact(&mut version)?;
+    /// assert_eq!(from.next()?.unwrap(), "ok");
+    /// # Ok::<(), Box<dyn std::error::Error>>(())
+    /// ```
     pub fn get_mut(&mut self) -> &mut R {
         &mut self.0.from
     }
 
-    /// Admits lengths in `range` from now on, as after a login.
+    /// Accepts lengths in `range` for the frames that are taken after this, as after a login.
+    ///
+    /// ```
+    /// let mut from = iobufs::FrameReader::new(&b"\x02ok\x05hello"[..], ..=4);
+    /// assert_eq!(from.next()?.unwrap(), "ok");
+    /// assert!(from.try_next().is_err());
+    /// from.set_range(..=1024);
+    /// assert_eq!(from.next()?.unwrap(), "hello");
+    /// # Ok::<(), iobufs::FrameError>(())
+    /// ```
     pub fn set_range(&mut self, range: impl RangeBounds<usize>) {
         self.0.range = RangeCfg::new(range);
     }
 
-    /// Returns the reader. What was read and not taken is dropped.
+    /// Returns the reader. Bytes that were read and not taken are dropped; [`into_parts`](Self::into_parts) keeps them.
+    ///
+    /// ```
+    /// let from = iobufs::FrameReader::new(&b"\x02ok"[..], ..=1024);
+    /// assert_eq!(from.into_inner(), b"\x02ok");
+    /// ```
     pub fn into_inner(self) -> R {
         self.0.from
     }
 
-    /// Returns the reader, and what was read from it and not taken, for the protocol that follows.
+    /// Returns the reader, and the bytes that were read and not taken, for the protocol that follows.
+    ///
+    /// ```
+    /// let mut from = iobufs::FrameReader::new(&b"\x02okGET /"[..], ..=1024);
+    /// assert_eq!(from.next()?.unwrap(), "ok");
+    /// let (rest, held) = from.into_parts();
+    /// assert_eq!((rest, &held[..]), (&b""[..], &b"GET /"[..]));
+    /// # Ok::<(), iobufs::FrameError>(())
+    /// ```
     pub fn into_parts(mut self) -> (R, BytesMut) {
         let held = mem::replace(self.0.held.block_mut(), kit::BytesMut::new(Global));
         (self.0.from, held.into_inner())
@@ -194,8 +315,19 @@ impl<R> FrameReader<R> {
 }
 
 impl<R: Read> FrameReader<R> {
-    /// Takes the next body; `None` at the end of the input. It starts no read while a whole frame is held. After an
-    /// error no byte is lost, and `next` may be called again.
+    /// Takes the next body; `None` at the end of the input. It starts no read while a whole frame is held.
+    ///
+    /// ```
+    /// let mut from = iobufs::FrameReader::new(&b"\x02ok\x05hel"[..], ..=1024);
+    /// assert_eq!(from.next()?.unwrap(), "ok");
+    /// assert!(matches!(from.next(), Err(iobufs::FrameError::Cut)));
+    /// # Ok::<(), iobufs::FrameError>(())
+    /// ```
+    ///
+    /// # Errors
+    /// Returns [`FrameError::Bad`] if no further bytes can make the frame whole, [`FrameError::Cut`] if the input ends
+    /// inside a frame, and [`FrameError::Io`] with the reader's error. After an error no byte is lost, and `next` may be
+    /// called again.
     #[allow(clippy::should_implement_trait)]
     pub fn next(&mut self) -> Result<Option<IoBuf>, FrameError> {
         Ok(self.0.next()?.map(IoBuf))
@@ -212,23 +344,60 @@ impl<R: fmt::Debug> fmt::Debug for FrameReader<R> {
 }
 
 /// Sends frames to a writer: lengths, each followed by a body, whose chunks aren't copied.
+///
+/// ```
+/// let mut to = iobufs::FrameWriter::new(Vec::new(), ..=1024);
+/// to.put("hello")?;
+/// to.put(vec![b'!'])?;
+/// to.send()?; // both frames
+/// assert_eq!(to.get_ref(), b"\x05hello\x01!");
+/// # Ok::<(), Box<dyn std::error::Error>>(())
+/// ```
+///
+/// `examples/server.rs` echoes frames over TCP so.
 pub struct FrameWriter<W>(inner::FrameWriter<Honest<W>>);
 
 impl<W> FrameWriter<W> {
     /// Makes a writer of frames with varint lengths in `range`. It allocates nothing.
+    ///
+    /// ```
+    /// let to = iobufs::FrameWriter::new(Vec::<u8>::new(), ..=1024);
+    /// assert!(to.is_sent());
+    /// ```
     pub fn new(to: W, range: impl RangeBounds<usize>) -> Self {
         Self::with_prefix(to, Prefix::Varint, range)
     }
 
     /// Makes a writer of frames with lengths in `range` that are written as `prefix`.
+    ///
+    /// ```
+    /// use iobufs::{FrameWriter, Prefix};
+    ///
+    /// let mut to = FrameWriter::with_prefix(Vec::new(), Prefix::U32Le, ..=1024);
+    /// to.put("ok")?;
+    /// to.send()?;
+    /// assert_eq!(to.into_inner(), b"\x02\0\0\0ok");
+    /// # Ok::<(), Box<dyn std::error::Error>>(())
+    /// ```
     pub fn with_prefix(to: W, prefix: Prefix, range: impl RangeBounds<usize>) -> Self {
         let to = Honest { to, took: false };
         FrameWriter(inner::FrameWriter::with_prefix(Global, to, prefix.inner(), RangeCfg::new(range)))
     }
 
-    /// Puts a frame of this body after those that aren't sent yet; nothing is written. Fails with
-    /// `Error::InvalidLength` if the length is outside the range, or can't be written as the prefix; then nothing is
-    /// put. It allocates space for the list of frames alone, from the second frame on.
+    /// Puts a frame of this body after those that aren't sent yet; nothing is written. It allocates space for the list
+    /// of frames alone, from the second frame on.
+    ///
+    /// ```
+    /// let mut to = iobufs::FrameWriter::new(Vec::<u8>::new(), ..=4);
+    /// to.put(["o".into(), "k".into()])?;
+    /// assert_eq!(to.put("hello"), Err(iobufs::Error::InvalidLength(5)));
+    /// assert_eq!(to.unsent(), 3);
+    /// # Ok::<(), iobufs::Error>(())
+    /// ```
+    ///
+    /// # Errors
+    /// Returns [`Error::InvalidLength`] if the length is outside the range, or can't be written as the prefix. Then
+    /// nothing is put.
     pub fn put(&mut self, body: impl Into<IoBufs>) -> Result<(), Error> {
         self.0.put(body.into().0).map_err(|refused| match refused.cause {
             BufError::TooLong => Error::InvalidLength(refused.value.len()),
@@ -237,37 +406,81 @@ impl<W> FrameWriter<W> {
     }
 
     /// Returns whether all that was put is written.
+    ///
+    /// ```
+    /// let mut to = iobufs::FrameWriter::new(Vec::<u8>::new(), ..=1024);
+    /// to.put("ok").unwrap();
+    /// assert!(!to.is_sent());
+    /// ```
     pub fn is_sent(&self) -> bool {
         self.0.rest.is_empty()
     }
 
     /// Returns how many bytes of frames were put and are not written. It adds up the frames that wait.
+    ///
+    /// ```
+    /// let mut to = iobufs::FrameWriter::new(Vec::<u8>::new(), ..=1024);
+    /// to.put("ok").unwrap();
+    /// assert_eq!(to.unsent(), 3); // the length, and the body
+    /// ```
     pub fn unsent(&self) -> usize {
         self.0.more.0.iter().fold(self.0.rest.len(), |sum, frame| sum.saturating_add(frame.len()))
     }
 
     /// Returns the writer.
+    ///
+    /// ```
+    /// assert!(iobufs::FrameWriter::new(Vec::<u8>::new(), ..=1024).get_ref().is_empty());
+    /// ```
     pub fn get_ref(&self) -> &W {
         &self.0.to.to
     }
 
-    /// Returns the writer. What is written to it comes between the bytes that are sent.
+    /// Returns the writer. Bytes that are written to it come between those that are sent.
+    ///
+    /// ```
+    /// let mut to = iobufs::FrameWriter::new(Vec::new(), ..=1024);
+    /// to.get_mut().extend_from_slice(b"v1");
+    /// to.put("ok")?;
+    /// to.send()?;
+    /// assert_eq!(to.get_ref(), b"v1\x02ok");
+    /// # Ok::<(), Box<dyn std::error::Error>>(())
+    /// ```
     pub fn get_mut(&mut self) -> &mut W {
         &mut self.0.to.to
     }
 
-    /// Returns the writer, which hasn't got what isn't sent.
+    /// Returns the writer. Frames that aren't sent are dropped.
+    ///
+    /// ```
+    /// let mut to = iobufs::FrameWriter::new(Vec::<u8>::new(), ..=1024);
+    /// to.put("ok").unwrap();
+    /// assert!(to.into_inner().is_empty());
+    /// ```
     pub fn into_inner(self) -> W {
         self.0.to.to
     }
 }
 
 impl<W: Write> FrameWriter<W> {
-    /// Writes what was put, by as many vectored writes as the writer needs, and flushes the writer. After an error no
-    /// byte is lost or written twice, and `send` may be called again. Fails with `ErrorKind::WriteZero` if the writer
-    /// takes no byte, and with `ErrorKind::Other` if it says that it took more than it was given: then it is given the
-    /// same again.
+    /// Writes the frames that were put, by as many vectored writes as the writer needs, and flushes the writer.
     ///
+    /// ```
+    /// let mut space = [0; 4];
+    /// let mut to = iobufs::FrameWriter::new(&mut space[..], ..=1024);
+    /// to.put("hello")?;
+    /// let error = to.send().unwrap_err(); // four bytes are taken
+    /// assert_eq!(error.kind(), std::io::ErrorKind::WriteZero);
+    /// assert_eq!(to.unsent(), 2);
+    /// # Ok::<(), iobufs::Error>(())
+    /// ```
+    ///
+    /// # Errors
+    /// Returns the writer's error, [`WriteZero`](ErrorKind::WriteZero) if the writer takes no byte, and
+    /// [`Other`](ErrorKind::Other) if it says that it took more than it was given: then it is given the same again.
+    /// After an error no byte is lost or written twice, and `send` may be called again.
+    ///
+    /// # Panics
     /// If the `Drop` of a body's owner panics, its bytes were sent. Then nothing more is written, and each `send`
     /// returns an error.
     pub fn send(&mut self) -> io::Result<()> {

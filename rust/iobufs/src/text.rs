@@ -21,78 +21,152 @@ use std::{fmt, mem};
 /// assert_eq!(bufs.split_to(3), "bcd");
 /// assert_eq!(bufs.chunk_count(), 2);
 /// ```
+///
+/// Clones, slices, splits and appends share each chunk's storage, and may allocate a list of several chunks. Two of them
+/// are equal if their bytes are, for every chunking.
 #[derive(Default)]
 pub struct IoBufs(pub(crate) inner::IoBufs);
 
 impl IoBufs {
-    /// Makes one without bytes.
+    /// Makes one without bytes. It allocates nothing.
+    ///
+    /// ```
+    /// assert!(iobufs::IoBufs::new().is_empty());
+    /// ```
     pub fn new() -> Self {
         Self::default()
     }
 
-    /// Makes a view of these bytes, which aren't copied.
+    /// Makes a view of these bytes, which aren't copied. It allocates nothing.
+    ///
+    /// ```
+    /// assert_eq!(iobufs::IoBufs::from_static(b"one"), "one");
+    /// ```
     pub fn from_static(bytes: &'static [u8]) -> Self {
         Self::from(bytes)
     }
 
     /// Returns the number of bytes.
+    ///
+    /// ```
+    /// assert_eq!(iobufs::IoBufs::from(["ab".into(), "c".into()]).len(), 3);
+    /// ```
     #[inline]
     pub fn len(&self) -> usize {
         self.0.len()
     }
 
     /// Returns whether there are no bytes.
+    ///
+    /// ```
+    /// assert!(iobufs::IoBufs::from("").is_empty());
+    /// ```
     #[inline]
     pub fn is_empty(&self) -> bool {
         self.0.is_empty()
     }
 
-    /// Returns how many chunks keep an owner (`IoBuf::from_owner`).
+    /// Returns how many chunks keep an owner ([`IoBuf::from_owner`]).
+    ///
+    /// ```
+    /// let bufs = iobufs::IoBufs::from(["ab".into(), iobufs::IoBuf::from_owner(vec![1, 2])]);
+    /// assert_eq!(bufs.owners(), 1);
+    /// ```
     pub fn owners(&self) -> usize {
         owners(&self.0)
     }
 
     /// Returns whether all bytes are in one chunk.
+    ///
+    /// ```
+    /// let mut bufs = iobufs::IoBufs::from(["ab".into(), "c".into()]);
+    /// assert!(!bufs.is_single());
+    /// bufs.advance(2);
+    /// assert!(bufs.is_single());
+    /// ```
     #[inline]
     pub fn is_single(&self) -> bool {
         self.0.is_single()
     }
 
     /// Returns the number of chunks that hold bytes.
+    ///
+    /// ```
+    /// assert_eq!(iobufs::IoBufs::from(["ab".into(), "".into(), "c".into()]).chunk_count(), 2);
+    /// ```
     #[inline]
     pub fn chunk_count(&self) -> usize {
         self.0.chunk_count()
     }
 
-    /// Returns the bytes of the chunk of an index.
+    /// Returns the bytes of the chunk of an index, if there is one.
+    ///
+    /// ```
+    /// let bufs = iobufs::IoBufs::from(["ab".into(), "c".into()]);
+    /// assert_eq!(bufs.chunk_at(1), Some(&b"c"[..]));
+    /// assert_eq!(bufs.chunk_at(2), None);
+    /// ```
     #[inline]
     pub fn chunk_at(&self, index: usize) -> Option<&[u8]> {
         self.0.chunk_at(index)
     }
 
     /// Returns the chunks that hold bytes, in order.
+    ///
+    /// ```
+    /// let bufs = iobufs::IoBufs::from(["ab".into(), "cde".into()]);
+    /// assert_eq!(bufs.chunks().map(<[u8]>::len).collect::<Vec<_>>(), [2, 3]);
+    /// ```
     #[inline]
     pub fn chunks(&self) -> Chunks<'_> {
         Chunks { bufs: &self.0, indices: 0..self.chunk_count() }
     }
 
-    /// Returns the only chunk, if there is at most one.
+    /// Returns the only chunk, if there is at most one; it is empty if there is none.
+    ///
+    /// ```
+    /// assert_eq!(*iobufs::IoBufs::from("ab").as_single().unwrap(), "ab");
+    /// assert!(iobufs::IoBufs::from(["ab".into(), "c".into()]).as_single().is_none());
+    /// ```
     #[inline]
     pub fn as_single(&self) -> Option<&IoBuf> {
         self.0.as_single().map(IoBuf::wrap)
     }
 
-    /// Returns the byte at an offset, if there is one.
+    /// Returns the byte at an offset, if there is one. It reads about log n of n chunks.
+    ///
+    /// ```
+    /// let bufs = iobufs::IoBufs::from(["ab".into(), "cde".into()]);
+    /// assert_eq!(bufs.byte_at(3), Some(b'd'));
+    /// assert_eq!(bufs.byte_at(5), None);
+    /// ```
     pub fn byte_at(&self, i: usize) -> Option<u8> {
         core::Buf::byte_at(&self.0, i)
     }
 
-    /// Returns the index of the chunk that contains an offset, and the distance from its start.
+    /// Returns the index of the chunk that contains an offset, and the distance from its start. It reads about log n of
+    /// n chunks.
+    ///
+    /// ```
+    /// let bufs = iobufs::IoBufs::from(["ab".into(), "cde".into()]);
+    /// assert_eq!(bufs.locate(3), Some((1, 1)));
+    /// assert_eq!(bufs.locate(5), None);
+    /// ```
     pub fn locate(&self, at: usize) -> Option<(usize, usize)> {
         self.0.try_locate(at).map(|place| (place.index, place.offset))
     }
 
-    /// Returns the bytes of a range, which share their storage. Panics if it isn't within the bytes.
+    /// Returns the bytes of a range, which share their storage.
+    ///
+    /// ```
+    /// let bufs = iobufs::IoBufs::from(["ab".into(), "cde".into()]);
+    /// let slice = bufs.slice(1..4);
+    /// assert_eq!(slice, "bcd");
+    /// assert_eq!(slice.chunk().as_ptr(), bufs.chunk()[1..].as_ptr()); // nothing is copied
+    /// ```
+    ///
+    /// # Panics
+    /// Panics if the range isn't within the bytes.
     #[inline]
     #[track_caller]
     #[must_use]
@@ -104,23 +178,49 @@ impl IoBufs {
         }
     }
 
-    /// Keeps at most the first `len` bytes.
+    /// Keeps at most the first `len` bytes. Chunks of which no byte is left are dropped.
+    ///
+    /// ```
+    /// let mut bufs = iobufs::IoBufs::from(["ab".into(), "cde".into()]);
+    /// bufs.truncate(2);
+    /// assert_eq!(bufs, "ab");
+    /// assert!(bufs.is_single());
+    /// ```
     #[inline]
     pub fn truncate(&mut self, len: usize) {
         shared(self.0.truncate(Global, len))
     }
 
-    /// Keeps no byte.
+    /// Keeps no byte, and drops its chunks.
+    ///
+    /// ```
+    /// let mut bufs = iobufs::IoBufs::from("hello");
+    /// bufs.clear();
+    /// assert!(bufs.is_empty());
+    /// ```
     pub fn clear(&mut self) {
         *self = Self::default();
     }
 
     /// Returns a copy of all bytes.
+    ///
+    /// ```
+    /// assert_eq!(iobufs::IoBufs::from(["ab".into(), "c".into()]).to_vec(), b"abc");
+    /// ```
     pub fn to_vec(&self) -> Vec<u8> {
         shared(self.0.to_vec(Global)).0
     }
 
-    /// Takes the bytes from `at` on. Panics if there are fewer.
+    /// Takes the bytes from `at` on, in the same storage. The first `at` bytes stay.
+    ///
+    /// ```
+    /// let mut bufs = iobufs::IoBufs::from(["ab".into(), "cde".into()]);
+    /// assert_eq!(bufs.split_off(3), "de");
+    /// assert_eq!(bufs, "abc");
+    /// ```
+    ///
+    /// # Panics
+    /// Panics if there are fewer bytes.
     #[track_caller]
     #[must_use = "`truncate` drops the other half"]
     pub fn split_off(&mut self, at: usize) -> Self {
@@ -129,32 +229,77 @@ impl IoBufs {
     }
 
     /// Calls `visit` with each chunk that holds bytes, in order.
+    ///
+    /// ```
+    /// let mut sum = 0;
+    /// iobufs::IoBufs::from(["ab".into(), "cde".into()]).for_each_chunk(|chunk| sum += chunk.len());
+    /// assert_eq!(sum, 5);
+    /// ```
     #[inline]
     pub fn for_each_chunk(&self, visit: impl FnMut(&[u8])) {
         self.0.for_each_chunk(visit)
     }
 
-    /// Adds a buffer at the end.
+    /// Adds a buffer at the end, which isn't copied.
+    ///
+    /// ```
+    /// let body = iobufs::IoBuf::from(b"world".to_vec());
+    /// let mut bufs = iobufs::IoBufs::from("hello ");
+    /// bufs.append(body.clone());
+    /// assert_eq!(bufs, "hello world");
+    /// assert_eq!(bufs.chunk_at(1).unwrap().as_ptr(), body.as_ptr());
+    /// ```
+    ///
+    /// # Panics
+    /// Panics if the length of all passes `usize::MAX`.
     #[inline]
     #[track_caller]
     pub fn append(&mut self, chunk: IoBuf) {
         made(self.0.append(Global, chunk.0), None, "length overflow");
     }
 
-    /// Adds the chunks of another one at the end.
+    /// Adds the chunks of another one at the end, which aren't copied.
+    ///
+    /// ```
+    /// let mut bufs = iobufs::IoBufs::from("ab");
+    /// bufs.append_all(["cde".into(), "f".into()].into());
+    /// assert_eq!(bufs, "abcdef");
+    /// assert_eq!(bufs.chunk_count(), 3);
+    /// ```
+    ///
+    /// # Panics
+    /// Panics if the length of all passes `usize::MAX`.
     #[track_caller]
     pub fn append_all(&mut self, other: IoBufs) {
         self.extend(other);
     }
 
-    /// Adds a buffer at the front.
+    /// Adds a buffer at the front, which isn't copied.
+    ///
+    /// ```
+    /// let mut bufs = iobufs::IoBufs::from("world");
+    /// bufs.prepend("hello ".into());
+    /// assert_eq!(bufs, "hello world");
+    /// ```
+    ///
+    /// # Panics
+    /// Panics if the length of all passes `usize::MAX`.
     #[inline]
     #[track_caller]
     pub fn prepend(&mut self, chunk: IoBuf) {
         made(self.0.prepend(Global, chunk.0), None, "length overflow");
     }
 
-    /// Takes the first `at` bytes. Panics if there are fewer.
+    /// Takes the first `at` bytes, in the same storage. The rest stays.
+    ///
+    /// ```
+    /// let mut bufs = iobufs::IoBufs::from(["ab".into(), "cde".into()]);
+    /// assert_eq!(bufs.split_to(3), "abc");
+    /// assert_eq!(bufs, "de");
+    /// ```
+    ///
+    /// # Panics
+    /// Panics if there are fewer bytes.
     #[inline]
     #[track_caller]
     #[must_use = "`advance` drops the front"]
@@ -165,7 +310,14 @@ impl IoBufs {
         }
     }
 
-    /// Coalesces the chunks into one view, with a copy of several.
+    /// Coalesces the chunks into one view: a single chunk as it is, several as a copy.
+    ///
+    /// ```
+    /// assert_eq!(iobufs::IoBufs::from(["ab".into(), "cde".into()]).coalesce(), "abcde");
+    /// ```
+    ///
+    /// # Panics
+    /// Panics if the bytes pass `isize::MAX`. If the copy can't be allocated, the process ends.
     #[track_caller]
     #[must_use]
     pub fn coalesce(self) -> IoBuf {
@@ -173,17 +325,46 @@ impl IoBufs {
         IoBuf(made(self.0.coalesce(Global), Some(len), "the bytes are too many for one buffer"))
     }
 
-    /// Returns the only chunk, or the `IoBufs` itself if there are more.
+    /// Returns the only chunk; it is empty if there is none.
+    ///
+    /// ```
+    /// assert_eq!(iobufs::IoBufs::from("ab").try_into_single().unwrap(), "ab");
+    /// let bufs = iobufs::IoBufs::from(["ab".into(), "cde".into()]);
+    /// assert_eq!(bufs.try_into_single().unwrap_err(), "abcde");
+    /// ```
+    ///
+    /// # Errors
+    /// Returns the `IoBufs` itself if it has several chunks.
     pub fn try_into_single(self) -> Result<IoBuf, Self> {
         self.0.try_into_single().map(IoBuf).map_err(IoBufs)
     }
 
     /// Fills `dst` with the first chunks, and returns how many (`Buf`).
+    ///
+    /// ```
+    /// use std::io::IoSlice;
+    ///
+    /// let bufs = iobufs::IoBufs::from(["ab".into(), "cde".into()]);
+    /// let mut slices = [IoSlice::new(&[]); 4];
+    /// assert_eq!(bufs.chunks_vectored(&mut slices), 2);
+    /// assert_eq!(&slices[1][..], b"cde");
+    /// ```
     pub fn chunks_vectored<'a>(&'a self, dst: &mut [IoSlice<'a>]) -> usize {
         self.0.fill_slices(dst)
     }
 
-    /// Returns the first chunks, at most `N`, as they are handed to `writev`.
+    /// Returns the first chunks, at most `N`, as they are handed to `writev`, and how many they are.
+    ///
+    /// ```
+    /// use std::io::Write;
+    ///
+    /// let bufs = iobufs::IoBufs::from(["ab".into(), "cde".into()]);
+    /// let (slices, n) = bufs.slices::<8>();
+    /// let mut to = Vec::new();
+    /// to.write_vectored(&slices[..n])?;
+    /// assert_eq!(to, b"abcde");
+    /// # Ok::<(), std::io::Error>(())
+    /// ```
     pub fn slices<const N: usize>(&self) -> ([IoSlice<'_>; N], usize) {
         let mut slices = [IoSlice::new(&[]); N];
         let n = self.chunks_vectored(&mut slices);
@@ -191,18 +372,44 @@ impl IoBufs {
     }
 
     /// Returns all chunks, as they are handed to `writev`.
+    ///
+    /// ```
+    /// assert_eq!(iobufs::IoBufs::from(["ab".into(), "cde".into()]).io_slices().len(), 2);
+    /// ```
     pub fn io_slices(&self) -> Vec<IoSlice<'_>> {
         self.chunks().map(IoSlice::new).collect()
     }
 
     /// Writes all bytes by as many vectored writes as the writer needs, each of up to 64 chunks, and drops them as they
-    /// are taken. After an error the bytes that weren't taken are left. Fails with `ErrorKind::WriteZero` if the writer
-    /// takes no byte, and with `ErrorKind::Other` if it says that it took more than it was given.
+    /// are taken.
+    ///
+    /// ```
+    /// let mut bufs = iobufs::IoBufs::from(["ab".into(), "cde".into()]);
+    /// let mut to = Vec::new();
+    /// bufs.write_to(&mut to)?;
+    /// assert_eq!(to, b"abcde");
+    /// assert!(bufs.is_empty());
+    /// # Ok::<(), std::io::Error>(())
+    /// ```
+    ///
+    /// # Errors
+    /// Returns the writer's error, [`WriteZero`](io::ErrorKind::WriteZero) if the writer takes no byte, and
+    /// [`Other`](io::ErrorKind::Other) if it says that it took more than it was given. After an error the bytes that
+    /// weren't taken are left. An [`Interrupted`](io::ErrorKind::Interrupted) write is tried again.
     pub fn write_to(&mut self, to: &mut (impl Write + ?Sized)) -> io::Result<()> {
         self.0.write_to(&mut Honest { to, took: false })
     }
 
-    /// Takes the first `n` bytes, as `take_view` does. Panics if there are fewer (`Buf`).
+    /// Takes the first `n` bytes, as [`take_view`](Self::take_view) does, as a [`Bytes`] (`Buf`).
+    ///
+    /// ```
+    /// let mut bufs = iobufs::IoBufs::from(["ab".into(), "cde".into()]);
+    /// assert_eq!(bufs.copy_to_bytes(3), "abc");
+    /// assert_eq!(bufs, "de");
+    /// ```
+    ///
+    /// # Panics
+    /// Panics if there are fewer bytes.
     #[inline]
     #[track_caller]
     pub fn copy_to_bytes(&mut self, n: usize) -> Bytes {
@@ -211,9 +418,9 @@ impl IoBufs {
             .into()
     }
 
-    reads! { crate::error::short_chunks }
+    reads! { crate::error::short_chunks, "let mut buf = iobufs::IoBufs::from([\"he\".into(), \"llo\".into()]);" }
 
-    gets! {}
+    gets! { "IoBufs" }
 
     #[inline]
     pub(crate) fn each_chunk(&self) -> Chunks<'_> {
@@ -295,7 +502,13 @@ impl Extend<IoBuf> for IoBufs {
     }
 }
 
-/// The chunks that hold bytes, in order.
+/// The chunks that hold bytes, in order: what [`IoBufs::chunks`] returns.
+///
+/// ```
+/// let bufs = iobufs::IoBufs::from(["ab".into(), "cde".into()]);
+/// assert_eq!(bufs.chunks().len(), 2);
+/// assert_eq!(bufs.chunks().next_back(), Some(&b"cde"[..]));
+/// ```
 #[derive(Clone)]
 pub struct Chunks<'a> {
     bufs: &'a inner::IoBufs,
@@ -344,7 +557,13 @@ impl<'a> IntoIterator for &'a IoBufs {
     }
 }
 
-/// The chunks that hold bytes, as views.
+/// The chunks that hold bytes, as views: an [`IoBufs`] as an iterator.
+///
+/// ```
+/// let bufs = iobufs::IoBufs::from(["ab".into(), "cde".into()]);
+/// let last: iobufs::IoBuf = bufs.into_iter().last().unwrap();
+/// assert_eq!(last, "cde");
+/// ```
 #[derive(Clone, Debug)]
 pub struct IntoIter(IoBufs);
 
@@ -387,6 +606,15 @@ impl<const N: usize> From<[IoBuf; N]> for IoBufs {
 }
 
 /// How the length before a frame is written.
+///
+/// ```
+/// use iobufs::{Frames, Prefix};
+///
+/// let mut frames = Frames::new(Prefix::U24Le);
+/// frames.feed(b"\x02\0\0ok".into());
+/// assert_eq!(frames.next(..=1024)?.unwrap(), "ok");
+/// # Ok::<(), iobufs::Error>(())
+/// ```
 #[derive(Clone, Copy, Debug, Default, PartialEq, Eq, Hash)]
 #[non_exhaustive]
 pub enum Prefix {
@@ -432,6 +660,13 @@ impl Prefix {
     }
 
     /// Writes the length `n`. Returns `None` if it doesn't fit.
+    ///
+    /// ```
+    /// use iobufs::Prefix;
+    ///
+    /// assert_eq!(Prefix::U16Be.written(300).unwrap(), [1, 44]);
+    /// assert!(Prefix::U8.written(300).is_none());
+    /// ```
     pub fn written(self, n: usize) -> Option<IoBufMut> {
         let prefix = self.inner();
         prefix.fits(n).then(|| IoBufMut::from(prefix.head(n).as_slice()))
@@ -448,41 +683,91 @@ impl Prefix {
 /// assert_eq!(frames.next(..)?.unwrap(), "ok");
 /// # Ok::<(), iobufs::Error>(())
 /// ```
+///
+/// It reads nothing itself: [`FrameReader`](crate::FrameReader) takes frames from a reader of std,
+/// [`FrameCodec`](crate::FrameCodec) from a `BytesMut`, and the crate `iobufs-tokio` from a reader of tokio.
 #[derive(Default)]
 pub struct Frames(iobufs_frames::Frames);
 
 impl Frames {
     /// Makes frames to which nothing was fed, with lengths that are written as `prefix`.
+    ///
+    /// ```
+    /// assert!(iobufs::Frames::new(iobufs::Prefix::U32Be).is_empty());
+    /// ```
     pub fn new(prefix: Prefix) -> Self {
         Frames(iobufs_frames::Frames::new(prefix.inner()))
     }
 
-    /// Adds bytes at the end.
+    /// Adds bytes at the end, which aren't copied.
+    ///
+    /// ```
+    /// let mut frames = iobufs::Frames::default();
+    /// frames.feed(b"\x02ok\x05wo".into()); // a frame, and a part of one
+    /// assert_eq!(frames.next(..=1024)?.unwrap(), "ok");
+    /// assert_eq!(frames.next(..=1024)?, None);
+    /// assert_eq!(frames.len(), 3);
+    /// # Ok::<(), iobufs::Error>(())
+    /// ```
+    ///
+    /// # Panics
+    /// Panics if the length of all that is held passes `usize::MAX`.
     #[inline]
     #[track_caller]
     pub fn feed(&mut self, chunk: IoBuf) {
         made(self.0.feed(Global, chunk.0), None, "length overflow");
     }
 
-    /// Takes the first frame; `None` if it isn't whole yet. Fails if no further bytes can make it whole.
+    /// Takes the body of the first frame if its length is in `range`; `None` if the frame isn't whole yet. The body is
+    /// shared within a chunk, and copied across chunks.
+    ///
+    /// ```
+    /// let mut frames = iobufs::Frames::default();
+    /// frames.feed(b"\x05hel".into());
+    /// assert_eq!(frames.next(..=1024)?, None);
+    /// frames.feed(b"lo".into());
+    /// assert_eq!(frames.next(..=4), Err(iobufs::Error::InvalidLength(5)));
+    /// assert_eq!(frames.next(..=1024)?.unwrap(), "hello");
+    /// # Ok::<(), iobufs::Error>(())
+    /// ```
+    ///
+    /// # Errors
+    /// Returns [`Error::InvalidVarint`] or [`Error::InvalidLength`] if no further bytes can make the frame whole. Then
+    /// nothing changes: the connection can't be read on.
     pub fn next(&mut self, range: impl RangeBounds<usize>) -> Result<Option<IoBuf>, Error> {
         let body = self.0.next(Global, &core::RangeCfg::new(range)).map_err(fault)?;
         Ok(body.map(IoBuf))
     }
 
     /// Returns how many bytes were fed and not taken.
+    ///
+    /// ```
+    /// let mut frames = iobufs::Frames::default();
+    /// frames.feed(b"\x05hel".into());
+    /// assert_eq!(frames.len(), 4);
+    /// ```
     #[inline]
     pub fn len(&self) -> usize {
         self.0.rest().len()
     }
 
     /// Returns whether all that was fed was taken.
+    ///
+    /// ```
+    /// assert!(iobufs::Frames::default().is_empty());
+    /// ```
     #[inline]
     pub fn is_empty(&self) -> bool {
         self.0.rest().is_empty()
     }
 
-    /// Returns how many chunks keep an owner (`IoBuf::from_owner`).
+    /// Returns how many chunks keep an owner ([`IoBuf::from_owner`]).
+    ///
+    /// ```
+    /// let mut frames = iobufs::Frames::default();
+    /// frames.feed(iobufs::IoBuf::from_owner(b"\x05hel"));
+    /// assert_eq!(frames.owners(), 1);
+    /// ```
     pub fn owners(&self) -> usize {
         owners(self.0.rest())
     }

@@ -18,6 +18,10 @@ use std::ops::{Bound, RangeBounds};
 /// assert_eq!(view.slice(1..), [3]);
 /// ```
 ///
+/// A clone, a slice and a split of a view allocate nothing, except the first of a [`Bytes`] that was made of a `Vec`.
+/// The storage lives until its last view is dropped. [`IoBufs`](crate::IoBufs) joins several views;
+/// [`try_into_mut`](Self::try_into_mut) makes one writable.
+///
 /// A buffer has no order and no hash, as in the original. A key of a map says which it has:
 ///
 /// ```
@@ -46,51 +50,120 @@ use std::ops::{Bound, RangeBounds};
 pub struct IoBuf(pub(crate) inner::IoBuf);
 
 impl IoBuf {
-    /// Makes an empty view.
+    /// Makes an empty view. It allocates nothing.
+    ///
+    /// ```
+    /// assert!(iobufs::IoBuf::new().is_empty());
+    /// ```
     pub fn new() -> Self {
         Self::default()
     }
 
-    /// Makes a view of these bytes, which aren't copied.
+    /// Makes a view of these bytes, which aren't copied. It allocates nothing.
+    ///
+    /// ```
+    /// static WORDS: [u8; 3] = *b"one";
+    /// let view = iobufs::IoBuf::from_static(&WORDS);
+    /// assert_eq!(view.as_ptr(), WORDS.as_ptr());
+    /// ```
     pub fn from_static(bytes: &'static [u8]) -> Self {
         Self::from(bytes)
     }
 
-    /// Makes a view of the bytes of `owner`, which aren't copied. They live until the last buffer made of it is
-    /// dropped, on whatever thread that is. `as_ref` is called once.
+    /// Makes a view of the bytes of `owner`, which aren't copied. `as_ref` is called once.
+    ///
+    /// The last buffer made of the view drops the owner, on whatever thread that is. An owner of no bytes is dropped
+    /// before the call returns.
+    ///
+    /// ```
+    /// use std::sync::Arc;
+    ///
+    /// let owner = Arc::new([1, 2, 3]);
+    /// struct Shared(Arc<[u8; 3]>);
+    /// impl AsRef<[u8]> for Shared {
+    ///     fn as_ref(&self) -> &[u8] {
+    ///         &self.0[..]
+    ///     }
+    /// }
+    ///
+    /// let mut view = iobufs::IoBuf::from_owner(Shared(owner.clone()));
+    /// let front = view.split_to(1);
+    /// drop(view);
+    /// assert_eq!(Arc::strong_count(&owner), 2); // `front` keeps the owner
+    /// drop(front);
+    /// assert_eq!(Arc::strong_count(&owner), 1);
+    /// ```
     pub fn from_owner<T: AsRef<[u8]> + Send + Sync + 'static>(owner: T) -> Self {
         Self::from(Bytes::from_owner(owner))
     }
 
-    /// Copies these bytes.
+    /// Copies these bytes into storage of their own.
+    ///
+    /// ```
+    /// let mut bytes = *b"one";
+    /// let view = iobufs::IoBuf::copy_from_slice(&bytes);
+    /// bytes[0] = b'O';
+    /// assert_eq!(view, "one");
+    /// ```
     pub fn copy_from_slice(data: &[u8]) -> Self {
         IoBuf(made(inner::IoBuf::copy_from_slice(Global, data), Some(data.len()), ""))
     }
 
-    /// Copies these bytes, or returns an error if that fails.
+    /// Copies these bytes into storage of their own.
+    ///
+    /// ```
+    /// assert_eq!(iobufs::IoBuf::try_copy_from_slice(b"one")?, "one");
+    /// # Ok::<(), iobufs::AllocError>(())
+    /// ```
+    ///
+    /// # Errors
+    /// Returns [`AllocError`] if the storage can't be allocated.
     pub fn try_copy_from_slice(data: &[u8]) -> Result<Self, AllocError> {
         tried(inner::IoBuf::copy_from_slice(Global, data), data.len(), IoBuf)
     }
 
     /// Returns the number of bytes.
+    ///
+    /// ```
+    /// assert_eq!(iobufs::IoBuf::from("one").len(), 3);
+    /// ```
     #[inline]
     pub fn len(&self) -> usize {
         self.0.len()
     }
 
     /// Returns whether there are no bytes.
+    ///
+    /// ```
+    /// assert!(iobufs::IoBuf::from("").is_empty());
+    /// ```
     #[inline]
     pub fn is_empty(&self) -> bool {
         self.0.is_empty()
     }
 
-    /// Returns the address of the bytes.
+    /// Returns the address of the bytes. A clone has the same.
+    ///
+    /// ```
+    /// let view = iobufs::IoBuf::from(vec![1, 2, 3]);
+    /// assert_eq!(view.clone().as_ptr(), view.as_ptr());
+    /// ```
     #[inline]
     pub fn as_ptr(&self) -> *const u8 {
         self.as_ref().as_ptr()
     }
 
-    /// Returns the bytes of a range, in the same storage. Panics if it isn't within the bytes.
+    /// Returns the view of the bytes of a range, in the same storage.
+    ///
+    /// ```
+    /// let view = iobufs::IoBuf::from(vec![1, 2, 3]);
+    /// let rest = view.slice(1..);
+    /// assert_eq!(rest, [2, 3]);
+    /// assert_eq!(rest.as_ptr(), view[1..].as_ptr()); // nothing is copied
+    /// ```
+    ///
+    /// # Panics
+    /// Panics if the range isn't within the bytes.
     #[inline]
     #[track_caller]
     #[must_use]
@@ -102,8 +175,16 @@ impl IoBuf {
         }
     }
 
-    /// Returns the view of some of its bytes, in the same storage. Panics if `subset` isn't a part of what `as_ref`
-    /// returns.
+    /// Returns the view of some of its bytes, in the same storage: [`slice`](Self::slice) by a subslice.
+    ///
+    /// ```
+    /// let line = iobufs::IoBuf::from("key = value");
+    /// let value = line.rsplit(|byte| *byte == b' ').next().unwrap();
+    /// assert_eq!(line.slice_ref(value), "value");
+    /// ```
+    ///
+    /// # Panics
+    /// Panics if `subset` has bytes and isn't a part of what `as_ref` returns.
     #[track_caller]
     #[must_use]
     pub fn slice_ref(&self, subset: &[u8]) -> Self {
@@ -114,7 +195,16 @@ impl IoBuf {
         self.slice(at..at.saturating_add(subset.len()))
     }
 
-    /// Takes the first `at` bytes, in the same storage. Panics if there are fewer.
+    /// Takes the first `at` bytes, in the same storage. The view keeps the rest.
+    ///
+    /// ```
+    /// let mut view = iobufs::IoBuf::from("hello world");
+    /// assert_eq!(view.split_to(5), "hello");
+    /// assert_eq!(view, " world");
+    /// ```
+    ///
+    /// # Panics
+    /// Panics if there are fewer bytes.
     #[inline]
     #[track_caller]
     #[must_use = "`advance` drops the front"]
@@ -125,7 +215,16 @@ impl IoBuf {
         }
     }
 
-    /// Takes the bytes from `at` on, in the same storage. Panics if there are fewer.
+    /// Takes the bytes from `at` on, in the same storage. The view keeps the first `at` bytes.
+    ///
+    /// ```
+    /// let mut view = iobufs::IoBuf::from("hello world");
+    /// assert_eq!(view.split_off(5), " world");
+    /// assert_eq!(view, "hello");
+    /// ```
+    ///
+    /// # Panics
+    /// Panics if there are fewer bytes.
     #[track_caller]
     #[must_use = "`truncate` drops the other half"]
     pub fn split_off(&mut self, at: usize) -> Self {
@@ -133,35 +232,71 @@ impl IoBuf {
         mem::replace(self, front)
     }
 
-    /// Keeps at most the first `len` bytes.
+    /// Keeps at most the first `len` bytes. It keeps the whole storage.
+    ///
+    /// ```
+    /// let mut view = iobufs::IoBuf::from("hello");
+    /// view.truncate(9);
+    /// assert_eq!(view, "hello");
+    /// view.truncate(4);
+    /// assert_eq!(view, "hell");
+    /// ```
     pub fn truncate(&mut self, len: usize) {
         if let Some(front) = self.0.try_split_to(len) {
             self.0 = shared(front);
         }
     }
 
-    /// Keeps no byte.
+    /// Keeps no byte, and drops its share of the storage.
+    ///
+    /// ```
+    /// let mut view = iobufs::IoBuf::from("hello");
+    /// view.clear();
+    /// assert!(view.is_empty());
+    /// ```
     pub fn clear(&mut self) {
         *self = Self::default();
     }
 
-    /// Recovers the bytes as a buffer to write, with the spare capacity after them, if no other view shares their
-    /// storage. Bytes of an owner are not recovered.
+    /// Recovers the bytes as a buffer to write, with the spare capacity after them. It copies nothing.
+    ///
+    /// ```
+    /// let view = iobufs::IoBuf::from(b"hello".to_vec());
+    /// let other = view.clone();
+    /// let view = view.try_into_mut().unwrap_err(); // `other` shares the storage
+    /// drop(other);
+    /// let mut buf = view.try_into_mut().unwrap();
+    /// buf[0] = b'J';
+    /// assert_eq!(buf.freeze(), "Jello");
+    /// ```
+    ///
+    /// # Errors
+    /// Returns the view if another one shares its storage, or if it was made of a static slice, an owner, a [`Bytes`] or
+    /// a `BytesMut`. [`IoBufMut::from`] copies these.
     #[inline]
     pub fn try_into_mut(self) -> Result<IoBufMut, Self> {
         self.0.try_into_mut(Global).map(IoBufMut).map_err(IoBuf)
     }
 
-    /// Takes the first `n` bytes, as `take_view` does. Panics if there are fewer (`Buf`).
+    /// Takes the first `n` bytes, as [`take_view`](Self::take_view) does, as a [`Bytes`] (`Buf`).
+    ///
+    /// ```
+    /// let mut view = iobufs::IoBuf::from("hello");
+    /// let front: bytes::Bytes = view.copy_to_bytes(2);
+    /// assert_eq!(front, "he");
+    /// ```
+    ///
+    /// # Panics
+    /// Panics if there are fewer bytes.
     #[inline]
     #[track_caller]
     pub fn copy_to_bytes(&mut self, n: usize) -> Bytes {
         self.taken(n, "copy_to_bytes out of bounds").into()
     }
 
-    reads! { crate::error::too_short }
+    reads! { crate::error::too_short, "let mut buf = iobufs::IoBuf::from(\"hello\");" }
 
-    gets! {}
+    gets! { "IoBuf" }
 }
 
 impl Clone for IoBuf {

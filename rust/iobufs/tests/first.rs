@@ -216,5 +216,5 @@ fn bytes_that_are_no_value() {
     );
     assert_eq!(Vec::<u8>::decode_cfg(IoBuf::from(vec![3, 1]), &(any, ())), Err(Error::EndOfBuffer));
     assert_eq!(<(u8, u8)>::decode_cfg(IoBuf::from(vec![1, 2, 3]), &((), ())), Err(Error::ExtraData(1)));
-    assert_eq!(Error::InvalidEnum(9).to_string(), "the byte 9 is no variant");
+    assert_eq!(Error::InvalidEnum(9).to_string(), "invalid variant 9");
 }

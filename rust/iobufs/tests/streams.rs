@@ -120,7 +120,7 @@ const READ: [(&[u8], &[u8], &str); 5] = [
     (b"\x05hell", b"", "the input ends inside a frame"),
     (b"\x88", b"", "the input ends inside a frame"),
     (b"\0\x09aaaaaaaaa", b"|", "bad frame: the length 9 is outside the range"),
-    (b"\x80\0", b"", "bad frame: the bytes are no varint"),
+    (b"\x80\0", b"", "bad frame: invalid varint"),
 ];
 
 #[test]
@@ -177,7 +177,7 @@ fn errors_of_reads() {
         (
             Narrow::new(b"\x80\0", 2),
             |it| matches!(it, FrameError::Bad(Error::InvalidVarint)),
-            "the bytes are no varint",
+            "invalid varint",
             ErrorKind::InvalidData,
         ),
         (Narrow::new(b"\x08", 2), |it| matches!(it, FrameError::Cut), "", ErrorKind::UnexpectedEof),

@@ -1,17 +1,4 @@
-//! Frames over tokio's readers and writers: `FramedRead`, `FramedWrite` and `Framed` of tokio-util with this codec. And
-//! an `IoBufs` as a reader.
-//!
-//! ```
-//! use bytes::BytesMut;
-//! use iobufs_tokio::FrameCodec;
-//! use tokio_util::codec::{Decoder, Encoder};
-//!
-//! let mut codec = FrameCodec::new(iobufs::Prefix::U16Be, ..=1024);
-//! let mut bytes = BytesMut::new();
-//! codec.encode(&b"hello"[..], &mut bytes)?;
-//! assert_eq!(codec.decode(&mut bytes)?.unwrap(), "hello");
-//! # Ok::<(), iobufs::FrameError>(())
-//! ```
+#![doc = include_str!("../README.md")]
 #![forbid(unsafe_code)]
 #![warn(missing_docs)]
 use bytes::{Bytes, BytesMut};
@@ -23,12 +10,22 @@ use std::task::{Context, Poll};
 use tokio::io::{AsyncBufRead, AsyncRead, ReadBuf};
 use tokio_util::codec::{Decoder, Encoder};
 
-/// A codec of frames. A body that is decoded shares the block that it was read into; one that is encoded is copied.
+/// A codec of frames, over [`iobufs::FrameCodec`]. A body that is decoded shares the block that it was read into; one that
+/// is encoded is copied.
 #[derive(Clone, Copy, Debug, PartialEq, Eq)]
 pub struct FrameCodec(iobufs::FrameCodec);
 
 impl FrameCodec {
     /// Makes a codec of frames with lengths in `range` that are written as `prefix`.
+    ///
+    /// ```
+    /// use iobufs_tokio::FrameCodec;
+    /// use tokio_util::codec::FramedRead;
+    ///
+    /// let codec = FrameCodec::new(iobufs::Prefix::Varint, ..=1024);
+    /// let bodies = FramedRead::new(&b"\x05hello"[..], codec); // a `Stream` of them
+    /// # let _ = bodies;
+    /// ```
     pub fn new(prefix: Prefix, range: impl RangeBounds<usize>) -> Self {
         FrameCodec(iobufs::FrameCodec::new(prefix, range))
     }
@@ -75,7 +72,15 @@ macro_rules! encoders {
 
 encoders! { IoBuf Bytes &[u8] }
 
-/// The bytes of an `IoBufs` as a reader, which never waits.
+/// The bytes of an [`IoBufs`] as a reader, which never waits.
+///
+/// ```
+/// use iobufs::IoBufs;
+///
+/// let reader = iobufs_tokio::Reader(IoBufs::from(["ab".into(), "cde".into()]));
+/// # fn is_reader(_: impl tokio::io::AsyncBufRead) {}
+/// is_reader(reader);
+/// ```
 #[derive(Clone, Debug, Default)]
 pub struct Reader(pub IoBufs);
 
