@@ -1,6 +1,7 @@
 // Writable buffers, read and filled in order. A clause sees a list of them (`Part`), each its bytes and spare capacity.
 ghost use Rattle.std.specs.Prelude.{IsTrue, IsFalse, nat_le, ◌≡◌, ◌+◌, ◌<◌, ◌≤◌, ◌==◌, ◌^◌, ◌++◌, ◌∷◌, [], List, length, slice_get, take, Err, IfErr, IfNone, IfOk, IfSome, IsOk, IsOkUnless, MatchResult, OnErr, Some, codes, ⊤};
 ghost use Rattle.std.specs.Fmt.{decimal};
+ghost use Rattle.std.specs.Ptr.{null_ptr};
 ghost use Rattle.std.specs.Iterator.{DrainsIf, IsFinite};
 ghost use Rattle.std.specs.Iterator.Runs.{SomeRun, WholeRun};
 ghost use Rattle.std.specs.Option.{option_copied, option_map};
@@ -19,7 +20,7 @@ mod several;
 use crate::bufs::IoBufs;
 use bytes::Bytes;
 use few::Few;
-use iobufs_core::buf::IoBufMut;
+use iobufs_core::buf::{IoBufMut, address_mut};
 use iobufs_core::codec::{Buf, BufError, BufMut};
 use several::{Several, take_whole, visit_part};
 use std::alloc::{AllocError, Global};
@@ -344,6 +345,18 @@ impl IoBufsMut {
     {
         self.shape.settle();
         self.shape.single_mut()
+    }
+
+    /// Returns the address of the first chunk of the readable bytes, also of none, to write there (own, for layers).
+    pub fn chunk_ptr(&mut self) -> *mut u8
+        ensures address { result ≡ null_ptr → ⊥ }
+        ensures same { self.new ≡ self.old }
+    {
+        match &mut self.shape {
+            Shape::One(part) => address_mut(part.as_mut()),
+            Shape::Few(parts) => parts.chunk_ptr(),
+            Shape::Many(parts) => parts.chunk_ptr(),
+        }
     }
 
     /// Converts the buffers that hold bytes into the chunks of an `IoBufs` (`IoBufsMut::freeze`).

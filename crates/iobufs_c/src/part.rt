@@ -10,8 +10,8 @@ ghost use Rattle.iobufs_c.specs.Codes.{IsDoneUnless, code_of, of_buf_error};
 ghost use Rattle.iobufs_c.specs.Rows.{part_or_empty, part_row, part_written_at};
 
 use crate::status::{Status, enough, refusal, within};
-use crate::view::{ViewAt, address, hand};
-use iobufs_core::buf::{IoBuf, IoBufMut};
+use crate::view::{ViewAt, hand};
+use iobufs_core::buf::{IoBuf, IoBufMut, address_mut};
 use iobufs_core::codec::{Buf, BufError, BufMut};
 use std::alloc::Global;
 use std::marker::{Model, Send};
@@ -227,9 +227,8 @@ pub extern "C" fn iobufmut_chunk(part: &mut PartAt, out: &mut *mut u8) -> usize
     let Some(part) = part.get() else {
         return 0;
     };
-    let chunk = part.as_ref();
-    *out = address(chunk) as *mut u8;
-    chunk.len()
+    *out = address_mut(part.as_mut());
+    part.len()
 }
 
 /// Writes bytes after the readable ones. Returns `Status::OutOfRange` if they don't fit; then nothing changes.

@@ -12,7 +12,6 @@ ghost use Rattle.iobufs_c.specs.Rows.{held_parts, parts_of, parts_row};
 use crate::part::{PartAt, fits, hand_part};
 use crate::status::{Status, enough, refusal, within};
 use crate::text::{Chunk, TextAt, chunk_of, hand_text};
-use crate::view::address;
 use iobufs::bufs::IoBufs;
 use iobufs::bufs_mut::IoBufsMut;
 use iobufs_core::buf::IoBufMut;
@@ -206,9 +205,8 @@ pub extern "C" fn iobufsmut_chunk(parts: &mut PartsAt, out: &mut *mut u8) -> usi
     let Some(parts) = parts.get() else {
         return 0;
     };
-    let chunk = parts.chunk();
-    *out = address(chunk) as *mut u8;
-    chunk.len()
+    *out = parts.chunk_ptr();
+    parts.chunk().len()
 }
 
 // Fills a list with the addresses and lengths of the first chunks of the readable bytes, and returns how many it

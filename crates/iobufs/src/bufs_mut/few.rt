@@ -1,5 +1,6 @@
 // Up to three parts in place.
 ghost use Rattle.std.specs.Option.{option_copied};
+ghost use Rattle.std.specs.Ptr.{null_ptr};
 ghost use Rattle.std.specs.Prelude.{◌≡◌, ◌+◌, ◌-◌, ◌^◌, ◌<◌, ◌≤◌, ◌++◌, [], ◌∷◌, drop, false, length, map, replicate, slice_get, take, ◌==◌, if◌then◌else◌, Err, IfOk, OnOk, IfNone, IfSome, IsOk, IsOkUnless, IsTrue, OnErr};
 ghost use Rattle.iobufs_core.specs.Chunks.{first_chunk};
 ghost use Rattle.iobufs_core.specs.MarkedText.{of_view};
@@ -16,7 +17,7 @@ use super::several::{
 use crate::bufs::IoBufs;
 use crate::bufs::row::NewRow;
 use bytes::Bytes;
-use iobufs_core::buf::IoBufMut;
+use iobufs_core::buf::{IoBufMut, address_mut};
 use iobufs_core::codec::{Buf, BufError, BufMut};
 use std::alloc::{AllocError, Global};
 use std::marker::Model;
@@ -413,6 +414,20 @@ impl Few {
             return self.second.as_ref();
         }
         self.third.as_ref()
+    }
+
+    /// The address of the first chunk.
+    pub(super) fn chunk_ptr(&mut self) -> *mut u8
+        ensures address { result ≡ null_ptr → ⊥ }
+        ensures same { self.new ≡ self.old }
+    {
+        if !self.first.is_empty() {
+            return address_mut(self.first.as_mut());
+        }
+        if !self.second.is_empty() {
+            return address_mut(self.second.as_mut());
+        }
+        address_mut(self.third.as_mut())
     }
 
     pub(super) fn byte_at(&self, i: usize) -> Option<u8>

@@ -1,5 +1,6 @@
 // A row of parts with their sums.
 ghost use Rattle.std.specs.Option.{option_copied};
+ghost use Rattle.std.specs.Ptr.{null_ptr};
 ghost use Rattle.std.specs.Prelude.{◌≡◌, ◌+◌, ◌-◌, ◌^◌, ◌<◌, ◌≤◌, ◌++◌, [], ◌∷◌, drop, false, fold, length, map, min, nat_lt, replicate, slice_get, slice_index_or, take, Err, IfNone, IfOk, IfSome, IsOk, IsOkUnless, IsTrue, OnErr, OnOk, vec_capacity, vec_len};
 ghost use Rattle.iobufs_core.specs.Chunks.{first_chunk};
 ghost use Rattle.iobufs_core.specs.MarkedText.{of_view, text_append};
@@ -13,7 +14,7 @@ use crate::bufs::IoBufs;
 use crate::bufs::reserved::put_reserved;
 use crate::bufs::row::NewRow;
 use bytes::Bytes;
-use iobufs_core::buf::{IoBuf, IoBufMut};
+use iobufs_core::buf::{IoBuf, IoBufMut, address_mut};
 use iobufs_core::codec::{Buf, BufError, BufMut};
 use std::alloc::{AllocError, Global};
 use std::collections::VecDeque;
@@ -268,6 +269,14 @@ impl Several {
         &[]
     }
 
+    /// The address of the first chunk.
+    pub(super) fn chunk_ptr(&mut self) -> *mut u8
+        ensures address { result ≡ null_ptr → ⊥ }
+        ensures same { self.new ≡ self.old }
+    {
+        row_ptr(&mut self.row)
+    }
+
     #[tactic(auto, using(crate::proofs::Parts::PartChunks::reading))]
     pub(super) fn byte_at(&self, i: usize) -> Option<u8>
         ensures { result ≡ slice_get (parts_filled self.now) i }
@@ -374,6 +383,20 @@ impl Several {
         }
         Ok(whole)
     }
+}
+
+// The address of the first part of the row that holds bytes.
+fn row_ptr(row: &mut VecDeque<IoBufMut>) -> *mut u8
+    requires { 0 < length row.old.items }
+    ensures address { result ≡ null_ptr → ⊥ }
+    ensures same { row.new.items ≡ row.old.items }
+{
+    for i in 0..row.len() {
+        if !row[i].is_empty() {
+            return address_mut(row[i].as_mut());
+        }
+    }
+    address_mut(row[0].as_mut())
 }
 
 // Takes all bytes of a part with their storage, if they are `n` and it has no spare capacity.

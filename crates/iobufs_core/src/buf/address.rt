@@ -1,0 +1,10 @@
+// The address of bytes, for C.
+ghost use Rattle.std.specs.Prelude.{◌≡◌};
+ghost use Rattle.std.specs.Ptr.{null_ptr};
+
+/// Returns the address of bytes, also of none, to write there (own, for layers).
+pub fn address_mut(bytes: &mut [u8]) -> *mut u8
+    ensures { (result ≡ null_ptr → ⊥) × (bytes.new ≡ bytes.old) }
+{
+    bytes.as_mut_ptr()
+}
