@@ -572,13 +572,13 @@ IOBUFS_CHECKED iobufs_status iobufs_received_next(struct iobufs_received_at *rec
 /* ---- little-endian numbers: put swapped, as in iobufmut_put_u32(&part, iobufs_swap32(n)), and swapped after a read ---- */
 
 static inline uint16_t iobufs_swap16(uint16_t n) {
-    return (uint16_t)(n >> 8 | n << 8);
+    return __builtin_bswap16(n);
 }
 static inline uint32_t iobufs_swap32(uint32_t n) {
-    return (uint32_t)iobufs_swap16((uint16_t)n) << 16 | iobufs_swap16((uint16_t)(n >> 16));
+    return __builtin_bswap32(n);
 }
 static inline uint64_t iobufs_swap64(uint64_t n) {
-    return (uint64_t)iobufs_swap32((uint32_t)n) << 32 | iobufs_swap32((uint32_t)(n >> 32));
+    return __builtin_bswap64(n);
 }
 
 /* ---- one iobufs at the end of another ---- */
