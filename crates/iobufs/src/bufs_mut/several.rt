@@ -274,7 +274,8 @@ impl Several {
         ensures address { result ≡ null_ptr → ⊥ }
         ensures same { self.new ≡ self.old }
     {
-        row_ptr(&mut self.row)
+        let first = first_filled(&self.row);
+        address_mut(self.row[first].as_mut())
     }
 
     #[tactic(auto, using(crate::proofs::Parts::PartChunks::reading))]
@@ -385,18 +386,17 @@ impl Several {
     }
 }
 
-// The address of the first part of the row that holds bytes.
-fn row_ptr(row: &mut VecDeque<IoBufMut>) -> *mut u8
-    requires { 0 < length row.old.items }
-    ensures address { result ≡ null_ptr → ⊥ }
-    ensures same { row.new.items ≡ row.old.items }
+// The index of the first part that holds bytes, or 0.
+fn first_filled(row: &VecDeque<IoBufMut>) -> usize
+    requires { 0 < length row.now.items }
+    ensures { result < length row.now.items }
 {
     for i in 0..row.len() {
         if !row[i].is_empty() {
-            return address_mut(row[i].as_mut());
+            return i;
         }
     }
-    address_mut(row[0].as_mut())
+    0
 }
 
 // Takes all bytes of a part with their storage, if they are `n` and it has no spare capacity.
