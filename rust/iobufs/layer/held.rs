@@ -50,6 +50,8 @@ unsafe impl Send for Held where Storage: Send {}
 // SAFETY: as above.
 unsafe impl Sync for Held where Storage: Sync {}
 
+// The calls are those of `held.rt`.
+#[allow(clippy::len_without_is_empty)]
 impl Held {
     /// Shows all bytes of a range. Panics if they aren't there.
     #[inline]
