@@ -3,9 +3,9 @@
 use crate::error::{fault, out_of_memory, shared};
 use crate::io::Honest;
 use crate::kit::{Global, bytes as kit};
-use crate::proved::iobufs_core::codec::{BufError, RangeCfg};
+use crate::proved::iobufs_core::codec::{self, BufError, RangeCfg};
 use crate::proved::iobufs_frames as inner;
-use crate::{Error, IoBuf, IoBufs, Prefix};
+use crate::{Error, IoBuf, IoBufs, Layout, Prefix, Whole};
 use bytes::BytesMut;
 use std::io::{self, ErrorKind, Read, Write};
 use std::ops::RangeBounds;
@@ -90,44 +90,68 @@ impl From<FrameError> for io::Error {
 /// ```
 #[derive(Clone, Copy, Debug, PartialEq, Eq)]
 pub struct FrameCodec {
-    prefix: inner::Prefix,
+    layout: inner::Layout,
     range: RangeCfg,
 }
 
 impl FrameCodec {
-    /// Makes a codec of frames with lengths in `range` that are written as `prefix`.
-    pub fn new(prefix: Prefix, range: impl RangeBounds<usize>) -> Self {
-        FrameCodec { prefix: prefix.inner(), range: RangeCfg::new(range) }
+    /// Makes a codec of frames with bodies of lengths in `range`, and headers that are laid out so: as a `Prefix`, or a
+    /// `Layout`.
+    pub fn new(layout: impl Into<Layout>, range: impl RangeBounds<usize>) -> Self {
+        FrameCodec { layout: layout.into().inner(), range: RangeCfg::new(range) }
     }
 
     /// Takes the first body, which shares the storage of `src`; `None` if its frame isn't whole yet. Fails if no
     /// further bytes can make it whole. Unless a frame is taken, `src` is unchanged.
     pub fn decode(&self, src: &mut BytesMut) -> Result<Option<IoBuf>, Error> {
-        let mut held = inner::Received::new(Global, self.prefix);
+        Ok(self.take(src, |held, range| held.next(range))?.map(IoBuf))
+    }
+
+    /// Takes the first frame with its header, as `decode` takes its body.
+    pub fn decode_whole(&self, src: &mut BytesMut) -> Result<Option<Whole<IoBuf>>, Error> {
+        Ok(self.take(src, |held, range| held.next_whole(range))?.map(Whole::of))
+    }
+
+    /// Takes from the bytes of `src`, which is moved in and out.
+    fn take<T>(
+        &self,
+        src: &mut BytesMut,
+        next: impl FnOnce(&mut inner::Received, &RangeCfg) -> Result<T, codec::Error>,
+    ) -> Result<T, Error> {
+        let mut held = inner::Received::with_layout(Global, self.layout);
         *held.block_mut() = kit::BytesMut::of(mem::take(src));
-        let body = held.next(&self.range);
+        let taken = next(&mut held, &self.range);
         *src = mem::replace(held.block_mut(), kit::BytesMut::new(Global)).into_inner();
-        Ok(body.map_err(fault)?.map(IoBuf))
+        taken.map_err(fault)
     }
 
     /// Appends the frame of a body, which is copied. Fails with `Error::InvalidLength` if the length is outside the
-    /// range, or can't be written as the prefix; then `dst` is unchanged.
+    /// range, or can't be written so, or headers have bytes around their lengths; then `dst` is unchanged.
     pub fn encode(&self, body: &IoBufs, dst: &mut BytesMut) -> Result<(), Error> {
-        self.begin(body.len(), dst)?;
+        self.begin(&[], &[], body.len(), dst)?;
+        body.for_each_chunk(|chunk| dst.extend_from_slice(chunk));
+        Ok(())
+    }
+
+    /// Appends a frame as `encode` does, with these bytes before its length and after it. Fails with
+    /// `Error::InvalidLength` also if the layout has another number of them, or more than 22.
+    pub fn encode_with(&self, before: &[u8], after: &[u8], body: &IoBufs, dst: &mut BytesMut) -> Result<(), Error> {
+        self.begin(before, after, body.len(), dst)?;
         body.for_each_chunk(|chunk| dst.extend_from_slice(chunk));
         Ok(())
     }
 
     /// Appends the frame of these bytes, as `encode` does.
     pub fn encode_slice(&self, body: &[u8], dst: &mut BytesMut) -> Result<(), Error> {
-        self.begin(body.len(), dst)?;
+        self.begin(&[], &[], body.len(), dst)?;
         dst.extend_from_slice(body);
         Ok(())
     }
 
-    /// Appends the length of a body, and reserves space for the body.
-    fn begin(&self, len: usize, dst: &mut BytesMut) -> Result<(), Error> {
-        let head = self.prefix.head_within(len, &self.range).ok_or(Error::InvalidLength(len))?;
+    /// Appends the header of a body, and reserves space for the body.
+    #[inline(always)]
+    fn begin(&self, before: &[u8], after: &[u8], len: usize, dst: &mut BytesMut) -> Result<(), Error> {
+        let head = self.layout.header_within(before, after, len, &self.range).ok_or(Error::InvalidLength(len))?;
         dst.reserve(head.len() + len);
         dst.extend_from_slice(head.as_slice());
         Ok(())
@@ -155,15 +179,28 @@ impl<R> FrameReader<R> {
         Self::with_prefix(from, Prefix::Varint, range)
     }
 
-    /// Makes a reader of frames with lengths in `range` that are written as `prefix`.
-    pub fn with_prefix(from: R, prefix: Prefix, range: impl RangeBounds<usize>) -> Self {
-        FrameReader(shared(inner::FrameReader::with_prefix(Global, from, prefix.inner(), RangeCfg::new(range))))
+    /// Makes a reader of frames with bodies of lengths in `range`, and headers that are laid out so: as a `Prefix`, or a
+    /// `Layout`.
+    pub fn with_prefix(from: R, layout: impl Into<Layout>, range: impl RangeBounds<usize>) -> Self {
+        let (layout, range) = (layout.into().inner(), RangeCfg::new(range));
+        FrameReader(shared(inner::FrameReader::with_layout(Global, from, layout, range)))
+    }
+
+    /// Lays the headers out so from the next frame on.
+    pub fn set_layout(&mut self, layout: impl Into<Layout>) {
+        self.0.set_layout(layout.into().inner());
     }
 
     /// Takes the next body if its whole frame was read, without a read; otherwise returns `None`.
     pub fn try_next(&mut self) -> Result<Option<IoBuf>, Error> {
         let body = self.0.try_next().map_err(fault)?;
         Ok(body.map(IoBuf))
+    }
+
+    /// Takes the next frame with its header if it was read whole, without a read.
+    pub fn try_next_whole(&mut self) -> Result<Option<Whole<IoBuf>>, Error> {
+        let whole = self.0.try_next_whole().map_err(fault)?;
+        Ok(whole.map(Whole::of))
     }
 
     /// Returns the reader.
@@ -200,6 +237,11 @@ impl<R: Read> FrameReader<R> {
     pub fn next(&mut self) -> Result<Option<IoBuf>, FrameError> {
         Ok(self.0.next()?.map(IoBuf))
     }
+
+    /// Takes the next frame with its header, as `next` takes its body.
+    pub fn next_whole(&mut self) -> Result<Option<Whole<IoBuf>>, FrameError> {
+        Ok(self.0.next_whole()?.map(Whole::of))
+    }
 }
 
 impl<R: fmt::Debug> fmt::Debug for FrameReader<R> {
@@ -220,17 +262,30 @@ impl<W> FrameWriter<W> {
         Self::with_prefix(to, Prefix::Varint, range)
     }
 
-    /// Makes a writer of frames with lengths in `range` that are written as `prefix`.
-    pub fn with_prefix(to: W, prefix: Prefix, range: impl RangeBounds<usize>) -> Self {
+    /// Makes a writer of frames with bodies of lengths in `range`, and headers that are laid out so: as a `Prefix`, or a
+    /// `Layout`.
+    pub fn with_prefix(to: W, layout: impl Into<Layout>, range: impl RangeBounds<usize>) -> Self {
         let to = Honest { to, took: false };
-        FrameWriter(inner::FrameWriter::with_prefix(Global, to, prefix.inner(), RangeCfg::new(range)))
+        FrameWriter(inner::FrameWriter::with_layout(Global, to, layout.into().inner(), RangeCfg::new(range)))
+    }
+
+    /// Lays the headers out so from the next `put` on.
+    pub fn set_layout(&mut self, layout: impl Into<Layout>) {
+        self.0.layout = layout.into().inner();
     }
 
     /// Puts a frame of this body after those that aren't sent yet; nothing is written. Fails with
-    /// `Error::InvalidLength` if the length is outside the range, or can't be written as the prefix; then nothing is
-    /// put. It allocates space for the list of frames alone, from the second frame on.
+    /// `Error::InvalidLength` if the length is outside the range, or can't be written so, or headers have bytes around
+    /// their lengths; then nothing is put. It allocates space for the list of frames alone, from the second frame on.
     pub fn put(&mut self, body: impl Into<IoBufs>) -> Result<(), Error> {
-        self.0.put(body.into().0).map_err(|refused| match refused.cause {
+        self.put_with(&[], &[], body)
+    }
+
+    /// Puts a frame as `put` does, with these bytes before its length and after it. Fails with `Error::InvalidLength`
+    /// also if the layout has another number of them, or more than 22.
+    #[inline]
+    pub fn put_with(&mut self, before: &[u8], after: &[u8], body: impl Into<IoBufs>) -> Result<(), Error> {
+        self.0.put_with(before, after, body.into().0).map_err(|refused| match refused.cause {
             BufError::TooLong => Error::InvalidLength(refused.value.len()),
             _ => out_of_memory(None),
         })

@@ -6,7 +6,7 @@ use crate::io::Honest;
 use crate::kit::{Clone as _, Global};
 use crate::proved::iobufs_core::codec as core;
 use crate::proved::{iobufs as inner, iobufs_frames};
-use crate::{Error, IoBuf, IoBufMut};
+use crate::{Error, IoBuf, IoBufMut, Layout, Whole};
 use bytes::{Bytes, BytesMut};
 use std::io::{self, IoSlice, Write};
 use std::iter::FusedIterator;
@@ -452,9 +452,14 @@ impl Prefix {
 pub struct Frames(iobufs_frames::Frames);
 
 impl Frames {
-    /// Makes frames to which nothing was fed, with lengths that are written as `prefix`.
-    pub fn new(prefix: Prefix) -> Self {
-        Frames(iobufs_frames::Frames::new(prefix.inner()))
+    /// Makes frames to which nothing was fed, with headers that are laid out so: as a `Prefix`, or a `Layout`.
+    pub fn new(layout: impl Into<Layout>) -> Self {
+        Frames(iobufs_frames::Frames::with_layout(layout.into().inner()))
+    }
+
+    /// Lays the headers out so from the next frame on.
+    pub fn set_layout(&mut self, layout: impl Into<Layout>) {
+        self.0.layout = layout.into().inner();
     }
 
     /// Adds bytes at the end.
@@ -468,6 +473,12 @@ impl Frames {
     pub fn next(&mut self, range: impl RangeBounds<usize>) -> Result<Option<IoBuf>, Error> {
         let body = self.0.next(Global, &core::RangeCfg::new(range)).map_err(fault)?;
         Ok(body.map(IoBuf))
+    }
+
+    /// Takes the first frame with its header, as `next` takes its body: its chunks aren't copied.
+    pub fn next_whole(&mut self, range: impl RangeBounds<usize>) -> Result<Option<Whole<IoBufs>>, Error> {
+        let whole = self.0.next_whole(Global, &core::RangeCfg::new(range)).map_err(fault)?;
+        Ok(whole.map(|(header, frame)| Whole { header, frame: IoBufs(frame) }))
     }
 
     /// Returns how many bytes were fed and not taken.
