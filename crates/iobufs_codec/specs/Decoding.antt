@@ -8,7 +8,7 @@ use Rattle.tokio_util.specs.Codec.Next.{Gives, at_end, decoded, partial}
 use Rattle.iobufs_core.specs.MarkedText.{MarkedText}
 use Rattle.iobufs_core.specs.View.{View, view_of_bytes}
 use Rattle.iobufs_core.specs.declared.codec.base.Error.TheVariants as error
-use Rattle.iobufs_frames.specs.Frames.{CanBeSent, LacksFrame, ReadsBy, TakesFirst, alone, frame_written}
+use Rattle.iobufs_frames.specs.Frames.{CanBeSent, LacksFrame, ReadsBy, TakesFirst, bare_frame, frame_written}
 use Rattle.iobufs_frames.specs.declared.End.TheVariants.{Open}
 use Rattle.iobufs_codec.specs.declared.FrameCodec.{FrameCodec}
 use Rattle.iobufs_frames.specs.declared.error.FrameError.{FrameError}
@@ -27,7 +27,7 @@ gives_frames c bytes (at_end result d left) =
 -- the frame of a body that can be sent
 abbrev pub writes_frame : FrameCodec → MarkedText → List ℕ → FrameCodec → Type 0
 writes_frame c body frame d = CanBeSent c.layout c.range [] [] (length body.bytes)
-    × (frame ≡ frame_written c.layout (alone body.bytes)) × (d ≡ c)
+    × (frame ≡ frame_written c.layout (bare_frame body.bytes)) × (d ≡ c)
 
 -- a body is refused if it can't be sent, or no memory is found for its frame
 abbrev pub RefusesBody : FrameCodec → MarkedText → ℕ → FrameError → Type 0

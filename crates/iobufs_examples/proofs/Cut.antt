@@ -5,7 +5,7 @@ use Rattle.std.proofs.lemmas.List.{append_cancel_left, length-drop, length-take-
 use Rattle.iobufs_core.specs.declared.codec.base.RangeCfg.{RangeCfg}
 use Rattle.iobufs_core.proofs.LengthFacts.{less}
 use Rattle.iobufs_frames.proofs.FrameFacts.{begins_open, nothing_is_open}
-use Rattle.iobufs_frames.specs.Frames.{CanAllFollow, HasBodies, HaveOneReading, IsFramed, all_written, alone, bodies, frame_bodies, frame_written}
+use Rattle.iobufs_frames.specs.Frames.{CanAllFollow, HasBodies, HaveOneReading, IsFramed, all_written, bare_frame, bodies, frame_bodies, frame_written}
 use Rattle.iobufs_frames.specs.Prefixes.{bare}
 use Rattle.iobufs_frames.specs.declared.Run.{Run}
 use Rattle.iobufs_frames.specs.declared.lengths.Layout.{Layout}
@@ -19,11 +19,11 @@ pub record IsCut (range : RangeCfg) (all : List (List ℕ)) (text lost : List �
   pub others : List (List ℕ)
   pub rest : List ℕ
   pub split : all ≡ frames ++ others
-  pub framed : IsFramed (bare Spelled) range text (map alone frames) Open rest
-  pub begun : rest ++ lost ≡ all_written (bare Spelled) (map alone others)
+  pub framed : IsFramed (bare Spelled) range text (map bare_frame frames) Open rest
+  pub begun : rest ++ lost ≡ all_written (bare Spelled) (map bare_frame others)
 
 -- frames of these bodies have them
-alone_bodies : (all : List (List ℕ)) → frame_bodies (map alone all) ≡ all
+alone_bodies : (all : List (List ℕ)) → frame_bodies (map bare_frame all) ≡ all
 alone_bodies [] = refl
 alone_bodies (body ∷ all) = ap (λ (bodies : List (List ℕ)). body ∷ bodies) (alone_bodies all)
 
@@ -36,8 +36,8 @@ front_of text lost first second e short =
     ∙ take-append_seam text lost)
 
 -- a text that some bytes are cut off has the first frames, and is open after them
-pub cut_is : (range : RangeCfg) (all : List (List ℕ)) (text lost : List ℕ) → CanAllFollow (bare Spelled) range (map alone all)
-    → text ++ lost ≡ all_written (bare Spelled) (map alone all) → IsCut range all text lost
+pub cut_is : (range : RangeCfg) (all : List (List ℕ)) (text lost : List ℕ) → CanAllFollow (bare Spelled) range (map bare_frame all)
+    → text ++ lost ≡ all_written (bare Spelled) (map bare_frame all) → IsCut range all text lost
 cut_is range [] [] lost can e = record {
   frames = [];
   others = [];
@@ -47,12 +47,12 @@ cut_is range [] [] lost can e = record {
   begun = e;
 }
 cut_is range [] (b ∷ text) lost can e = absurd (omega (arith, ap (λ (xs : List ℕ). length xs) e))
-cut_is range (body ∷ all) text lost can e = elim (less (length text) (length (frame_written (bare Spelled) (alone body)))) [
+cut_is range (body ∷ all) text lost can e = elim (less (length text) (length (frame_written (bare Spelled) (bare_frame body)))) [
   | inl short ↦ (
-      let front = front_of text lost (frame_written (bare Spelled) (alone body)) (all_written (bare Spelled) (map alone all)) e (omega
-          (arith, short)) in
-      let some : 0 < length (drop (length text) (frame_written (bare Spelled) (alone body))) =
-      omega (arith, short, length-drop (length text) (frame_written (bare Spelled) (alone body))) in
+      let front = front_of text lost (frame_written (bare Spelled) (bare_frame body))
+      (all_written (bare Spelled) (map bare_frame all)) e (omega (arith, short)) in
+      let some : 0 < length (drop (length text) (frame_written (bare Spelled) (bare_frame body))) =
+      omega (arith, short, length-drop (length text) (frame_written (bare Spelled) (bare_frame body))) in
       record {
         frames = [];
         others = body ∷ all;
@@ -61,17 +61,17 @@ cut_is range (body ∷ all) text lost can e = elim (less (length text) (length (
         framed = record {
           whole = refl;
           admitted = tt;
-          ends = begins_open (bare Spelled) range (alone body) text (drop (length text) (frame_written (bare Spelled)
-              (alone body))) can.0 front some;
+          ends = begins_open (bare Spelled) range (bare_frame body) text (drop (length text) (frame_written (bare Spelled)
+              (bare_frame body))) can.0 front some;
         };
         begun = e;
       })
   | inr long ↦ (
-      let frame : List ℕ = frame_written (bare Spelled) (alone body) in
+      let frame : List ℕ = frame_written (bare Spelled) (bare_frame body) in
       let more : List ℕ = drop (length frame) text in
-      let whole : text ≡ frame ++ more = front_of frame (all_written (bare Spelled) (map alone all)) text lost (sym e) long in
-      let left : more ++ lost ≡ all_written (bare Spelled) (map alone all) = append_cancel_left frame (more ++ lost) (all_written
-          (bare Spelled) (map alone all))
+      let whole : text ≡ frame ++ more = front_of frame (all_written (bare Spelled) (map bare_frame all)) text lost (sym e) long in
+      let left : more ++ lost ≡ all_written (bare Spelled) (map bare_frame all) = append_cancel_left frame (more ++ lost) (all_written
+      (bare Spelled) (map bare_frame all))
       (sym (append_assoc frame more lost) ∙ ap (λ xs. xs ++ lost) (sym whole) ∙ e) in
       let rest = cut_is range all more lost can.1 left in
       record {
@@ -81,7 +81,7 @@ cut_is range (body ∷ all) text lost can e = elim (less (length text) (length (
         split = ap (λ (xs : List (List ℕ)). body ∷ xs) rest.split;
         framed = record {
           whole = whole ∙ ap (λ xs. frame ++ xs) rest.framed.whole ∙ sym (append_assoc frame (all_written (bare Spelled)
-              (map alone rest.frames)) rest.rest);
+              (map bare_frame rest.frames)) rest.rest);
           admitted = (can.0, rest.framed.admitted);
           ends = rest.framed.ends;
         };
@@ -91,14 +91,14 @@ cut_is range (body ∷ all) text lost can e = elim (less (length text) (length (
 
 -- reading such a text gives its first records
 pub read_up_to : {E : Type 0} (range : RangeCfg) (all : List (List ℕ)) (text lost : List ℕ) (result : Result Run E)
-    → CanAllFollow (bare Spelled) range (map alone all) → text ++ lost ≡ all_written (bare Spelled) (map alone all)
-        → ((layout : Layout) → HaveOneReading layout)
+    → CanAllFollow (bare Spelled) range (map bare_frame all) → text ++ lost ≡ all_written (bare Spelled) (map bare_frame all)
+    → ((layout : Layout) → HaveOneReading layout)
     → IfOk result (λ run. HasBodies (bare Spelled) range text (bodies run.frames.items) run.stop run.rest.bytes)
     → IfOk result (λ run. IsReadUpTo all lost (bodies run.frames.items) run.stop run.rest.bytes)
 read_up_to range all text lost (Ok run) can e one framed =
     let cut = cut_is range all text lost can e in
     let same = one (bare Spelled) range text
-        (map alone cut.frames) framed.frames Open run.stop cut.rest run.rest.bytes cut.framed framed.is in
+    (map bare_frame cut.frames) framed.frames Open run.stop cut.rest run.rest.bytes cut.framed framed.is in
     let told : cut.frames ≡ bodies run.frames.items =
     sym (alone_bodies cut.frames) ∙ ap frame_bodies same.same_frames ∙ framed.told in
     record {

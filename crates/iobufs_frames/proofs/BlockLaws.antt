@@ -6,7 +6,7 @@ use Rattle.iobufs_core.specs.View.{View, view_of_bytes}
 use Rattle.iobufs_core.specs.WireLaws.{view_of_bytes-bytes}
 use Rattle.iobufs_core.specs.declared.codec.base.RangeCfg.{RangeCfg}
 use Rattle.iobufs_frames.proofs.LayoutFacts.{frame_seen, length-later_in, parts_at, seen_within}
-use Rattle.iobufs_frames.specs.Frames.{IsTaken, LacksFrame, Parts}
+use Rattle.iobufs_frames.specs.Frames.{IsAtFront, LacksFrame, Parts}
 use Rattle.iobufs_frames.specs.Prefixes.{IsLengthIn, IsSeenIn, admits, header_size}
 use Rattle.iobufs_frames.specs.declared.End.TheVariants.{Open}
 use Rattle.iobufs_frames.specs.declared.lengths.Layout.{Layout}
@@ -42,7 +42,7 @@ seen_open layout range bytes n k (at, long, within) inside few = inr (n, (at, in
 pub view_taken : (layout : Layout) (range : RangeCfg) (bytes left : List ℕ) (n h m : ℕ) (body : View) → IsLengthIn layout bytes n
     → admits layout range n ≡ true → h ≡ header_size layout n → m + layout.counts ≡ n → h + m ≤ length bytes
     → body ≡ view_of_bytes (drop h (take (h + m) bytes)) → left ≡ drop (h + m) bytes
-    → (frame : Parts) × IsTaken layout range bytes left frame × (frame.body ≡ body.bytes)
+    → (frame : Parts) × IsAtFront layout range bytes left frame × (frame.body ≡ body.bytes)
 view_taken layout range bytes left n h m body at inside front size fits made rest =
     let frame = parts_at layout bytes n in
     let number : n - layout.counts ≡ m = omega (arith, size) in
@@ -50,7 +50,7 @@ view_taken layout range bytes left n h m body at inside front size fits made res
     ap (λ (v : View). v.bytes) made ∙ view_of_bytes-bytes (drop h (take (h + m) bytes)) ∙ drop-take h m bytes
     ∙ (λ i. take (sym number i) (drop (front i) bytes)) in (
       frame,
-      subst (λ (w : List ℕ). IsTaken layout range bytes w frame) (sym rest)
+      subst (λ (w : List ℕ). IsAtFront layout range bytes w frame) (sym rest)
           (frame_seen layout range bytes n h m at inside front size fits),
       sym same,
     )

@@ -20,7 +20,7 @@ use Rattle.iobufs_core.proofs.LengthFacts.{less}
 use Rattle.iobufs_core.specs.Ranges.{in_range}
 use Rattle.iobufs_core.specs.declared.codec.base.RangeCfg.{RangeCfg}
 use Rattle.iobufs_frames.proofs.PrefixFacts.{closed_stays, length-later, length-there, nothing_open, one_length, prefix_long}
-use Rattle.iobufs_frames.specs.Frames.{CanFollow, HasFrame, IsTaken, Parts, frame_written, has_bytes, header_written}
+use Rattle.iobufs_frames.specs.Frames.{CanFollow, HasFrame, IsAtFront, Parts, frame_written, has_bytes, header_written}
 use Rattle.iobufs_frames.specs.Prefixes.{HasNoLengthAt, HasNoLengthIn, IsLengthAt, IsLengthIn, IsOpenAt, IsOpenIn, IsSeenIn, admits, frame_size, header_size, prefix_limit, prefix_written}
 use Rattle.iobufs_frames.specs.declared.lengths.Layout.{Layout}
 
@@ -203,7 +203,7 @@ follows layout range text v at inside fits =
 pub frame_seen : (layout : Layout) (range : RangeCfg) (bytes : List ℕ) (n h m : ℕ) → IsLengthIn layout bytes n
     → admits layout range n ≡ true
     → h ≡ header_size layout n → m + layout.counts ≡ n → h + m ≤ length bytes
-    → IsTaken layout range bytes (drop (h + m) bytes) (parts_at layout bytes n)
+    → IsAtFront layout range bytes (drop (h + m) bytes) (parts_at layout bytes n)
 frame_seen layout range bytes n h m at inside front size fits =
     let whole : frame_size layout n ≤ length bytes = omega (arith, front, size, fits) in
     let same : frame_size layout n ≡ h + m = omega (arith, front, size) in
@@ -240,7 +240,7 @@ has_body layout range bytes n h m at inside front size fits some =
 pub whole_taken : (layout : Layout) (range : RangeCfg) (bytes left text : List ℕ) (n h m : ℕ) → IsLengthIn layout bytes n
     → admits layout range n ≡ true → h ≡ header_size layout n → m + layout.counts ≡ n → h + m ≤ length bytes
     → text ≡ take (h + m) bytes → left ≡ drop (h + m) bytes
-    → (frame : Parts) × IsTaken layout range bytes left frame
+    → (frame : Parts) × IsAtFront layout range bytes left frame
     × ((text ≡ frame_written layout frame) × (h ≡ length (header_written layout frame)))
 whole_taken layout range bytes left text n h m at inside front size fits made rest =
     let frame = parts_at layout bytes n in
@@ -251,7 +251,7 @@ whole_taken layout range bytes left text n h m at inside front size fits made re
     let sum : h + m ≡ length (frame_written layout frame) =
     sym (frame_long layout frame fit.before fit.after ∙ ap (frame_size layout) number ∙ omega (arith, front, size)) in (
       frame,
-      subst (λ (w : List ℕ). IsTaken layout range bytes w frame) (sym rest) taken,
+      subst (λ (w : List ℕ). IsAtFront layout range bytes w frame) (sym rest) taken,
       (
         made ∙ ap (take (h + m)) taken.whole ∙ ap (λ k. take k (frame_written layout frame ++ drop (h + m) bytes)) sum
             ∙ take-append_seam (frame_written layout frame) (drop (h + m) bytes),

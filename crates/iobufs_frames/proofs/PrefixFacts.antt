@@ -98,7 +98,7 @@ prefix_long (Fixed U24 order) n small = omega (arith, (form_of U24 order).long n
 prefix_long (Fixed U32 order) n small = omega (arith, (form_of U32 order).long n)
 prefix_long (Fixed U64 order) n small = omega (arith, (form_of U64 order).long n)
 
--- and no more than ten
+-- a length has at most ten bytes
 pub prefix_short : (prefix : Prefix) (n : ℕ) → length (prefix_written prefix n) ≤ 10
 prefix_short Spelled n = length-spell n
 prefix_short (Fixed U8 order) n = omega (arith, (form_of U8 order).long n)

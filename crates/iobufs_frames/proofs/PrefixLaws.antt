@@ -9,7 +9,7 @@ use Rattle.iobufs_core.specs.View.{View, default_view, native_mark}
 use Rattle.iobufs_core.specs.declared.codec.base.BufError.{BufError}
 use Rattle.iobufs_core.specs.declared.codec.base.RangeCfg.{RangeCfg}
 use Rattle.iobufs_frames.proofs.LayoutFacts.{admitted, cut_at, follows, parts_at}
-use Rattle.iobufs_frames.specs.Frames.{IsCutFrom, IsTaken, Parts, frame_written}
+use Rattle.iobufs_frames.specs.Frames.{IsCutFrom, IsAtFront, Parts, frame_written}
 use Rattle.iobufs_frames.specs.Prefixes.{IsLengthIn, admits, frame_size, header_size, own_view}
 use Rattle.iobufs_frames.specs.declared.lengths.Layout.{Layout}
 
@@ -17,7 +17,7 @@ use Rattle.iobufs_frames.specs.declared.lengths.Layout.{Layout}
 pub taken-with : (layout : Layout) (range : RangeCfg) (old new : MarkedText) (v h m : ℕ) (view : View) → IsLengthIn layout old.bytes v
     → admits layout range v ≡ true → h ≡ header_size layout v → m + layout.counts ≡ v → h + m ≤ text_len old
     → view ≡ taken_view old h m → new ≡ text_rest old (h + m)
-    → ((frame : Parts) × IsTaken layout range old.bytes new.bytes frame × (frame.body ≡ view.bytes)) × IsCutFrom layout old new view
+    → ((frame : Parts) × IsAtFront layout range old.bytes new.bytes frame × (frame.body ≡ view.bytes)) × IsCutFrom layout old new view
 taken-with layout range old new v h m view at inside front size within is left =
     let c = layout.counts in
     let number : m ≡ v - c = omega (arith, size) in

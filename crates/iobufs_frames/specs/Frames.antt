@@ -1,7 +1,7 @@
 -- The frames of some bytes. A frame is a header and a body; the layout says where in the header the length stands, how it
 -- is written, and what it counts.
 --     Parts                        a frame: the bytes before its length, those between length and body, and its body
---     alone                        a frame whose header is its length alone
+--     bare_frame                   a frame whose header is its length alone
 --     header_written,              a header; followed by a body; and several in order
 --     frame_written, all_written
 --     CanFollow, CanAllFollow      a frame fits its layout, its length can be written, and is in the range; and each
@@ -13,8 +13,10 @@
 --     HasStaticBody                the bytes after the length at the front, as many as it says, are static
 --     IsFramed, HasFrames          bytes are these frames and a rest that no whole frame begins; and they have such
 --                                  frames
---     bodies, joined_bytes         the bytes of bodies that are views: each by itself, and all in one
+--     bodies, joined_bytes,        the bytes of bodies that are views: each by itself, and all in one; the bodies of frames
+--     frame_bodies
 --     HasBodies                    bytes are frames with these bodies, and a rest that no whole frame begins
+--     IsAtFront                    a frame is at the front, and the bytes after it are left
 --     Takes                        what taking the first frame returns, and the bytes that it leaves
 --     is_body, has_bytes,          so of its body; and of the whole frame
 --     TakesFirst, is_whole,
@@ -63,8 +65,8 @@ abbrev pub header_written : Layout → Parts → List ℕ
 header_written layout frame = frame.before ++ (prefix_written layout.prefix (length frame.body + layout.counts) ++ frame.after)
 
 -- a frame whose header is its length alone
-abbrev pub alone : List ℕ → Parts
-alone body = record { before = []; after = []; body = body }
+abbrev pub bare_frame : List ℕ → Parts
+bare_frame body = record { before = []; after = []; body = body }
 
 -- a header and a body
 abbrev pub frame_written : Layout → Parts → List ℕ
@@ -172,7 +174,7 @@ pub record IsCutFrom (layout : Layout) (old new : MarkedText) (body : View) : Ty
   pub left : new ≡ text_rest old (frame_size layout (length body.bytes + layout.counts))
 
 -- a frame is at the front, and what is after it is left
-pub record IsTaken (layout : Layout) (range : RangeCfg) (bytes left : List ℕ) (frame : Parts) : Type 0 where
+pub record IsAtFront (layout : Layout) (range : RangeCfg) (bytes left : List ℕ) (frame : Parts) : Type 0 where
   pub admitted : CanFollow layout range frame
   pub whole : bytes ≡ frame_written layout frame ++ left
 
@@ -180,7 +182,7 @@ pub record IsTaken (layout : Layout) (range : RangeCfg) (bytes left : List ℕ) 
 -- something that `gives` relates to it; `Memory` requires a frame of which `needs` holds.
 abbrev pub Takes : {T : Type 0} → (Parts → T → Type 0) → (Parts → Type 0) → Layout → RangeCfg → List ℕ → Result (Option T) Error
     → List ℕ → Type 0
-Takes gives needs layout range bytes (Ok (Some taken)) left = (frame : Parts) × IsTaken layout range bytes left frame × gives frame taken
+Takes gives needs layout range bytes (Ok (Some taken)) left = (frame : Parts) × IsAtFront layout range bytes left frame × gives frame taken
 Takes gives needs layout range bytes (Ok None) left = LacksFrame layout range bytes Open × (left ≡ bytes)
 Takes gives needs layout range bytes (Err Memory) left = HasFrame needs layout range bytes × (left ≡ bytes)
 Takes gives needs layout range bytes (Err InvalidVarint) left = LacksFrame layout range bytes (Bad InvalidVarint) × (left ≡ bytes)

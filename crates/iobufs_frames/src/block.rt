@@ -175,13 +175,13 @@ impl Received {
             self.block.advance(size);
             return Ok(IoBuf::from(copy));
         }
-        let mut frame = self.block.freeze_to(size)?;
-        frame.advance(skip);
+        let mut own = self.block.freeze_to(size)?;
+        own.advance(skip);
         if self.block.is_empty() {
             self.block = BytesMut::new(*self.block.allocator());
             self.whole = MOST;
         }
-        Ok(IoBuf::from(frame))
+        Ok(IoBuf::from(own))
     }
 
     /// Takes the first frame; `None` if it is not whole yet. Fails with `Error::InvalidVarint` (of varints alone) or

@@ -3,7 +3,7 @@ use Rattle.std.proofs.lemmas.Bool.{false≢true}
 use Rattle.iobufs_core.proofs.LengthFacts.{less}
 use Rattle.iobufs_core.specs.MarkedText.{MarkedText, taken_view}
 use Rattle.iobufs_core.specs.View.{static_mark}
-use Rattle.iobufs_frames.specs.Frames.{IsCutFrom, IsTaken, Parts}
+use Rattle.iobufs_frames.specs.Frames.{IsCutFrom, IsAtFront, Parts}
 use Rattle.iobufs_frames.specs.Prefixes.{header_size}
 use Rattle.iobufs_frames.proofs.LayoutFacts.{seen_within}
 use Rattle.iobufs_frames.proofs.PrefixFacts.{one_length}
@@ -20,7 +20,8 @@ sizes_of-requires c =
 
 -- the body that was taken
 taken : (c : goal.In-Ok)
-    → ((frame : Parts) × IsTaken c.args.self.now.layout c.args.range.now c.args.self.now.rest.bytes c.take_owned_after.new.self.bytes frame
+    → ((frame : Parts) × IsAtFront c.args.self.now.layout c.args.range.now c.args.self.now.rest.bytes
+    c.take_owned_after.new.self.bytes frame
     × (frame.body ≡ c.in-Ok.body.bytes))
     × IsCutFrom c.args.self.now.layout c.args.self.now.rest c.take_owned_after.new.self c.in-Ok.body
 taken c =
