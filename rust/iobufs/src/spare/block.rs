@@ -1,5 +1,4 @@
 //! The space of a block that is used again.
-#![allow(unsafe_code)]
 use bytes::BytesMut;
 
 /// Makes all of a block readable, as each byte of its allocation was before: zeroed when it was made, or written since.
