@@ -52,7 +52,7 @@ def claims():
     yield "a batch", batch, ["docs/GUIDE.md", "rust/iobufs/src/text.rs"], r"(?:each of )?up to (\d+) (?:of them|chunks)"
     block = str(2 ** int(first("crates/iobufs_frames/src/block.rt", r"const MOST: usize = 1 << (\d+);")) // 1024)
     keepers = ["docs/GUIDE.md", "docs/C.md", "rust/iobufs/README.md", "rust/iobufs/src/streams.rs"]
-    yield "a block", block, keepers, r"\bup to\s(?:/// |  )?(\d+) KiB, or"
+    yield "a block", block, keepers, r"frame\s+or (\d+) KiB, whichever"
 
 
 def faults_of(value, text, pattern):

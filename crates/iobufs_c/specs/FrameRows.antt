@@ -16,6 +16,7 @@ use Rattle.iobufs_core.specs.declared.codec.base.Error.{Error}
 use Rattle.iobufs_core.specs.declared.codec.base.Error.TheVariants as error
 use Rattle.iobufs_core.specs.declared.codec.base.RangeCfg.{RangeCfg}
 use Rattle.iobufs_frames.specs.Frames.{IsCutFrom, MatchTaken, TakesFirst}
+use Rattle.iobufs_frames.specs.Prefixes.{bare}
 use Rattle.iobufs_frames.specs.Receiving.{KeepsSpace, ReceivedBytes, none_received}
 use Rattle.iobufs_frames.specs.contracts.block.Received.{the_row as of_received}
 use Rattle.iobufs_frames.specs.declared.Frames.{Frames}
@@ -28,7 +29,7 @@ use Rattle.iobufs_c.specs.declared.status.Status.TheVariants.{EndOfBuffer, Inval
 
 -- nothing was fed, and lengths are varints
 abbrev pub default_frames : Frames
-default_frames = record { prefix = Spelled; rest = default_text }
+default_frames = record { layout = bare Spelled; rest = default_text }
 
 -- the kinds of prefixes, in the header's order
 abbrev pub prefix_from_c : ℕ → Option Prefix
@@ -52,7 +53,7 @@ received_row = option_row of_received
 -- none reads as one that holds nothing
 abbrev pub received_or_none : Option ReceivedBytes → ReceivedBytes
 received_or_none (Some received) = received
-received_or_none None = none_received Spelled
+received_or_none None = none_received (bare Spelled)
 
 -- a receive block became one that is so related to it, or none stays none
 abbrev pub AreBoth : (ReceivedBytes → ReceivedBytes → Type 0) → Option ReceivedBytes → Option ReceivedBytes → Type 0
@@ -72,13 +73,13 @@ IsTold (Err error) code out now wrong length = (code ≡ code_of (of_error error
 pub record TakesFrameOf (range : RangeCfg) (old new : Frames) (code : ℕ) (out now : View) (wrong length : ℕ) : Type 0 where
   pub found : Result (Option View) Error
   pub told : IsTold found code out now wrong length
-  pub next : TakesFirst old.prefix range old.rest.bytes found new.rest.bytes
-  pub rest : MatchTaken found (λ body. (new.prefix ≡ old.prefix) × IsCutFrom old.prefix old.rest new.rest body) (new ≡ old)
+  pub next : TakesFirst old.layout range old.rest.bytes found new.rest.bytes
+  pub rest : MatchTaken found (λ body. (new.layout ≡ old.layout) × IsCutFrom old.layout old.rest new.rest body) (new ≡ old)
 
 -- the first frame is taken from a receive block; the body shares it
 pub record TakesReceived (range : RangeCfg) (old new : Option ReceivedBytes) (code : ℕ) (out now : View) (wrong length : ℕ) : Type 0 where
   pub found : Result (Option View) Error
   pub told : IsTold found code out now wrong length
-  pub next : TakesFirst (received_or_none old).prefix range (received_or_none old).bytes found (received_or_none new).bytes
-  pub rest : MatchTaken found (λ body. AreBoth (λ had has. (has.prefix ≡ had.prefix) × KeepsSpace had has) old new
+  pub next : TakesFirst (received_or_none old).layout range (received_or_none old).bytes found (received_or_none new).bytes
+  pub rest : MatchTaken found (λ body. AreBoth (λ had has. (has.layout ≡ had.layout) × KeepsSpace had has) old new
       × (body ≡ view_of_bytes body.bytes)) (new ≡ old)

@@ -4,7 +4,7 @@ ghost use Rattle.std.specs.Borrow.{sem, Lends, full_share};
 ghost use Rattle.std.specs.Ptr.{lies_at, room_at};
 ghost use Rattle.iobufs_core.specs.MarkedText.{is_single, text_append, text_len};
 ghost use Rattle.iobufs_core.specs.View.{IsFreelyShared, default_view};
-ghost use Rattle.iobufs_frames.specs.Prefixes.{prefix_limit, prefix_written};
+ghost use Rattle.iobufs_frames.specs.Prefixes.{bare, prefix_limit, prefix_written};
 ghost use Rattle.iobufs_frames.specs.contracts.Frames.{the_row as frames_row};
 ghost use Rattle.iobufs_frames.specs.declared.Frames.{Frames as AllFrames};
 ghost use Rattle.iobufs_c.specs.FrameRows.{IsTold, TakesFrameOf, default_frames, prefix_from_c};
@@ -15,7 +15,7 @@ use crate::text::TextAt;
 use crate::view::ViewAt;
 use iobufs_core::buf::IoBuf;
 use iobufs_core::codec::{Error, RangeCfg};
-use iobufs_frames::{ByteOrder, Frames, Prefix, Width};
+use iobufs_frames::{ByteOrder, Frames, Layout, Prefix, Width};
 use std::alloc::Global;
 use std::marker::{Model, Send};
 use std::mem;
@@ -120,7 +120,7 @@ pub extern "C" fn iobufs_frames_feed(alloc: Global, frames: &mut FramesAt, piece
     ensures at { (frames.new.at ≡ frames.old.at) × (piece.new.at ≡ piece.old.at) }
     ensures frames { frames.new.value
         ≡ (if result == 0
-        then record { prefix = frames.old.value.prefix; rest = text_append frames.old.value.rest piece.old.value }
+        then record { layout = frames.old.value.layout; rest = text_append frames.old.value.rest piece.old.value }
         else frames.old.value) }
     ensures piece { piece.new.value ≡ (if result == 0 then default_view else piece.old.value) }
     ensures too_long { 2 ^ 64 ≤ text_len frames.old.value.rest + length piece.old.value.bytes
@@ -166,14 +166,14 @@ pub extern "C" fn iobufs_frames_set_prefix(frames: &mut FramesAt, kind: u8) -> u
     ensures at { frames.new.at ≡ frames.old.at }
     ensures rest { frames.new.value.rest ≡ frames.old.value.rest }
     ensures status { (result ≡ 0) ⊎ (result ≡ code_of Status.BadKind) }
-    ensures known { IfSome (prefix_from_c kind) (λ prefix. (result ≡ 0) × (frames.new.value.prefix ≡ prefix)) }
+    ensures known { IfSome (prefix_from_c kind) (λ prefix. (result ≡ 0) × (frames.new.value.layout ≡ bare prefix)) }
     ensures unknown { IfNone (prefix_from_c kind) ((result ≡ code_of Status.BadKind)
         × (frames.new.value ≡ frames.old.value)) }
 {
     let Some(prefix) = prefix_of(kind) else {
         return Status::BadKind.code();
     };
-    frames.get().prefix = prefix;
+    frames.get().layout = Layout::bare(prefix);
     Status::Done.code()
 }
 

@@ -4,6 +4,7 @@ ghost use Rattle.std.specs.Borrow.{sem, Lends, full_share};
 ghost use Rattle.std.specs.Ptr.{lies_at, room_at};
 ghost use Rattle.iobufs_core.specs.View.{view_of_bytes};
 ghost use Rattle.iobufs_frames.specs.Frames.{MatchTaken, TakesFirst};
+ghost use Rattle.iobufs_frames.specs.Prefixes.{bare};
 ghost use Rattle.iobufs_frames.specs.Receiving.{HasReceived, KeepsSpace, ReceivedBytes, none_received};
 ghost use Rattle.iobufs_c.specs.Codes.{IsDoneUnless, code_of};
 ghost use Rattle.iobufs_c.specs.FrameRows.{AreBoth, TakesReceived, prefix_from_c, received_or_none, received_row};
@@ -89,7 +90,7 @@ pub extern "C" fn iobufs_received_new(alloc: Global, prefix: u8, out: &mut Recei
     ensures at { out.new.at ≡ out.old.at }
     ensures status { (result ≡ 0) ⊎ (result ≡ code_of Status.BadKind) }
     ensures known { IfSome (prefix_from_c prefix) (λ known. (result ≡ 0)
-        × (out.new.value ≡ Some (none_received known))) }
+        × (out.new.value ≡ Some (none_received (bare known)))) }
     ensures unknown { IfNone (prefix_from_c prefix) ((result ≡ code_of Status.BadKind)
         × (out.new.value ≡ out.old.value)) }
 {
@@ -122,7 +123,7 @@ pub extern "C" fn iobufs_frames_space(
     n: &mut usize,
 ) -> u8
     ensures at { received.new.at ≡ received.old.at }
-    ensures kept { AreBoth (λ old new. (new.prefix ≡ old.prefix)
+    ensures kept { AreBoth (λ old new. (new.layout ≡ old.layout)
         × (new.bytes ≡ old.bytes)) received.old.value received.new.value }
     ensures space { result ≡ 0 → IfSome received.new.value (λ new. (0 < new.space) × (n.new ≡ new.space)) }
     ensures unchanged { (result == 0) ≡ false → n.new ≡ n.old }
@@ -165,9 +166,9 @@ pub extern "C" fn iobufs_frames_filled(received: &mut ReceivedAt, n: usize) -> u
 
 // Takes the first frame, if there is a receive block.
 fn next_of(received: &mut Option<Received>, range: &RangeCfg) -> Result<Option<IoBuf>, Error>
-    ensures next { TakesFirst (received_or_none received.old).prefix range.now (received_or_none received.old).bytes
+    ensures next { TakesFirst (received_or_none received.old).layout range.now (received_or_none received.old).bytes
         result (received_or_none received.new).bytes }
-    ensures left { MatchTaken result (λ body. AreBoth (λ had has. (has.prefix ≡ had.prefix) × KeepsSpace had has)
+    ensures left { MatchTaken result (λ body. AreBoth (λ had has. (has.layout ≡ had.layout) × KeepsSpace had has)
         received.old received.new × (body ≡ view_of_bytes body.bytes)) (received.new ≡ received.old) }
 {
     match received {

@@ -1,4 +1,4 @@
-//! Frames over the kit's `tokio_util`: `FramedRead::new(alloc, from, FrameCodec { prefix, range })`, and as well
+//! Frames over the kit's `tokio_util`: `FramedRead::new(alloc, from, FrameCodec::new(prefix, range))`, and as well
 //! `FramedWrite` and `Framed`.
 #![tactic(auto)]
 
@@ -7,31 +7,42 @@ ghost use Rattle.iobufs_core.specs.View.{view_of_bytes};
 ghost use Rattle.iobufs_codec.specs.Decoding.{RefusesBody, gives_frames, writes_frame};
 ghost use Rattle.iobufs_codec.specs.DecodingLaws.{end_is_partial, partial_has_no_frame, stable};
 ghost use Rattle.iobufs_frames.specs.Frames.{TakesFirst};
+ghost use Rattle.iobufs_frames.specs.Prefixes.{bare};
 
 use bytes::{BufMut, BytesMut};
 use iobufs::bufs::IoBufs;
 use iobufs_core::buf::IoBuf;
 use iobufs_core::codec::{Error, RangeCfg};
-use iobufs_frames::{FrameError, Prefix, Received};
+use iobufs_frames::{FrameError, Layout, Prefix, Received};
 use std::mem;
 use tokio_util::codec::{Decoder, Encoder};
 
 /// A codec of frames. A body that is decoded shares the block that it was read into; one that is encoded is copied.
 #[derive(Drop)]
 pub struct FrameCodec {
-    /// How the lengths are written.
-    pub prefix: Prefix,
+    /// How the headers are laid out. A body is encoded only if a header is its length alone.
+    pub layout: Layout,
     /// The lengths that a body may have.
     pub range: RangeCfg,
 }
 
 impl FrameCodec {
+    /// Makes a codec of frames whose headers are their lengths, written as `prefix`.
+    pub fn new(prefix: Prefix, range: RangeCfg) -> FrameCodec
+        ensures { result ≡ record { layout = bare prefix; range = range } }
+    {
+        FrameCodec {
+            layout: Layout::bare(prefix),
+            range,
+        }
+    }
+
     // Takes the first frame, if it is there whole.
     fn take(&self, src: &mut BytesMut) -> Result<Option<IoBuf>, Error>
-        ensures first { TakesFirst self.now.prefix self.now.range src.old.items result src.new.items }
+        ensures first { TakesFirst self.now.layout self.now.range src.old.items result src.new.items }
         ensures shares { IfOk result (λ found. IfSome found (λ body. body ≡ view_of_bytes body.bytes)) }
     {
-        let mut held = Received::new(*src.allocator(), self.prefix);
+        let mut held = Received::with_layout(*src.allocator(), self.layout);
         mem::swap(held.block_mut(), src);
         let found = held.next(&self.range);
         mem::swap(held.block_mut(), src);
@@ -72,7 +83,7 @@ impl Encoder<IoBufs> for FrameCodec {
     ghost refuses = { RefusesBody };
 
     fn encode(&mut self, item: IoBufs, dst: &mut BytesMut) -> Result<(), FrameError> {
-        let Some(head) = self.prefix.head_within(item.len(), &self.range) else {
+        let Some(head) = self.layout.header_within(&[], &[], item.len(), &self.range) else {
             return Err(FrameError::Frame(Error::TooLong));
         };
         let before = dst.len();

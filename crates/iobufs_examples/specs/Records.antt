@@ -1,7 +1,8 @@
 -- Records in a file that is cut.
 --     IsReadUpTo    the records before the cut were read, and the first bytes of the next one are left
-use Rattle.std.specs.Prelude.{◌≡◌, ℕ, List, ◌++◌}
-use Rattle.iobufs_frames.specs.Frames.{all_written}
+use Rattle.std.specs.Prelude.{◌≡◌, ℕ, List, ◌++◌, map}
+use Rattle.iobufs_frames.specs.Frames.{all_written, bare_frame}
+use Rattle.iobufs_frames.specs.Prefixes.{bare}
 use Rattle.iobufs_frames.specs.declared.End.{End}
 use Rattle.iobufs_frames.specs.declared.End.TheVariants.{Open}
 use Rattle.iobufs_frames.specs.declared.lengths.Prefix.TheVariants.{Spelled}
@@ -10,5 +11,5 @@ use Rattle.iobufs_frames.specs.declared.lengths.Prefix.TheVariants.{Spelled}
 pub record IsReadUpTo (all : List (List ℕ)) (lost : List ℕ) (records : List (List ℕ)) (end : End) (rest : List ℕ) : Type 0 where
   pub others : List (List ℕ)
   pub split : all ≡ records ++ others
-  pub begun : rest ++ lost ≡ all_written Spelled others
+  pub begun : rest ++ lost ≡ all_written (bare Spelled) (map bare_frame others)
   pub open_end : end ≡ Open

@@ -165,10 +165,7 @@ fn shown(polled: &Option<Option<Result<IoBuf, FrameError>>>) -> &[u8] {
 fn frames_are_read(rt: HostRuntime) -> Result<(), Fail> {
     for (name, calls, want) in READS {
         let from = Script::new(rt.alloc(), calls);
-        let decoder = FrameCodec {
-            prefix: Prefix::Spelled,
-            range: RANGE,
-        };
+        let decoder = FrameCodec::new(Prefix::Spelled, RANGE);
         let mut stream = FramedRead::new(rt.alloc(), from, decoder)?;
         let mut log = Vec::new(rt.alloc());
         for _ in 0..4 {
@@ -241,10 +238,7 @@ const SENT: RangeCfg = RangeCfg { lo: 0, hi: 4 };
 fn frames_are_sent(rt: HostRuntime) -> Result<(), Fail> {
     let task = MockTask::new(&rt)?;
     for (name, calls, bodies, want, record) in WRITES {
-        let encoder = FrameCodec {
-            prefix: Prefix::Spelled,
-            range: SENT,
-        };
+        let encoder = FrameCodec::new(Prefix::Spelled, SENT);
         let mut sink = FramedWrite::new(rt.alloc(), Script::new(rt.alloc(), calls), encoder)?;
         let mut log = Vec::new(rt.alloc());
         for bytes in *bodies {
@@ -313,10 +307,7 @@ const HELD: [(usize, usize); 4] = [
 fn what_is_unwritten_is_bounded(rt: HostRuntime) -> Result<(), Fail> {
     let task = MockTask::new(&rt)?;
     for (size, bound) in HELD {
-        let codec = FrameCodec {
-            prefix: Prefix::Spelled,
-            range: RangeCfg { lo: 0, hi: size },
-        };
+        let codec = FrameCodec::new(Prefix::Spelled, RangeCfg { lo: 0, hi: size });
         let mut sink = FramedWrite::new(rt.alloc(), Script::new(rt.alloc(), &[]), codec)?;
         let mut bytes = Vec::new(rt.alloc());
         bytes.resize(size, 7)?;

@@ -6,7 +6,7 @@ ghost use Rattle.std.specs.Io.KnownBytes.{Appends};
 ghost use Rattle.iobufs.specs.Sending.{IsSent};
 ghost use Rattle.iobufs_core.specs.View.{View};
 ghost use Rattle.iobufs_core.specs.Wire.{view_written};
-ghost use Rattle.iobufs_frames.specs.Frames.{frame_written};
+ghost use Rattle.iobufs_frames.specs.Frames.{bare_frame, frame_written};
 ghost use Rattle.iobufs_frames.specs.Streams.{TakesFrame, unsent_bytes};
 ghost use Rattle.iobufs_values.specs.Form.{IsDecodedBack};
 
@@ -102,12 +102,12 @@ pub fn put<W: Write + Drop>(
     entry: Entry,
 ) -> Result<(), LogError>
     ensures before { OnOk result (Appends (W.contents to.old.to) (W.contents to.new.to) (unsent_bytes to.old)) }
-    ensures put { OnOk result (to.new.rest.bytes ≡ frame_written to.old.prefix
-        (to_be_bytes w64 entry.number
-        ++ ((entry.flags ∷ []) ++ (view_written entry.key ++ view_written entry.value)))) }
+    ensures put { OnOk result (to.new.rest.bytes ≡ frame_written to.old.layout
+        (bare_frame (to_be_bytes w64 entry.number
+        ++ ((entry.flags ∷ []) ++ (view_written entry.key ++ view_written entry.value))))) }
     ensures dropped { OnErr result (IsSent (W.contents to.old.to)
         (W.contents to.new.to) (unsent_bytes to.old) (unsent_bytes to.new)) }
-    ensures prefix { to.new.prefix ≡ to.old.prefix }
+    ensures layout { to.new.layout ≡ to.old.layout }
     ensures range { to.new.range ≡ to.old.range }
 {
     to.send()?;

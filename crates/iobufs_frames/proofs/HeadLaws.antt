@@ -8,7 +8,7 @@ use Rattle.iobufs_core.specs.PartLaws.{IsPut}
 
 -- bytes between a start and an end, and the space after the end
 abbrev pub head_part : List ℕ → ℕ → ℕ → Part
-head_part bytes start end = record { filled = drop start (take end bytes); spare = 10 - end }
+head_part bytes start end = record { filled = drop start (take end bytes); spare = 32 - end }
 
 -- bytes that are written after the end follow the others
 pub head_put : (bytes src new : List ℕ) (start end k n : ℕ) (old : Part) → start ≤ end → end ≤ length bytes → n ≡ length src → n ≤ old.spare
@@ -20,5 +20,5 @@ head_put bytes src new start end k n old order within long fits same is =
     ap (λ w. drop start (take (end + n) (put_mid end k bytes w))) same
     ∙ ap (drop start) (take-put_mid end k bytes src (end + n) (ap (λ m. end + m) long) within)
     ∙ drop-append-le start front src (omega (arith, order, within, length-take end bytes)) in
-    let spare : 10 - (end + n) ≡ 10 - end - length src = omega (arith, long) in
+    let spare : 32 - (end + n) ≡ 32 - end - length src = omega (arith, long) in
     (omega (arith, long, fits), (λ i. record { filled = filled i; spare = spare i }) ∙ ap (λ (p : Part). part_put p src) is)

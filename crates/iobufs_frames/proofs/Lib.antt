@@ -2,6 +2,7 @@ pub mod BlockLaws
 pub mod FrameFacts
 pub mod FrameLaws
 pub mod HeadLaws
+pub mod LayoutFacts
 pub mod PrefixFacts
 pub mod PrefixLaws
 pub mod StreamLaws

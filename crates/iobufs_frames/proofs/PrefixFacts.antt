@@ -3,25 +3,27 @@
 --     one_length           bytes begin with one length
 --     length-there,        a length is at the front only if its bytes are there, so none if there are fewer than a
 --     too_few              number has
---     length-before,       a length that was written is at the front, also that of a body; and stays whatever
---     length-in_front,     follows, or where less does
+--     prefix_long,         a length has a byte, and no more than ten
+--     prefix_short
+--     length-before,       a length that was written is at the front; and stays whatever follows, or where less does
 --     length-later,
 --     length-sooner
---     one_front            one body is at the front, and one rest after it
 --     some_length          a length is at the front, or none is
 --     may_be_open          more bytes could make one, or can't
-use Rattle.std.proofs.Common.{◌≡◌, ◌⊎◌, inl, inr, ℕ, ◌^◌, ◌<◌, ◌≤◌, Bool, true, false, List, [], ◌∷◌, ◌++◌, length, take, refl, ap, sym, subst, ◌∙◌, arith, append_assoc, length-take}
+--     closed_stays,        where they can't, more bytes don't; before the first byte they can
+--     nothing_open
+use Rattle.std.proofs.Common.{◌≡◌, ◌⊎◌, inl, inr, ℕ, ◌^◌, ◌<◌, ◌≤◌, Bool, true, false, List, [], ◌∷◌, ◌++◌, length, take, refl, ap, sym, ◌∙◌, arith, length-append, length-take}
 use Rattle.std.proofs.lemmas.Bool.{false≢true}
-use Rattle.std.proofs.lemmas.List.{append_cancel_left, take-append-le}
+use Rattle.std.proofs.lemmas.List.{take-append-le}
 use Rattle.std.proofs.lemmas.Nat.{from_be_bytes-to_be_bytes_2, from_be_bytes-to_be_bytes_4, from_be_bytes-to_be_bytes_8, from_le_bytes-to_le_bytes_2, from_le_bytes-to_le_bytes_4, from_le_bytes-to_le_bytes_8}
 use Rattle.std.proofs.lemmas.Slice.Eq.{bytes_eq-Decides}
 use Rattle.std.proofs.Math.Seq.{take-append_seam}
 use Rattle.std.specs.Int.{byte_at, bytes_high_first, bytes_low_first, from_be_bytes, from_le_bytes, w8, w16, w32, w64}
 use Rattle.std.specs.Str.{bytes_eq}
-use Rattle.iobufs_core.proofs.LengthFacts.{has_length, less, opened}
+use Rattle.iobufs_core.proofs.LengthFacts.{has_length, less, no_length_later, opened, still_closed}
 use Rattle.iobufs_core.specs.ReadLaws.{IsNumberForm}
-use Rattle.iobufs_core.specs.Spelled.{spelled_as_one}
-use Rattle.iobufs_frames.specs.Frames.{frame_written}
+use Rattle.iobufs_core.specs.Spelled.{length-spell, none_high, spelled, spelled_as_one}
+use Rattle.iobufs_core.specs.Spelling.{spell, IsSpelling}
 use Rattle.iobufs_frames.specs.Prefixes.{HasNoLengthAt, IsLengthAt, IsOpenAt, prefix_limit, prefix_written, width_size}
 use Rattle.iobufs_frames.specs.declared.lengths.ByteOrder.{ByteOrder}
 use Rattle.iobufs_frames.specs.declared.lengths.ByteOrder.TheVariants.{Big, Little}
@@ -83,6 +85,28 @@ form_of width order = record {
   one = λ m n p q e. sym (number_back width order m p) ∙ ap (number_of width order) e ∙ number_back width order n q;
 }
 
+some_byte : (xs : List ℕ) (n : ℕ) → IsSpelling xs n → 0 < length xs
+some_byte [] n is = absurd is
+some_byte (x ∷ xs) n is = omega arith
+
+-- a length has a byte
+pub prefix_long : (prefix : Prefix) (n : ℕ) → n < prefix_limit prefix → 0 < length (prefix_written prefix n)
+prefix_long Spelled n small = some_byte (spell n) n (spelled n small)
+prefix_long (Fixed U8 order) n small = omega (arith, (form_of U8 order).long n)
+prefix_long (Fixed U16 order) n small = omega (arith, (form_of U16 order).long n)
+prefix_long (Fixed U24 order) n small = omega (arith, (form_of U24 order).long n)
+prefix_long (Fixed U32 order) n small = omega (arith, (form_of U32 order).long n)
+prefix_long (Fixed U64 order) n small = omega (arith, (form_of U64 order).long n)
+
+-- a length has at most ten bytes
+pub prefix_short : (prefix : Prefix) (n : ℕ) → length (prefix_written prefix n) ≤ 10
+prefix_short Spelled n = length-spell n
+prefix_short (Fixed U8 order) n = omega (arith, (form_of U8 order).long n)
+prefix_short (Fixed U16 order) n = omega (arith, (form_of U16 order).long n)
+prefix_short (Fixed U24 order) n = omega (arith, (form_of U24 order).long n)
+prefix_short (Fixed U32 order) n = omega (arith, (form_of U32 order).long n)
+prefix_short (Fixed U64 order) n = omega (arith, (form_of U64 order).long n)
+
 -- a length is at the front only where its bytes are there
 pub length-there : (prefix : Prefix) (bytes : List ℕ) (n : ℕ) → IsLengthAt prefix bytes n → length (prefix_written prefix n) ≤ length bytes
 length-there prefix bytes n (small, is) =
@@ -107,27 +131,6 @@ one_length (Fixed width order) bytes m n (small, p) (least, q) =
 pub length-before : (prefix : Prefix) (n : ℕ) (rest : List ℕ) → n < prefix_limit prefix
     → IsLengthAt prefix (prefix_written prefix n ++ rest) n
 length-before prefix n rest small = (small, take-append_seam (prefix_written prefix n) rest)
-
--- a frame begins with the length of its body
-pub length-in_front : (prefix : Prefix) (body more : List ℕ) → length body < prefix_limit prefix
-    → IsLengthAt prefix (frame_written prefix body ++ more) (length body)
-length-in_front prefix body more small =
-    subst (λ (xs : List ℕ). IsLengthAt prefix xs (length body)) (sym (append_assoc (prefix_written prefix (length body)) body more))
-    (length-before prefix (length body) (body ++ more) small)
-
--- one body is at the front, and one text after it
-pub one_front : (prefix : Prefix) (a b x y : List ℕ) → length a < prefix_limit prefix → length b < prefix_limit prefix
-    → frame_written prefix a ++ x ≡ frame_written prefix b ++ y → (a ≡ b) × (x ≡ y)
-one_front prefix a b x y small least e =
-    let w = prefix_written prefix in
-    let long : length a ≡ length b = one_length prefix (frame_written prefix a ++ x) (length a) (length b)
-    (length-in_front prefix a x small)
-    (subst (λ (xs : List ℕ). IsLengthAt prefix xs (length b)) (sym e) (length-in_front prefix b y least)) in
-    let whole : w (length a) ++ (a ++ x) ≡ w (length b) ++ (b ++ y) = sym (append_assoc (w (length a)) a x) ∙ e
-    ∙ append_assoc (w (length b)) b y in
-    let tail : a ++ x ≡ b ++ y = append_cancel_left (w (length a)) (a ++ x) (b ++ y) (whole ∙ ap (λ n. w n ++ (b ++ y)) (sym long)) in
-    let same : a ≡ b = sym (take-append_seam a x) ∙ ap (take (length a)) tail ∙ ap (λ n. take n (b ++ y)) long ∙ take-append_seam b y in
-    (same, append_cancel_left a x y (tail ∙ ap (λ w. w ++ y) (sym same)))
 
 -- a length stays at the front whatever follows
 pub length-later : (prefix : Prefix) (bytes more : List ℕ) (n : ℕ) → IsLengthAt prefix bytes n → IsLengthAt prefix (bytes ++ more) n
@@ -183,3 +186,25 @@ may_be_open (Fixed width order) bytes = elim (less (length bytes) (width_size wi
   | inl few ↦ inl few
   | inr enough ↦ inr (λ few. omega (arith, few, enough))
 ]
+
+-- where no length stands nor can, more bytes make none
+pub closed_stays : (prefix : Prefix) (bytes more : List ℕ) → HasNoLengthAt prefix bytes → (IsOpenAt prefix bytes → ⊥)
+    → HasNoLengthAt prefix (bytes ++ more) × (IsOpenAt prefix (bytes ++ more) → ⊥)
+closed_stays Spelled bytes more none closed = (no_length_later bytes more none closed, still_closed bytes more closed)
+closed_stays (Fixed width order) bytes more none closed =
+    let prefix = Fixed width order in (
+      λ n at. elim (less (length bytes) (width_size width)) [
+        | inl few ↦ closed few
+        | inr enough ↦ none n (length-sooner prefix bytes more n (omega (arith, enough, (form_of width order).long n)) at)
+      ],
+      λ few. closed (omega (arith, few, length-append bytes more)),
+    )
+
+-- before the first byte a length may begin
+pub nothing_open : (prefix : Prefix) → HasNoLengthAt prefix [] × IsOpenAt prefix []
+nothing_open Spelled = (none_high [] tt, (omega arith, tt))
+nothing_open (Fixed U8 order) = (too_few U8 order [] (omega arith), omega arith)
+nothing_open (Fixed U16 order) = (too_few U16 order [] (omega arith), omega arith)
+nothing_open (Fixed U24 order) = (too_few U24 order [] (omega arith), omega arith)
+nothing_open (Fixed U32 order) = (too_few U32 order [] (omega arith), omega arith)
+nothing_open (Fixed U64 order) = (too_few U64 order [] (omega arith), omega arith)

@@ -1,7 +1,8 @@
 -- Received bytes, as contracts see them.
---     ReceivedBytes    how the lengths are written, the bytes that were not taken, and how many more fit after them
+--     ReceivedBytes    how the headers are laid out, the bytes that were not taken, and how many more fit after them
 --     none_received    none of them, and no space
 --     KeepsSpace       a frame was taken: the space stays, or went with an emptied block
+--     shares_block     a view of a block's bytes
 --     KeepsReceived    a frame was taken that shares the block, with the space of KeepsSpace; or all stays
 --     HasReceived      bytes came after those that are held, into the space
 --     block_row        a block of the crate `bytes`, for the clause on one that is lent
@@ -13,26 +14,30 @@ use Rattle.bytes.specs.contracts.unique.BytesMut as bytes_mut
 use Rattle.iobufs_core.specs.View.{View, view_of_bytes}
 use Rattle.iobufs_core.specs.declared.codec.base.Error.{Error}
 use Rattle.iobufs_frames.specs.Frames.{MatchTaken}
-use Rattle.iobufs_frames.specs.declared.lengths.Prefix.{Prefix}
+use Rattle.iobufs_frames.specs.declared.lengths.Layout.{Layout}
 
--- how the lengths are written, the bytes that were not taken, and how many more fit after them
+-- how the headers are laid out, the bytes that were not taken, and how many more fit after them
 pub record ReceivedBytes : Type 0 where
-  pub prefix : Prefix
+  pub layout : Layout
   pub bytes : List ℕ
   pub space : ℕ
 
 -- none of them, and no space
-abbrev pub none_received : Prefix → ReceivedBytes
-none_received prefix = record { prefix = prefix; bytes = []; space = 0 }
+abbrev pub none_received : Layout → ReceivedBytes
+none_received layout = record { layout = layout; bytes = []; space = 0 }
 
 -- a frame was taken: the space stays, or it went with an emptied block
 abbrev pub KeepsSpace : ReceivedBytes → ReceivedBytes → Type 0
 KeepsSpace old new = (new.space ≡ old.space) ⊎ ((new.bytes ≡ []) × (new.space ≡ 0))
 
--- a frame was taken that shares the block, with the space of `KeepsSpace`; or none was, and all stays
-abbrev pub KeepsReceived : ReceivedBytes → Result (Option View) Error → ReceivedBytes → Type 0
-KeepsReceived old result new = MatchTaken result
-    (λ body. (new.prefix ≡ old.prefix) × KeepsSpace old new × (body ≡ view_of_bytes body.bytes)) (new ≡ old)
+-- all bytes of a block
+abbrev pub shares_block : View → Type 0
+shares_block view = view ≡ view_of_bytes view.bytes
+
+-- a frame was taken that `shares` the block, with the space of `KeepsSpace`; or none was, and all stays
+abbrev pub KeepsReceived : {T : Type 0} → (T → Type 0) → ReceivedBytes → Result (Option T) Error → ReceivedBytes → Type 0
+KeepsReceived shares old result new = MatchTaken result
+    (λ taken. (new.layout ≡ old.layout) × KeepsSpace old new × shares taken) (new ≡ old)
 
 -- so many bytes came after those that are held, into the space
 pub record HasReceived (n : ℕ) (old new : ReceivedBytes) : Type 0 where
@@ -40,7 +45,7 @@ pub record HasReceived (n : ℕ) (old new : ReceivedBytes) : Type 0 where
   pub count : length more ≡ n
   pub bytes : new.bytes ≡ old.bytes ++ more
   pub space : new.space + n ≡ old.space
-  pub prefix : new.prefix ≡ old.prefix
+  pub layout : new.layout ≡ old.layout
 
 -- a block of the crate `bytes`, for the clause on one that is lent
 abbrev pub block_row : RattleType

@@ -1,5 +1,5 @@
 -- An unsent frame, as contracts see it.
---     UnsentBytes    what is left of its length and of its body, and the bytes of both
+--     UnsentBytes    what is left of its header and of its body, and the bytes of both
 --     unsent_nothing no frame
 --     unsent_frame   a frame of which nothing was sent
 --     unsent_rest    what is left of them after their first bytes; a body of which all went shares no block
@@ -11,11 +11,10 @@
 use Rattle.std.specs.Prelude.{◌≡◌, ℕ, ◌-◌, List, [], ◌∷◌, ◌++◌, length, drop}
 use Rattle.std.specs.List.{flat_map}
 use Rattle.iobufs_core.specs.MarkedText.{MarkedText, default_text, text_rest}
-use Rattle.iobufs_frames.specs.Frames.{frame_written}
-use Rattle.iobufs_frames.specs.Prefixes.{prefix_written}
-use Rattle.iobufs_frames.specs.declared.lengths.Prefix.{Prefix}
+use Rattle.iobufs_frames.specs.Frames.{Parts, frame_written, header_written}
+use Rattle.iobufs_frames.specs.declared.lengths.Layout.{Layout}
 
--- the unsent end of a frame's length, its unsent body, and the bytes of both
+-- the unsent end of a frame's header, its unsent body, and the bytes of both
 pub record UnsentBytes : Type 0 where
   pub head : List ℕ
   pub body : MarkedText
@@ -26,12 +25,13 @@ abbrev pub unsent_nothing : UnsentBytes
 unsent_nothing = record { head = []; body = default_text; bytes = [] }
 
 -- a whole frame
-abbrev pub unsent_frame : Prefix → MarkedText → UnsentBytes
-unsent_frame prefix body = record {
-  head = prefix_written prefix (length body.bytes);
-  body = body;
-  bytes = frame_written prefix body.bytes;
-}
+abbrev pub unsent_frame : Layout → List ℕ → List ℕ → MarkedText → UnsentBytes
+unsent_frame layout before after body =
+    let frame : Parts = record { before = before; after = after; body = body.bytes } in record {
+      head = header_written layout frame;
+      body = body;
+      bytes = frame_written layout frame;
+    }
 
 -- the unsent bytes after the first n of them
 abbrev pub unsent_rest : UnsentBytes → ℕ → UnsentBytes

@@ -3,35 +3,33 @@ ghost use Rattle.std.specs.Prelude.{◌≡◌, ◌↔◌, ℕ, ◌+◌, ◌^◌,
 ghost use Rattle.std.specs.Borrow.{Lends, sem};
 ghost use Rattle.std.specs.Io.KnownBytes.{Consumes, IsAtEnd, Keeps};
 ghost use Rattle.iobufs_core.specs.View.{view_of_bytes};
-ghost use Rattle.iobufs_frames.specs.Frames.{TakesFirst};
-ghost use Rattle.iobufs_frames.specs.Prefixes.{HasNoLengthAt, IsOpenAt, IsSeenAt};
-ghost use Rattle.iobufs_frames.specs.Receiving.{HasReceived, KeepsReceived, KeepsSpace, block_row, none_received};
+ghost use Rattle.iobufs_frames.specs.Frames.{TakesFirst, TakesWhole};
+ghost use Rattle.iobufs_frames.specs.Prefixes.{HasNoLengthIn, IsOpenIn, IsSeenIn, bare};
+ghost use Rattle.iobufs_frames.specs.Receiving.{HasReceived, KeepsReceived, KeepsSpace, block_row, none_received, shares_block};
 ghost use Rattle.iobufs_frames.specs.contracts.block.Received.{the_row};
 
-use crate::lengths::{Length, Prefix, frame_size};
+use crate::lengths::{Layout, Length, Prefix, sizes_of};
 use crate::shown::Shown;
-use bytes::BytesMut;
-use iobufs_core::buf::IoBuf;
+use bytes::{Bytes, BytesMut};
+use iobufs_core::buf::{IoBuf, address_mut};
 use iobufs_core::codec::{Error, RangeCfg};
 use std::alloc::{AllocError, Global};
 use std::io::{self, Read};
 use std::marker::Model;
-use std::ptr;
 
 // How large the first block is, and how large one is at most, unless a single frame needs more.
 const FIRST: usize = 1 << 12;
 
 const MOST: usize = 1 << 16;
 
-// How many bytes the kit's block has at least after it grew. A block that grows by no fewer has no byte after its
-// frame.
+// How many bytes the kit's block grows by at least.
 const STEP: usize = 1 << 14;
 
 /// Bytes that were received and not taken, in one block, and space for more after them. A body that is taken shares the
-/// block, and so keeps all of it: copy a small body that is kept for long.
+/// block. It keeps at most its own frame or 64 KiB, whichever is more: copy a small body that is kept for long.
 #[derive(Drop)]
 pub struct Received {
-    prefix: Prefix,
+    layout: Layout,
     block: BytesMut,
     // How large the block was when nothing had been taken from it.
     whole: usize,
@@ -41,18 +39,19 @@ pub struct Received {
 
 impl Model for Received {
     ghost use Rattle.std.specs.Option.{ForSome};
-    ghost use Rattle.iobufs_frames.specs.Prefixes.{IsSeenAt};
+    ghost use Rattle.iobufs_frames.specs.Prefixes.{IsSeenIn};
     ghost use Rattle.iobufs_frames.specs.Receiving.{ReceivedBytes};
 
     ghost Value = { ReceivedBytes };
 
-    ghost view = { λ r. record { prefix = r.prefix; bytes = r.block.items; space = r.block.spare } };
+    ghost view = { λ r. record { layout = r.layout; bytes = r.block.items; space = r.block.spare } };
 
-    ghost invariant = { λ r. ForSome r.known (λ l. IsSeenAt r.prefix r.block.items l.value l.len) };
+    ghost invariant = { λ r. ForSome r.known (λ l. IsSeenIn r.layout r.block.items l.value l.len) };
 }
 
 // Makes a full block, which had `whole` bytes when nothing had been taken from it, one of `size` bytes. It moves the
-// bytes to the front or to a new block, unless they are all that it ever had.
+// bytes to the front or to a new block, unless they are all that it ever had. A block that grows in place gets twice
+// its size at least, so one of another size above `MOST` is a new one.
 fn widen(block: &mut BytesMut, whole: usize, size: usize) -> Result<(), AllocError>
     requires { length block.old.items < size }
     ensures items { block.new.items ≡ block.old.items }
@@ -60,7 +59,7 @@ fn widen(block: &mut BytesMut, whole: usize, size: usize) -> Result<(), AllocErr
     ensures failed { OnErr result (block.old.spare ≤ block.new.spare) }
 {
     let len = block.len();
-    if len == whole {
+    if len == whole && (size <= MOST || len <= size - len) {
         return block.reserve(size - len);
     }
     if whole <= MOST && block.try_reclaim(size - len) {
@@ -73,16 +72,31 @@ fn widen(block: &mut BytesMut, whole: usize, size: usize) -> Result<(), AllocErr
 }
 
 impl Received {
-    /// Makes an empty one, of frames whose lengths are written as `prefix`. It allocates nothing.
+    /// Makes an empty one, of frames whose headers are their lengths, written as `prefix`. It allocates nothing.
     pub fn new(alloc: Global, prefix: Prefix) -> Received
-        ensures { result ≡ none_received prefix }
+        ensures { result ≡ none_received (bare prefix) }
+    {
+        Received::with_layout(alloc, Layout::bare(prefix))
+    }
+
+    /// Makes an empty one, of frames whose headers are laid out so. It allocates nothing.
+    pub fn with_layout(alloc: Global, layout: Layout) -> Received
+        ensures { result ≡ none_received layout }
     {
         Received {
-            prefix,
+            layout,
             block: BytesMut::new(alloc),
             whole: 0,
             known: None,
         }
+    }
+
+    /// Lays the headers out so from the next frame on. A length that was decoded is forgotten.
+    pub fn set_layout(&mut self, layout: Layout)
+        ensures { self.new ≡ record self.old { layout = layout } }
+    {
+        self.layout = layout;
+        self.known = None;
     }
 
     /// Returns how many bytes are held.
@@ -104,28 +118,28 @@ impl Received {
     #[inline(always)]
     fn length(&self) -> Result<Option<Length>, Error>
         ensures found { IfOk result (λ found. IfSome found
-            (λ l. IsSeenAt self.now.prefix self.now.bytes l.value l.len)) }
-        ensures none { IfOk result (λ found. IfNone found (HasNoLengthAt self.now.prefix self.now.bytes
-            × IsOpenAt self.now.prefix self.now.bytes)) }
+            (λ l. IsSeenIn self.now.layout self.now.bytes l.value l.len)) }
+        ensures none { IfOk result (λ found. IfNone found (HasNoLengthIn self.now.layout self.now.bytes
+            × IsOpenIn self.now.layout self.now.bytes)) }
         ensures bad { IfErr result (λ error. (error ≡ Error.InvalidVarint)
-            × HasNoLengthAt self.now.prefix self.now.bytes
-            × (IsOpenAt self.now.prefix self.now.bytes → ⊥) × (self.now.prefix ≡ Prefix.Spelled)) }
+            × HasNoLengthIn self.now.layout self.now.bytes
+            × (IsOpenIn self.now.layout self.now.bytes → ⊥) × (self.now.layout.prefix ≡ Prefix.Spelled)) }
     {
         if let Some(found) = self.known {
             return Ok(Some(found));
         }
         let bytes = self.block.as_slice();
-        self.prefix.length_in(&Shown { bytes })
+        self.layout.length_in(&Shown { bytes })
     }
 
-    // Takes a frame of so many bytes, of which the first are its length.
+    // Takes a frame of so many bytes, of which the first are its header.
     #[inline(always)]
     fn take(&mut self, skip: usize, size: usize) -> Result<IoBuf, AllocError>
         requires { (skip ≤ size) × (size ≤ length self.old.bytes) }
         ensures body { IfOk result (λ body. body ≡ view_of_bytes (drop skip (take size self.old.bytes))) }
         ensures rest { OnOk result (self.new.bytes ≡ drop size self.old.bytes) }
         ensures space { OnOk result (KeepsSpace self.old self.new) }
-        ensures prefix { self.new.prefix ≡ self.old.prefix }
+        ensures layout { self.new.layout ≡ self.old.layout }
         ensures unchanged { OnErr result (self.new ≡ self.old) }
         ensures nothing { skip ≡ size → IsOk result }
     {
@@ -134,32 +148,78 @@ impl Received {
             self.block.advance(size);
             return Ok(IoBuf::default());
         }
+        if self.whole > MOST {
+            return self.take_from_large(skip, size);
+        }
         let mut frame = self.block.freeze_to(size)?;
         frame.advance(skip);
-        if self.whole > MOST && self.block.is_empty() {
+        Ok(IoBuf::from(frame))
+    }
+
+    // Acts as `take` on a block above `MOST`. It goes with the frame that it was made for; any other is copied.
+    #[inline(never)]
+    fn take_from_large(&mut self, skip: usize, size: usize) -> Result<IoBuf, AllocError>
+        requires { (skip ≤ size) × (size ≤ length self.old.bytes) }
+        ensures body { IfOk result (λ body. body ≡ view_of_bytes (drop skip (take size self.old.bytes))) }
+        ensures rest { OnOk result (self.new.bytes ≡ drop size self.old.bytes) }
+        ensures space { OnOk result (KeepsSpace self.old self.new) }
+        ensures layout { self.new.layout ≡ self.old.layout }
+        ensures unchanged { OnErr result (self.new ≡ self.old) }
+    {
+        self.known = None;
+        if self.whole != size {
+            let bytes = self.block.as_slice();
+            let mut copy = Bytes::copy_from_slice(*self.block.allocator(), &bytes[..size])?;
+            copy.advance(skip);
+            self.block.advance(size);
+            return Ok(IoBuf::from(copy));
+        }
+        let mut own = self.block.freeze_to(size)?;
+        own.advance(skip);
+        if self.block.is_empty() {
             self.block = BytesMut::new(*self.block.allocator());
             self.whole = MOST;
         }
-        Ok(IoBuf::from(frame))
+        Ok(IoBuf::from(own))
     }
 
     /// Takes the first frame; `None` if it is not whole yet. Fails with `Error::InvalidVarint` (of varints alone) or
     /// `Error::InvalidLength` if no further bytes can make it whole, or with `Error::Memory`. Unless a frame is taken,
-    /// all is unchanged. A body isn't copied, and a length that is decoded is remembered.
+    /// all is unchanged. A length that is decoded is remembered. A body is copied only out of a block above 64 KiB that
+    /// has more than its frame.
     #[inline(always)]
     pub fn next(&mut self, range: &RangeCfg) -> Result<Option<IoBuf>, Error>
-        ensures next { TakesFirst self.old.prefix range.now self.old.bytes result self.new.bytes }
-        ensures left { KeepsReceived self.old result self.new }
+        ensures next { TakesFirst self.old.layout range.now self.old.bytes result self.new.bytes }
+        ensures left { KeepsReceived shares_block self.old result self.new }
     {
         let Some(found) = self.length()? else {
             return Ok(None);
         };
         self.known = Some(found);
-        let Some(size) = frame_size(found, self.len(), range)? else {
+        let Some(sizes) = sizes_of(self.layout, found, self.len(), range)? else {
             return Ok(None);
         };
-        match self.take(found.len, size) {
+        match self.take(sizes.header, sizes.header + sizes.body) {
             Ok(body) => Ok(Some(body)),
+            Err(_) => Err(Error::Memory),
+        }
+    }
+
+    /// Takes the first frame with its header, as `next` takes its body, and returns how long the header is.
+    #[inline(always)]
+    pub fn next_whole(&mut self, range: &RangeCfg) -> Result<Option<(usize, IoBuf)>, Error>
+        ensures next { TakesWhole (λ view. view.bytes) self.old.layout range.now self.old.bytes result self.new.bytes }
+        ensures left { KeepsReceived (λ whole. shares_block whole.1) self.old result self.new }
+    {
+        let Some(length) = self.length()? else {
+            return Ok(None);
+        };
+        self.known = Some(length);
+        let Some(parts) = sizes_of(self.layout, length, self.len(), range)? else {
+            return Ok(None);
+        };
+        match self.take(0, parts.header + parts.body) {
+            Ok(frame) => Ok(Some((parts.header, frame))),
             Err(_) => Err(Error::Memory),
         }
     }
@@ -171,7 +231,7 @@ impl Received {
         ensures { len < result }
     {
         let frame = match self.known {
-            Some(found) => found.len.saturating_add(found.value),
+            Some(found) => self.layout.most_of(found),
             None => 0,
         };
         let twice = 2 * len;
@@ -181,10 +241,10 @@ impl Received {
     }
 
     /// Makes space for a read, if there is none. A block is used again if no body shares it. It grows if it is full of
-    /// one frame. A block above 64 KiB is left after the frame that it was made for.
+    /// one frame. A block above 64 KiB has the size of the frame that it was made for, and is left after it.
     pub fn make_space(&mut self) -> Result<(), AllocError>
         ensures bytes { self.new.bytes ≡ self.old.bytes }
-        ensures prefix { self.new.prefix ≡ self.old.prefix }
+        ensures layout { self.new.layout ≡ self.old.layout }
         ensures space { OnOk result (0 < self.new.space) }
         ensures failed { OnErr result (self.old.space ≤ self.new.space) }
     {
@@ -210,7 +270,8 @@ impl Received {
             return 0;
         }
         self.block.advance_mut(space);
-        *at = ptr::from_ref(&self.block.as_slice()[len]) as *mut u8;
+        let (_, rest) = self.block.as_mut_slice().split_at_mut(len);
+        *at = address_mut(rest);
         self.block.truncate(len);
         space
     }
@@ -226,7 +287,7 @@ impl Received {
     /// Borrows the block, to read into its space in another way. The length at the front is decoded again afterwards.
     pub fn block_mut(&mut self) -> &mut BytesMut
         ensures* writes_back { sem 𝓛 (Lends the_row block_row self.entry result
-            (λ b. record { prefix = self.old.prefix; bytes = b.items; space = b.spare })) }
+            (λ b. record { layout = self.old.layout; bytes = b.items; space = b.spare })) }
         ensures bytes { result.now.items ≡ self.old.bytes }
         ensures space { result.now.spare ≡ self.old.space }
     {
@@ -241,7 +302,7 @@ impl Received {
             × Consumes (R.remaining from.old) (R.remaining from.new) more) }
         ensures space { IfOk result (λ n. self.new.space + n ≡ self.old.space) }
         ensures end { IfOk result (λ n. n ≡ 0 → IsAtEnd (R.remaining from.new)) }
-        ensures prefix { self.new.prefix ≡ self.old.prefix }
+        ensures layout { self.new.layout ≡ self.old.layout }
         ensures unchanged { OnErr result (self.new ≡ self.old) }
         ensures kept { OnErr result (Keeps (R.remaining from.old) (R.remaining from.new)) }
     {

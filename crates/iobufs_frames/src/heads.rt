@@ -1,4 +1,4 @@
-// The bytes of one length.
+// The bytes of one header.
 ghost use Rattle.std.specs.Prelude.{◌≡◌, ◌≤◌, length, drop};
 ghost use Rattle.iobufs_core.specs.Part.{empty_part};
 ghost use Rattle.iobufs_core.specs.PartLaws.{IsPut, put_composes, put_lessens, put_nothing, put_unchanged};
@@ -6,14 +6,13 @@ ghost use Rattle.iobufs_core.specs.PartLaws.{IsPut, put_composes, put_lessens, p
 use iobufs_core::codec::BufMut;
 use std::marker::Model;
 
-// How many bytes a length has at most.
-const MOST: usize = 10;
+// How many bytes a header has at most that is written.
+const MOST: usize = 32;
 
-/// A length as its prefix writes it: at most ten bytes, which are sent before a body. It allocates nothing.
+/// A header: at most 32 bytes, which are sent before a body. It allocates nothing.
 #[derive(Drop)]
 pub struct Head {
-    // The first ten are used; sixteen are moved in fewer instructions.
-    bytes: [u8; 16],
+    bytes: [u8; 32],
     start: usize,
     end: usize,
 }
@@ -24,18 +23,18 @@ impl Model for Head {
 
     ghost Value = { Part };
 
-    ghost view = { λ h. record { filled = drop h.start (take h.end h.bytes); spare = 10 - h.end } };
+    ghost view = { λ h. record { filled = drop h.start (take h.end h.bytes); spare = 32 - h.end } };
 
-    ghost invariant = { λ h. (h.start ≤ h.end) × (h.end ≤ 10) × (length h.bytes ≡ 16) };
+    ghost invariant = { λ h. (h.start ≤ h.end) × (h.end ≤ 32) × (length h.bytes ≡ 32) };
 }
 
 impl Head {
     /// Makes one without bytes.
     pub fn new() -> Head
-        ensures { result ≡ empty_part 10 }
+        ensures { result ≡ empty_part 32 }
     {
         Head {
-            bytes: [0; 16],
+            bytes: [0; 32],
             start: 0,
             end: 0,
         }
@@ -51,7 +50,7 @@ impl Head {
     /// Returns how many bytes there are.
     pub fn len(&self) -> usize
         ensures value { result ≡ length self.now.filled }
-        ensures few { result ≤ 10 }
+        ensures few { result ≤ 32 }
     {
         self.end - self.start
     }

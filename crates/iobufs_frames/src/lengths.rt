@@ -1,8 +1,8 @@
 // How the length before a body is written and read.
-ghost use Rattle.std.specs.Prelude.{◌≡◌, ◌≤◌, ◌<◌, ◌+◌, length, nat_lt, take, true, false, MatchOption, IfOk, IfErr, IfSome, IfNone, OnOk, IsOkUnless};
-ghost use Rattle.iobufs_core.specs.Ranges.{in_range};
-ghost use Rattle.iobufs_frames.specs.Frames.{CanBeSent, HasFrameSize, PrependsLength};
-ghost use Rattle.iobufs_frames.specs.Prefixes.{HasNoLengthAt, IsLengthAt, IsOpenAt, IsSeenAt, prefix_limit, prefix_view, prefix_written, width_size};
+ghost use Rattle.std.specs.Prelude.{◌≡◌, ◌≤◌, ◌<◌, ◌+◌, ◌-◌, ◌++◌, [], ℕ, List, length, nat_lt, take, drop, true, false, MatchOption, IfOk, IfErr, IfSome, IfNone, OnOk, IsOkUnless};
+ghost use Rattle.iobufs_core.specs.PartLaws.{IsPut};
+ghost use Rattle.iobufs_frames.specs.Frames.{CanBeSent, HasFrameSize, PrependsLength, header_written};
+ghost use Rattle.iobufs_frames.specs.Prefixes.{HasNoLengthAt, HasNoLengthIn, IsLengthAt, IsOpenAt, IsOpenIn, IsSeenAt, IsSeenIn, admits, bare, own_view, prefix_limit, prefix_written, width_size};
 
 use crate::heads::Head;
 use iobufs::bufs::IoBufs;
@@ -38,6 +38,19 @@ pub enum Prefix {
     Fixed(Width, ByteOrder),
 }
 
+/// Where a frame's length stands in its header, how it is written, and what it counts.
+#[derive(Clone, Copy, Debug, PartialEq, Eq)]
+pub struct Layout {
+    /// How many bytes are before the length.
+    pub before: u8,
+    /// How the length is written.
+    pub prefix: Prefix,
+    /// How many bytes are between the length and the body.
+    pub after: u8,
+    /// How many bytes the length counts besides those of the body: 0 if it counts the body alone.
+    pub counts: u8,
+}
+
 impl Width {
     /// Returns how many bytes it has.
     pub fn size(self) -> usize
@@ -60,60 +73,72 @@ pub(crate) struct Length {
     pub(crate) len: usize,
 }
 
-// The first `N` bytes, if there are so many.
-fn front<B: Buf, const N: usize>(buf: &B) -> Option<[u8; N]>
-    ensures { MatchOption result (length (B.text buf.now) < N) (λ bytes. (N ≤ length (B.text buf.now))
-        × (bytes ≡ take N (B.text buf.now))) }
+/// How many bytes a header has, and its body.
+#[derive(Clone, Copy)]
+pub(crate) struct Sizes {
+    pub(crate) header: usize,
+    pub(crate) body: usize,
+}
+
+// The first `N` bytes after `skip`, if there are so many.
+#[inline(always)]
+fn front<B: Buf, const N: usize>(buf: &B, skip: u8) -> Option<[u8; N]>
+    ensures { MatchOption result (length (drop skip (B.text buf.now)) < N)
+        (λ bytes. (N ≤ length (drop skip (B.text buf.now))) × (bytes ≡ take N (drop skip (B.text buf.now)))) }
 {
     let mut bytes = [0; N];
     for i in 0..N {
-        bytes[i] = buf.byte_at(i)?;
+        bytes[i] = buf.byte_at((skip as usize).checked_add(i)?)?;
     }
     Some(bytes)
 }
 
-// The big-endian number at the front.
-fn big_in<B: Buf>(buf: &B, width: Width) -> Option<usize>
-    ensures { MatchOption result (IsOpenAt (Prefix.Fixed width ByteOrder.Big) (B.text buf.now))
-        (IsLengthAt (Prefix.Fixed width ByteOrder.Big) (B.text buf.now)) }
+// The big-endian number after `skip` bytes.
+#[inline(always)]
+fn big_in<B: Buf>(buf: &B, skip: u8, width: Width) -> Option<usize>
+    ensures { MatchOption result (IsOpenAt (Prefix.Fixed width ByteOrder.Big) (drop skip (B.text buf.now)))
+        (IsLengthAt (Prefix.Fixed width ByteOrder.Big) (drop skip (B.text buf.now))) }
 {
     match width {
-        Width::U8 => Some(u8::from_be_bytes(front(buf)?) as usize),
-        Width::U16 => Some(u16::from_be_bytes(front(buf)?) as usize),
+        Width::U8 => Some(u8::from_be_bytes(front(buf, skip)?) as usize),
+        Width::U16 => Some(u16::from_be_bytes(front(buf, skip)?) as usize),
         Width::U24 => {
-            let [a, b, c]: [u8; 3] = front(buf)?;
+            let [a, b, c]: [u8; 3] = front(buf, skip)?;
             Some(u32::from_be_bytes([0, a, b, c]) as usize)
         }
-        Width::U32 => Some(u32::from_be_bytes(front(buf)?) as usize),
-        Width::U64 => Some(u64::from_be_bytes(front(buf)?) as usize),
+        Width::U32 => Some(u32::from_be_bytes(front(buf, skip)?) as usize),
+        Width::U64 => Some(u64::from_be_bytes(front(buf, skip)?) as usize),
     }
 }
 
-// The little-endian number at the front.
-fn little_in<B: Buf>(buf: &B, width: Width) -> Option<usize>
-    ensures { MatchOption result (IsOpenAt (Prefix.Fixed width ByteOrder.Little) (B.text buf.now))
-        (IsLengthAt (Prefix.Fixed width ByteOrder.Little) (B.text buf.now)) }
+// The little-endian number after `skip` bytes.
+#[inline(always)]
+fn little_in<B: Buf>(buf: &B, skip: u8, width: Width) -> Option<usize>
+    ensures { MatchOption result (IsOpenAt (Prefix.Fixed width ByteOrder.Little) (drop skip (B.text buf.now)))
+        (IsLengthAt (Prefix.Fixed width ByteOrder.Little) (drop skip (B.text buf.now))) }
 {
     match width {
-        Width::U8 => Some(u8::from_le_bytes(front(buf)?) as usize),
-        Width::U16 => Some(u16::from_le_bytes(front(buf)?) as usize),
+        Width::U8 => Some(u8::from_le_bytes(front(buf, skip)?) as usize),
+        Width::U16 => Some(u16::from_le_bytes(front(buf, skip)?) as usize),
         Width::U24 => {
-            let [a, b, c]: [u8; 3] = front(buf)?;
+            let [a, b, c]: [u8; 3] = front(buf, skip)?;
             Some(u32::from_le_bytes([a, b, c, 0]) as usize)
         }
-        Width::U32 => Some(u32::from_le_bytes(front(buf)?) as usize),
-        Width::U64 => Some(u64::from_le_bytes(front(buf)?) as usize),
+        Width::U32 => Some(u32::from_le_bytes(front(buf, skip)?) as usize),
+        Width::U64 => Some(u64::from_le_bytes(front(buf, skip)?) as usize),
     }
 }
 
-// The number at the front, if all its bytes are there.
-fn number_in<B: Buf>(buf: &B, width: Width, order: ByteOrder) -> Option<Length>
-    ensures found { IfSome result (λ l. IsSeenAt (Prefix.Fixed width order) (B.text buf.now) l.value l.len) }
-    ensures none { IfNone result (IsOpenAt (Prefix.Fixed width order) (B.text buf.now)) }
+// The number after `skip` bytes, if all its bytes are there.
+#[inline(always)]
+fn number_in<B: Buf>(buf: &B, skip: u8, width: Width, order: ByteOrder) -> Option<Length>
+    ensures found { IfSome result (λ l. IsSeenAt (Prefix.Fixed width order) (drop skip
+        (B.text buf.now)) l.value l.len) }
+    ensures none { IfNone result (IsOpenAt (Prefix.Fixed width order) (drop skip (B.text buf.now))) }
 {
     let value = match order {
-        ByteOrder::Big => big_in(buf, width)?,
-        ByteOrder::Little => little_in(buf, width)?,
+        ByteOrder::Big => big_in(buf, skip, width)?,
+        ByteOrder::Little => little_in(buf, skip, width)?,
     };
     Some(Length {
         value,
@@ -121,47 +146,62 @@ fn number_in<B: Buf>(buf: &B, width: Width, order: ByteOrder) -> Option<Length>
     })
 }
 
-// The varint at the front, if it is whole.
+// The varint after `skip` bytes, if it is whole.
 #[inline(always)]
-fn varint_in<B: Buf>(buf: &B) -> Result<Option<Length>, Error>
-    ensures found { IfOk result (λ found. IfSome found (λ l. IsSeenAt Prefix.Spelled (B.text buf.now) l.value l.len)) }
-    ensures none { IfOk result (λ found. IfNone found (HasNoLengthAt Prefix.Spelled (B.text buf.now)
-        × IsOpenAt Prefix.Spelled (B.text buf.now))) }
-    ensures bad { IfErr result (λ error. (error ≡ Error.InvalidVarint) × HasNoLengthAt Prefix.Spelled (B.text buf.now)
-        × (IsOpenAt Prefix.Spelled (B.text buf.now) → ⊥)) }
+fn varint_in<B: Buf>(buf: &B, skip: u8) -> Result<Option<Length>, Error>
+    ensures found { IfOk result (λ found. IfSome found (λ l. IsSeenAt Prefix.Spelled (drop skip
+        (B.text buf.now)) l.value l.len)) }
+    ensures none { IfOk result (λ found. IfNone found (HasNoLengthAt Prefix.Spelled (drop skip (B.text buf.now))
+        × IsOpenAt Prefix.Spelled (drop skip (B.text buf.now)))) }
+    ensures bad { IfErr result (λ error. (error ≡ Error.InvalidVarint)
+        × HasNoLengthAt Prefix.Spelled (drop skip (B.text buf.now))
+        × (IsOpenAt Prefix.Spelled (drop skip (B.text buf.now)) → ⊥)) }
 {
+    if buf.remaining() < skip as usize {
+        return Ok(None);
+    }
     let all = RangeCfg {
         lo: 0,
         hi: usize::MAX,
     };
-    match peek_length(buf, 0, &all) {
+    match peek_length(buf, skip as usize, &all) {
         Ok((value, len)) => Ok(Some(Length { value, len })),
         Err(Error::EndOfBuffer) => Ok(None),
         Err(_) => Err(Error::InvalidVarint),
     }
 }
 
-/// Returns how many bytes a frame with this length has, if it is whole, of so many bytes.
+/// Returns how many bytes a header and its body have, if the frame is whole, of so many bytes.
 #[inline(always)]
-pub(crate) fn frame_size(
+pub(crate) fn sizes_of(
+    layout: Layout,
     found: Length,
     len: usize,
     range: &RangeCfg,
-) -> Result<Option<usize>, Error>
-    requires { found.len ≤ len }
-    ensures inside { OnOk result (in_range range.now found.value ≡ true) }
-    ensures whole { IfOk result (λ size. IfSome size (λ n. (n ≡ found.len + found.value) × (n ≤ len))) }
-    ensures none { IfOk result (λ size. IfNone size (len < found.len + found.value)) }
+) -> Result<Option<Sizes>, Error>
+    requires { layout.before + found.len ≤ len }
+    ensures inside { OnOk result (admits layout range.now found.value ≡ true) }
+    ensures header { IfOk result (λ sizes. IfSome sizes (λ s. s.header ≡ layout.before + found.len + layout.after)) }
+    ensures body { IfOk result (λ sizes. IfSome sizes (λ s. s.body + layout.counts ≡ found.value)) }
+    ensures whole { IfOk result (λ sizes. IfSome sizes (λ s. s.header + s.body ≤ len)) }
+    ensures none { IfOk result (λ sizes. IfNone sizes
+        (len < layout.before + found.len + layout.after + (found.value - layout.counts))) }
     ensures outside { IfErr result (λ error. (error ≡ Error.InvalidLength found.value)
-        × (in_range range.now found.value ≡ false)) }
+        × (admits layout range.now found.value ≡ false)) }
 {
-    if !range.contains(found.value) {
+    let (counts, after) = (layout.counts as usize, layout.after as usize);
+    if found.value < counts || !range.contains(found.value - counts) {
         return Err(Error::InvalidLength(found.value));
     }
-    if found.value > len - found.len {
+    let body = found.value - counts;
+    let front = layout.before as usize + found.len;
+    if len - front < after || len - front - after < body {
         return Ok(None);
     }
-    Ok(Some(found.len + found.value))
+    Ok(Some(Sizes {
+        header: front + after,
+        body,
+    }))
 }
 
 impl Prefix {
@@ -178,32 +218,33 @@ impl Prefix {
         }
     }
 
-    /// Returns the length at the front, if all its bytes are there. Fails with `Error::InvalidVarint`, of varints
-    /// alone.
-    #[inline(always)]
-    pub(crate) fn length_in<B: Buf>(self, buf: &B) -> Result<Option<Length>, Error>
-        ensures found { IfOk result (λ found. IfSome found (λ l. IsSeenAt self (B.text buf.now) l.value l.len)) }
-        ensures none { IfOk result (λ found. IfNone found (HasNoLengthAt self (B.text buf.now)
-            × IsOpenAt self (B.text buf.now))) }
-        ensures bad { IfErr result (λ error. (error ≡ Error.InvalidVarint) × HasNoLengthAt self (B.text buf.now)
-            × (IsOpenAt self (B.text buf.now) → ⊥)
-            × (self ≡ Prefix.Spelled)) }
-    {
-        match self {
-            Prefix::Spelled => varint_in(buf),
-            Prefix::Fixed(width, order) => Ok(number_in(buf, width, order)),
-        }
-    }
-
-    /// Encodes a length, to be sent before a body. It allocates nothing.
+    /// Encodes a length. It allocates nothing.
     pub fn head(self, n: usize) -> Head
         requires { n < prefix_limit self }
         ensures { result.filled ≡ prefix_written self n }
     {
         let mut head = Head::new();
+        self.put_length(n, &mut head);
+        head
+    }
+
+    /// Encodes a length into a buffer of its own.
+    pub fn written(self, alloc: Global, n: usize) -> Result<IoBuf, BufError>
+        requires { n < prefix_limit self }
+        ensures view { IfOk result (λ view. view ≡ own_view (prefix_written self n)) }
+        ensures memory { IsOkUnless result BufError.Memory }
+    {
+        IoBuf::copy_from_slice(alloc, self.head(n).as_slice())
+    }
+
+    // Encodes a length after what is there.
+    fn put_length(self, n: usize, head: &mut Head)
+        requires { (n < prefix_limit self) × (10 ≤ head.old.spare) }
+        ensures { IsPut head.old (prefix_written self n) head.new }
+    {
         match self {
             Prefix::Spelled if n < 128 => head.put_u8(n as u8),
-            Prefix::Spelled => n.write(&mut head),
+            Prefix::Spelled => n.write(head),
             Prefix::Fixed(width, ByteOrder::Big) => {
                 head.put_slice(&(n as u64).to_be_bytes()[8 - width.size()..]);
             }
@@ -211,65 +252,147 @@ impl Prefix {
                 head.put_slice(&(n as u64).to_le_bytes()[..width.size()]);
             }
         }
+    }
+}
+
+impl From<Prefix> for Layout {
+    ghost from_gives = { λ prefix layout. layout ≡ bare prefix };
+
+    fn from(prefix: Prefix) -> Layout {
+        Layout::bare(prefix)
+    }
+}
+
+// How many bytes a header that is written has at most, besides its length.
+const MOST: usize = 22;
+
+impl Layout {
+    /// A header that is its length alone, which counts the body.
+    pub fn bare(prefix: Prefix) -> Layout
+        ensures { result ≡ bare prefix }
+    {
+        Layout {
+            before: 0,
+            prefix,
+            after: 0,
+            counts: 0,
+        }
+    }
+
+    /// Returns the length in the header at the front, if all its bytes are there. Fails with `Error::InvalidVarint`, of
+    /// varints alone.
+    #[inline(always)]
+    pub(crate) fn length_in<B: Buf>(self, buf: &B) -> Result<Option<Length>, Error>
+        ensures found { IfOk result (λ found. IfSome found (λ l. IsSeenIn self (B.text buf.now) l.value l.len)) }
+        ensures none { IfOk result (λ found. IfNone found (HasNoLengthIn self (B.text buf.now)
+            × IsOpenIn self (B.text buf.now))) }
+        ensures bad { IfErr result (λ error. (error ≡ Error.InvalidVarint) × HasNoLengthIn self (B.text buf.now)
+            × (IsOpenIn self (B.text buf.now) → ⊥)
+            × (self.prefix ≡ Prefix.Spelled)) }
+    {
+        match self.prefix {
+            Prefix::Spelled => varint_in(buf, self.before),
+            Prefix::Fixed(width, order) => Ok(number_in(buf, self.before, width, order)),
+        }
+    }
+
+    /// How many bytes a frame with this length has at most.
+    pub(crate) fn most_of(self, found: Length) -> usize {
+        let around = self.before as usize + self.after as usize;
+        found.len.saturating_add(found.value).saturating_add(around)
+    }
+
+    // Encodes a header whose length is this number.
+    #[inline(always)]
+    fn header(self, before: &[u8], after: &[u8], value: usize) -> Head
+        requires { (length before.now + length after.now ≤ 22) × (value < prefix_limit self.prefix) }
+        ensures { result.filled ≡ before.now ++ (prefix_written self.prefix value ++ after.now) }
+    {
+        if before.is_empty() && after.is_empty() {
+            return self.prefix.head(value);
+        }
+        let mut head = Head::new();
+        head.put_slice(before);
+        self.prefix.put_length(value, &mut head);
+        head.put_slice(after);
         head
     }
 
-    // Encodes the length of a body of `n` bytes, if both have a size.
-    fn head_of_frame(self, n: usize) -> Option<Head>
-        ensures { MatchOption result (HasFrameSize self n → ⊥) (λ head. HasFrameSize self n
-            × (head.filled ≡ prefix_written self n)) }
+    // Encodes the header of a body of `n` bytes, if both have a size.
+    #[inline(always)]
+    fn header_of(self, before: &[u8], after: &[u8], n: usize) -> Option<Head>
+        ensures { MatchOption result (HasFrameSize self before.now after.now n → ⊥)
+            (λ head. HasFrameSize self before.now after.now n
+            × ((body : List ℕ) → length body ≡ n
+            → head.filled ≡ header_written self (record { before = before.now; after = after.now; body = body }))) }
     {
-        if !self.fits(n) {
+        if before.len() != self.before as usize || after.len() != self.after as usize {
             return None;
         }
-        let head = self.head(n);
+        if before.len() + after.len() > MOST {
+            return None;
+        }
+        let value = n.checked_add(self.counts as usize)?;
+        if !self.prefix.fits(value) {
+            return None;
+        }
+        let head = self.header(before, after, value);
         if usize::MAX - n < head.len() {
             return None;
         }
         Some(head)
     }
 
-    /// Encodes the length of a body of `n` bytes; `None` if it is outside the range or can't be written so, or both are
-    /// longer than `usize::MAX`.
-    pub fn head_within(self, n: usize, range: &RangeCfg) -> Option<Head>
-        ensures { MatchOption result (CanBeSent self range.now n → ⊥) (λ head. CanBeSent self range.now n
-            × (head.filled ≡ prefix_written self n)) }
+    /// Encodes the header of a body of `n` bytes; `None` if that is outside the range or can't be written so, or both
+    /// are longer than `usize::MAX`.
+    #[inline(always)]
+    pub fn header_within(
+        self,
+        before: &[u8],
+        after: &[u8],
+        n: usize,
+        range: &RangeCfg,
+    ) -> Option<Head>
+        ensures { MatchOption result (CanBeSent self range.now before.now after.now n → ⊥)
+            (λ head. CanBeSent self range.now before.now after.now n
+            × ((body : List ℕ) → length body ≡ n
+            → head.filled ≡ header_written self (record { before = before.now; after = after.now; body = body }))) }
     {
         if !range.contains(n) {
             return None;
         }
-        self.head_of_frame(n)
-    }
-
-    /// Encodes a length into a buffer of its own.
-    pub fn written(self, alloc: Global, n: usize) -> Result<IoBuf, BufError>
-        requires { n < prefix_limit self }
-        ensures view { IfOk result (λ view. view ≡ prefix_view self n) }
-        ensures memory { IsOkUnless result BufError.Memory }
-    {
-        IoBuf::copy_from_slice(alloc, self.head(n).as_slice())
+        self.header_of(before, after, n)
     }
 }
 
-/// Prepends its length to a body, whose chunks aren't copied. Fails with `BufError::TooLong` if the length can't be
-/// written so (see `Prefix::fits`) or both are longer than `usize::MAX`, before it allocates; else with
-/// `BufError::Memory`.
-pub fn framed_with(
+/// Prepends its length to a body, whose chunks aren't copied. Fails with `BufError::TooLong` if it can't be written so
+/// (see `Prefix::fits`) or both are longer than `usize::MAX`, before it allocates; else with `BufError::Memory`.
+pub fn framed_with(alloc: Global, prefix: Prefix, body: IoBufs) -> Result<IoBufs, Refused<IoBufs>>
+    ensures { PrependsLength (bare prefix) [] [] body result }
+{
+    framed_with_layout(alloc, Layout::bare(prefix), &[], &[], body)
+}
+
+/// Prepends its header to a body, as `framed_with` does its length. Fails with `BufError::TooLong` also if the layout
+/// has another number of bytes before the length or after it, or more than 22.
+pub fn framed_with_layout(
     alloc: Global,
-    prefix: Prefix,
+    layout: Layout,
+    before: &[u8],
+    after: &[u8],
     mut body: IoBufs,
 ) -> Result<IoBufs, Refused<IoBufs>>
-    ensures { PrependsLength prefix body result }
+    ensures { PrependsLength layout before.now after.now body result }
 {
-    let Some(head) = prefix.head_of_frame(body.len()) else {
+    let Some(head) = layout.header_of(before, after, body.len()) else {
         let cause = BufError::TooLong;
         return Err(Refused { cause, value: body });
     };
     let cause = BufError::Memory;
-    let Ok(length) = IoBuf::copy_from_slice(alloc, head.as_slice()) else {
+    let Ok(header) = IoBuf::copy_from_slice(alloc, head.as_slice()) else {
         return Err(Refused { cause, value: body });
     };
-    let Ok(()) = body.prepend(alloc, length) else {
+    let Ok(()) = body.prepend(alloc, header) else {
         return Err(Refused { cause, value: body });
     };
     Ok(body)

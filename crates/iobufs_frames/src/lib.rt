@@ -1,10 +1,11 @@
-// Frames of bytes that come in chunks, also from std's readers and to its writers: each is a length followed by a body.
+// Frames of bytes that come in chunks, also from std's readers and to its writers: each is a header followed by a body.
 // `reader` takes whole frames out of whatever reads give. `writer` sends frames chunk by chunk, whatever writes take.
 #![tactic(auto)]
 
 ghost use Rattle.std.specs.Prelude.{◌≡◌, ◌≢◌, ◌⊎◌, ℕ, ◌+◌, ◌^◌, ◌<◌, ◌≤◌, List, ◌++◌, length, OnOk, OnErr, IfOk, IfErr, IsOk, IsErrAnd, IsOkUnless, IfNone, IfSome};
 ghost use Rattle.iobufs_core.specs.MarkedText.{default_text, text_append};
-ghost use Rattle.iobufs_frames.specs.Frames.{AreMoved, HasStaticBody, IsCutFrom, IsFramed, LacksFrame, MatchTaken, TakesFirst, bodies, joined_bytes};
+ghost use Rattle.iobufs_frames.specs.Frames.{AreMoved, HasBodies, HasStaticBody, IsCutFrom, IsSplitFrom, LacksFrame, MatchTaken, TakesFirst, TakesWhole, bodies, joined_bytes};
+ghost use Rattle.iobufs_frames.specs.Prefixes.{bare};
 ghost use Rattle.iobufs_frames.specs.declared.lengths.Prefix.TheVariants.{Spelled};
 
 pub mod adapters;
@@ -25,8 +26,8 @@ pub use heads::Head;
 use iobufs::bufs::IoBufs;
 use iobufs_core::buf::IoBuf;
 use iobufs_core::codec::{BufError, Error, OwnedBuf, RangeCfg, Refused};
-use lengths::frame_size;
-pub use lengths::{ByteOrder, Prefix, Width, framed_with};
+use lengths::sizes_of;
+pub use lengths::{ByteOrder, Layout, Prefix, Width, framed_with, framed_with_layout};
 pub use reader::FrameReader;
 use std::alloc::Global;
 pub use writer::FrameWriter;
@@ -41,23 +42,23 @@ pub enum End {
     Bad(Error),
 }
 
-/// Bytes that are fed at the end, and whole frames that are taken from the front. A frame is a length followed by a
-/// body; the prefix says how the length is written.
+/// Bytes that are fed at the end, and whole frames that are taken from the front. A frame is a header followed by a
+/// body; the layout says where in the header the length is, and how it is written.
 pub struct Frames {
-    /// How the lengths are written.
-    pub prefix: Prefix,
+    /// How the headers are laid out. A change applies to the next frame.
+    pub layout: Layout,
     // The bytes that were fed and not taken.
     rest: IoBufs,
 }
 
 impl Drop for Frames {
     fn drop(self) {
-        let Frames { prefix: _, rest: _ } = self;
+        let Frames { layout: _, rest: _ } = self;
     }
 }
 
 impl Default for Frames {
-    ghost is_default = { λ frames. (frames.prefix ≡ Spelled) × (frames.rest ≡ default_text) };
+    ghost is_default = { λ frames. (frames.layout ≡ bare Spelled) × (frames.rest ≡ default_text) };
 
     fn default() -> Frames {
         Frames::new(Prefix::Spelled)
@@ -65,13 +66,21 @@ impl Default for Frames {
 }
 
 impl Frames {
-    /// Makes frames to which nothing was fed, with lengths that are written as `prefix`.
+    /// Makes frames to which nothing was fed, whose headers are their lengths, written as `prefix`.
     pub fn new(prefix: Prefix) -> Frames
-        ensures prefix { result.prefix ≡ prefix }
+        ensures layout { result.layout ≡ bare prefix }
+        ensures empty { result.rest ≡ default_text }
+    {
+        Frames::with_layout(Layout::bare(prefix))
+    }
+
+    /// Makes frames to which nothing was fed, with headers that are laid out so.
+    pub fn with_layout(layout: Layout) -> Frames
+        ensures layout { result.layout ≡ layout }
         ensures empty { result.rest ≡ default_text }
     {
         Frames {
-            prefix,
+            layout,
             rest: IoBufs::default(),
         }
     }
@@ -87,7 +96,7 @@ impl Frames {
     pub fn feed(&mut self, alloc: Global, piece: IoBuf) -> Result<(), Refused<IoBuf>>
         ensures done { OnOk result (self.new.rest ≡ text_append self.old.rest piece) }
         ensures bytes { OnOk result (self.new.rest.bytes ≡ self.old.rest.bytes ++ piece.bytes) }
-        ensures prefix { self.new.prefix ≡ self.old.prefix }
+        ensures layout { self.new.layout ≡ self.old.layout }
         ensures unchanged { OnErr result (self.new ≡ self.old) }
         ensures handed_back { IfErr result (λ refused. refused.value ≡ piece) }
         ensures too_long { 2 ^ 64 ≤ length self.old.rest.bytes + length piece.bytes
@@ -104,20 +113,44 @@ impl Frames {
     /// `Error::InvalidLength` if no further bytes can make it whole, or with `Error::Memory`, which a static body
     /// doesn't need. Unless a frame is taken, the rest is unchanged.
     pub fn next(&mut self, alloc: Global, range: &RangeCfg) -> Result<Option<IoBuf>, Error>
-        ensures next { TakesFirst self.old.prefix range.now self.old.rest.bytes result self.new.rest.bytes }
-        ensures left { MatchTaken result (λ body. (self.new.prefix ≡ self.old.prefix)
-            × IsCutFrom self.old.prefix self.old.rest self.new.rest body) (self.new ≡ self.old) }
-        ensures static_text { HasStaticBody self.old.prefix self.old.rest
+        ensures next { TakesFirst self.old.layout range.now self.old.rest.bytes result self.new.rest.bytes }
+        ensures left { MatchTaken result (λ body. (self.new.layout ≡ self.old.layout)
+            × IsCutFrom self.old.layout self.old.rest self.new.rest body) (self.new ≡ self.old) }
+        ensures static_text { HasStaticBody self.old.layout self.old.rest
             → IfErr result (λ error. error ≢ Error.Memory) }
     {
-        let Some(found) = self.prefix.length_in(&self.rest)? else {
+        let Some(found) = self.layout.length_in(&self.rest)? else {
             return Ok(None);
         };
-        let Some(_) = frame_size(found, self.rest.len(), range)? else {
+        let Some(sizes) = sizes_of(self.layout, found, self.rest.len(), range)? else {
             return Ok(None);
         };
-        match self.rest.take_owned_after(alloc, found.len, found.value) {
+        match self.rest.take_owned_after(alloc, sizes.header, sizes.body) {
             Ok(body) => Ok(Some(body)),
+            Err(_) => Err(Error::Memory),
+        }
+    }
+
+    /// Takes the first frame with its header, as `next` takes its body, and returns how many bytes the header has. Its
+    /// chunks aren't copied. Fails with `Error::Memory` also for a frame of several chunks.
+    pub fn next_whole(
+        &mut self,
+        alloc: Global,
+        range: &RangeCfg,
+    ) -> Result<Option<(usize, IoBufs)>, Error>
+        ensures next { TakesWhole (λ text. text.bytes) self.old.layout range.now self.old.rest.bytes result
+            self.new.rest.bytes }
+        ensures left { MatchTaken result (λ whole. (self.new.layout ≡ self.old.layout)
+            × IsSplitFrom self.old.rest self.new.rest whole.1) (self.new ≡ self.old) }
+    {
+        let Some(length) = self.layout.length_in(&self.rest)? else {
+            return Ok(None);
+        };
+        let Some(parts) = sizes_of(self.layout, length, self.rest.len(), range)? else {
+            return Ok(None);
+        };
+        match self.rest.split_to(alloc, parts.header + parts.body) {
+            Ok(frame) => Ok(Some((parts.header, frame))),
             Err(_) => Err(Error::Memory),
         }
     }
@@ -125,7 +158,7 @@ impl Frames {
     fn into_rest(self) -> IoBufs
         ensures { result ≡ self.rest }
     {
-        let Frames { prefix: _, rest } = self;
+        let Frames { layout: _, rest } = self;
         rest
     }
 
@@ -136,14 +169,14 @@ impl Frames {
         range: &RangeCfg,
         found: &mut Vec<IoBuf>,
     ) -> Result<Option<End>, BufError>
-        ensures prefix { self.new.prefix ≡ self.old.prefix }
+        ensures layout { self.new.layout ≡ self.old.layout }
         ensures moved { IfOk result (λ end. IfNone end
-            (AreMoved self.old.prefix range.now (bodies found.old.items) self.old.rest.bytes
+            (AreMoved self.old.layout range.now (bodies found.old.items) self.old.rest.bytes
             (bodies found.new.items) self.new.rest.bytes)) }
         ensures shorter { IfOk result (λ end. IfNone end (length self.new.rest.bytes < length self.old.rest.bytes)) }
-        ensures ends { IfOk result (λ end. IfSome end (LacksFrame self.old.prefix range.now self.old.rest.bytes)) }
+        ensures ends { IfOk result (λ end. IfSome end (LacksFrame self.old.layout range.now self.old.rest.bytes)) }
         ensures spelled { IfOk result (λ end. IfSome end (λ end. end ≡ End.Bad Error.InvalidVarint
-            → self.old.prefix ≡ Prefix.Spelled)) }
+            → self.old.layout.prefix ≡ Prefix.Spelled)) }
         ensures same { IfOk result (λ end. IfSome end (λ _. (self.new ≡ self.old)
             × (found.new.items ≡ found.old.items))) }
         ensures memory { IsOkUnless result BufError.Memory }
@@ -166,11 +199,12 @@ impl Frames {
         range: &RangeCfg,
         found: &mut Vec<IoBuf>,
     ) -> Result<End, BufError>
-        ensures prefix { self.new.prefix ≡ self.old.prefix }
-        ensures moved { OnOk result (AreMoved self.old.prefix range.now (bodies found.old.items) self.old.rest.bytes
+        ensures layout { self.new.layout ≡ self.old.layout }
+        ensures moved { OnOk result (AreMoved self.old.layout range.now (bodies found.old.items) self.old.rest.bytes
             (bodies found.new.items) self.new.rest.bytes) }
-        ensures ends { IfOk result (LacksFrame self.old.prefix range.now self.new.rest.bytes) }
-        ensures spelled { IfOk result (λ end. end ≡ End.Bad Error.InvalidVarint → self.old.prefix ≡ Prefix.Spelled) }
+        ensures ends { IfOk result (LacksFrame self.old.layout range.now self.new.rest.bytes) }
+        ensures spelled { IfOk result (λ end. end ≡ End.Bad Error.InvalidVarint
+            → self.old.layout.prefix ≡ Prefix.Spelled) }
         ensures memory { IsOkUnless result BufError.Memory }
     {
         loop {
@@ -189,13 +223,13 @@ impl Frames {
         stop: End,
         piece: IoBuf,
     ) -> Result<End, BufError>
-        ensures prefix { self.new.prefix ≡ self.old.prefix }
+        ensures layout { self.new.layout ≡ self.old.layout }
         ensures framed { IfOk result (λ end. (text : List ℕ)
-            → IsFramed self.old.prefix range.now text (bodies found.old.items) stop self.old.rest.bytes
-            → IsFramed self.old.prefix range.now (text ++ piece.bytes)
+            → HasBodies self.old.layout range.now text (bodies found.old.items) stop self.old.rest.bytes
+            → HasBodies self.old.layout range.now (text ++ piece.bytes)
             (bodies found.new.items) end self.new.rest.bytes) }
-        ensures spelled { (stop ≡ End.Bad Error.InvalidVarint → self.old.prefix ≡ Prefix.Spelled)
-            → IfOk result (λ end. end ≡ End.Bad Error.InvalidVarint → self.old.prefix ≡ Prefix.Spelled) }
+        ensures spelled { (stop ≡ End.Bad Error.InvalidVarint → self.old.layout.prefix ≡ Prefix.Spelled)
+            → IfOk result (λ end. end ≡ End.Bad Error.InvalidVarint → self.old.layout.prefix ≡ Prefix.Spelled) }
         ensures memory { length self.old.rest.bytes + length piece.bytes < 2 ^ 64 → IsOkUnless result BufError.Memory }
         ensures causes { IfErr result (λ cause. (cause ≡ BufError.Memory) ⊎ (cause ≡ BufError.TooLong)) }
     {
@@ -209,7 +243,7 @@ impl Frames {
     /// Takes all frames with varint lengths of bytes that come in chunks, each as soon as it is whole. Fails with
     /// `BufError::TooLong` only if the bytes are more than `usize::MAX`. An error drops the chunks.
     pub fn run(alloc: Global, pieces: Vec<IoBuf>, range: &RangeCfg) -> Result<Run, BufError>
-        ensures framed { IfOk result (λ run. IsFramed Spelled range.now (joined_bytes pieces.items)
+        ensures framed { IfOk result (λ run. HasBodies (bare Spelled) range.now (joined_bytes pieces.items)
             (bodies run.frames.items) run.stop run.rest.bytes) }
         ensures memory { length (joined_bytes pieces.items) < 2 ^ 64 → IsOkUnless result BufError.Memory }
         ensures nothing { length pieces.items ≡ 0 → IsOk result }
@@ -225,14 +259,31 @@ impl Frames {
         pieces: Vec<IoBuf>,
         range: &RangeCfg,
     ) -> Result<Run, BufError>
-        ensures framed { IfOk result (λ run. IsFramed prefix range.now (joined_bytes pieces.items)
+        ensures framed { IfOk result (λ run. HasBodies (bare prefix) range.now (joined_bytes pieces.items)
             (bodies run.frames.items) run.stop run.rest.bytes) }
         ensures spelled { IfOk result (λ run. run.stop ≡ End.Bad Error.InvalidVarint → prefix ≡ Prefix.Spelled) }
         ensures memory { length (joined_bytes pieces.items) < 2 ^ 64 → IsOkUnless result BufError.Memory }
         ensures nothing { length pieces.items ≡ 0 → IsOk result }
         ensures causes { IfErr result (λ cause. (cause ≡ BufError.Memory) ⊎ (cause ≡ BufError.TooLong)) }
     {
-        let mut frames = Frames::new(prefix);
+        Frames::run_with_layout(alloc, Layout::bare(prefix), pieces, range)
+    }
+
+    /// Acts as `run` on frames whose headers are laid out so.
+    pub fn run_with_layout(
+        alloc: Global,
+        layout: Layout,
+        pieces: Vec<IoBuf>,
+        range: &RangeCfg,
+    ) -> Result<Run, BufError>
+        ensures framed { IfOk result (λ run. HasBodies layout range.now (joined_bytes pieces.items)
+            (bodies run.frames.items) run.stop run.rest.bytes) }
+        ensures spelled { IfOk result (λ run. run.stop ≡ End.Bad Error.InvalidVarint → layout.prefix ≡ Prefix.Spelled) }
+        ensures memory { length (joined_bytes pieces.items) < 2 ^ 64 → IsOkUnless result BufError.Memory }
+        ensures nothing { length pieces.items ≡ 0 → IsOk result }
+        ensures causes { IfErr result (λ cause. (cause ≡ BufError.Memory) ⊎ (cause ≡ BufError.TooLong)) }
+    {
+        let mut frames = Frames::with_layout(layout);
         let mut found = Vec::new(alloc);
         let mut stop = End::Open;
         for piece in pieces {

@@ -1,9 +1,12 @@
 //! Whole frames from reads of any size.
-ghost use Rattle.std.specs.Prelude.{◌<◌, IfOk};
-ghost use Rattle.iobufs_frames.specs.Streams.{BeginsReading, Fills, TakesFrame, TakesHeld};
+ghost use Rattle.std.specs.Prelude.{◌≡◌, ◌<◌, ◌^◌, IfOk, length};
+ghost use Rattle.iobufs_frames.specs.Frames.{has_bytes, is_any, is_body, is_whole};
+ghost use Rattle.iobufs_frames.specs.Prefixes.{bare};
+ghost use Rattle.iobufs_frames.specs.Receiving.{shares_block};
+ghost use Rattle.iobufs_frames.specs.Streams.{BeginsReading, Fills, ReadsMore, TakesFrame, TakesHeld, TakesWholeFrame};
 ghost use Rattle.iobufs_frames.specs.declared.lengths.Prefix.TheVariants.{Spelled};
 
-use crate::{FrameError, Prefix, Received};
+use crate::{FrameError, Layout, Prefix, Received};
 use iobufs_core::buf::IoBuf;
 use iobufs_core::codec::{Error, RangeCfg};
 use std::alloc::{AllocError, Global};
@@ -23,32 +26,60 @@ pub struct FrameReader<R> {
 impl<R: Drop> FrameReader<R> {
     /// Makes a reader of frames with varint lengths, and allocates space for one read. Fails with `AllocError`.
     pub fn new(alloc: Global, from: R, range: RangeCfg) -> Result<FrameReader<R>, AllocError>
-        ensures { IfOk result (BeginsReading from Spelled range) }
+        ensures { IfOk result (BeginsReading from (bare Spelled) range) }
     {
         FrameReader::with_prefix(alloc, from, Prefix::Spelled, range)
     }
 
-    /// Makes a reader of frames whose lengths are written as `prefix`. Fails with `AllocError`.
+    /// Makes a reader of frames whose headers are their lengths, written as `prefix`. Fails with `AllocError`.
     pub fn with_prefix(
         alloc: Global,
         from: R,
         prefix: Prefix,
         range: RangeCfg,
     ) -> Result<FrameReader<R>, AllocError>
-        ensures { IfOk result (BeginsReading from prefix range) }
+        ensures { IfOk result (BeginsReading from (bare prefix) range) }
     {
-        let mut held = Received::new(alloc, prefix);
+        FrameReader::with_layout(alloc, from, Layout::bare(prefix), range)
+    }
+
+    /// Makes a reader of frames whose headers are laid out so. Fails with `AllocError`.
+    pub fn with_layout(
+        alloc: Global,
+        from: R,
+        layout: Layout,
+        range: RangeCfg,
+    ) -> Result<FrameReader<R>, AllocError>
+        ensures { IfOk result (BeginsReading from layout range) }
+    {
+        let mut held = Received::with_layout(alloc, layout);
         held.make_space()?;
         Ok(FrameReader { from, range, held })
+    }
+
+    /// Lays the headers out so from the next frame on.
+    pub fn set_layout(&mut self, layout: Layout)
+        ensures { self.new ≡ record self.old { held = record self.old.held { layout = layout } } }
+    {
+        self.held.set_layout(layout);
     }
 
     /// Takes the next frame if it is held whole; `None` if it isn't. It reads nothing, and fails as `Received::next`
     /// does.
     #[inline(always)]
     pub fn try_next(&mut self) -> Result<Option<IoBuf>, Error>
-        ensures { TakesHeld self.old result self.new }
+        ensures { TakesHeld is_body has_bytes shares_block self.old result self.new }
     {
         self.held.next(&self.range)
+    }
+
+    /// Takes the next frame with its header, as `try_next` takes its body, and returns how long the header is.
+    #[inline(always)]
+    pub fn try_next_whole(&mut self) -> Result<Option<(usize, IoBuf)>, Error>
+        ensures { TakesHeld (is_whole self.old.held.layout (λ view. view.bytes)) is_any (λ whole. shares_block whole.1)
+            self.old result self.new }
+    {
+        self.held.next_whole(&self.range)
     }
 }
 
@@ -68,6 +99,25 @@ impl<R: Read + Drop> FrameReader<R> {
         Err(io::Error::from(ErrorKind::TimedOut))
     }
 
+    // Reads once what a frame needs. Returns whether bytes came: none at the end of the input, if none are held.
+    fn read_more(&mut self) -> Result<bool, FrameError>
+        ensures more { ReadsMore R.remaining self.old result self.new }
+        ensures bound { length self.old.held.bytes < 2 ^ 63 }
+    {
+        let len = self.held.len();
+        if let Err(error) = self.held.make_space() {
+            return Err(FrameError::Io(io::Error::from(error)));
+        }
+        if !self.fill()? {
+            return Ok(true);
+        }
+        if len == 0 {
+            Ok(false)
+        } else {
+            Err(FrameError::Cut)
+        }
+    }
+
     /// Takes the next frame; `None` at the end of the input. It starts no read while a whole frame is held. After an
     /// error no byte is lost: all that was read is held, and `next` may be called again.
     pub fn next(&mut self) -> Result<Option<IoBuf>, FrameError>
@@ -77,16 +127,22 @@ impl<R: Read + Drop> FrameReader<R> {
             if let Some(body) = self.held.next(&self.range)? {
                 return Ok(Some(body));
             }
-            let len = self.held.len();
-            if let Err(error) = self.held.make_space() {
-                return Err(FrameError::Io(io::Error::from(error)));
+            if !self.read_more()? {
+                return Ok(None);
             }
-            if self.fill()? {
-                return if len == 0 {
-                    Ok(None)
-                } else {
-                    Err(FrameError::Cut)
-                };
+        }
+    }
+
+    /// Takes the next frame with its header, as `next` takes its body, and returns how long the header is.
+    pub fn next_whole(&mut self) -> Result<Option<(usize, IoBuf)>, FrameError>
+        ensures { TakesWholeFrame R.remaining self.old result self.new }
+    {
+        loop {
+            if let Some(whole) = self.held.next_whole(&self.range)? {
+                return Ok(Some(whole));
+            }
+            if !self.read_more()? {
+                return Ok(None);
             }
         }
     }

@@ -14,7 +14,7 @@ use iobufs_core::codec;
 use std::io::IoSlice;
 use std::marker::Model;
 
-/// The bytes of a frame that are not sent: the end of its length, and of its body.
+/// The bytes of a frame that are not sent: the end of its header, and of its body.
 #[derive(Drop)]
 pub struct Unsent {
     head: Head,
@@ -45,7 +45,7 @@ fn drop_front(body: &mut IoBufs, n: usize)
 }
 
 impl Unsent {
-    // A length and a body.
+    // A header and a body.
     pub(crate) fn new(head: Head, body: IoBufs) -> Unsent
         requires { length head.filled + length body.bytes < 2 ^ 64 }
         ensures { result ≡ record { head = head.filled; body = body; bytes = head.filled ++ body.bytes } }
@@ -60,7 +60,7 @@ impl Unsent {
         self.body.is_single()
     }
 
-    // The bytes of the length, and the first chunk of the body.
+    // The bytes of the header, and the first chunk of the body.
     pub(crate) fn first_two(&self) -> (&[u8], &[u8])
         ensures { IsFront (result.0.now ++ result.1.now) self.now.bytes }
     {

@@ -6,12 +6,13 @@ ghost use Rattle.std.specs.Io.Slices.{io_slices_bytes};
 ghost use Rattle.std.specs.IoError.{error_kind};
 ghost use Rattle.std.specs.declared.io.ErrorKind.TheVariants.{Interrupted};
 ghost use Rattle.iobufs_core.specs.declared.codec.base.BufError.TheVariants.{Memory};
+ghost use Rattle.iobufs_frames.specs.Prefixes.{bare};
 ghost use Rattle.iobufs_frames.specs.Streams.{BeginsWriting, PutsFrame, SendsRest, unsent_bytes, unsent_count, unsent_frames};
 ghost use Rattle.iobufs_frames.specs.Unsent.{ArePassed, IsFront, frames_bytes};
 ghost use Rattle.iobufs_frames.specs.declared.lengths.Prefix.TheVariants.{Spelled};
 
 use crate::unsent::Unsent;
-use crate::{Head, Prefix};
+use crate::{Head, Layout, Prefix};
 use bytes::Buf;
 use iobufs::bufs::{BATCH, IoBufs, write_chunks_again};
 use iobufs_core::codec::{BufError, RangeCfg, Refused};
@@ -25,8 +26,8 @@ use std::io::{self, ErrorKind, IoSlice, Write};
 pub struct FrameWriter<W> {
     /// The writer: `&writer.to` and `&mut writer.to` are the `get_ref` and `get_mut` of std's writers.
     pub to: W,
-    /// How the lengths are written.
-    pub prefix: Prefix,
+    /// How the headers are laid out. A change applies to the next `put`.
+    pub layout: Layout,
     /// The lengths that a body may have. A change applies to the next `put`.
     pub range: RangeCfg,
     /// The unsent rest of the first frame that isn't sent, of `rest.len()` bytes: none if all is sent.
@@ -40,19 +41,26 @@ pub struct FrameWriter<W> {
 impl<W: Drop> FrameWriter<W> {
     /// Makes a writer of frames with varint lengths. It allocates nothing.
     pub fn new(alloc: Global, to: W, range: RangeCfg) -> FrameWriter<W>
-        ensures { BeginsWriting to Spelled range result }
+        ensures { BeginsWriting to (bare Spelled) range result }
     {
         FrameWriter::with_prefix(alloc, to, Prefix::Spelled, range)
     }
 
-    /// Makes a writer of frames whose lengths are written as `prefix`. It allocates nothing.
+    /// Makes a writer of frames whose headers are their lengths, written as `prefix`. It allocates nothing.
     pub fn with_prefix(alloc: Global, to: W, prefix: Prefix, range: RangeCfg) -> FrameWriter<W>
-        ensures { BeginsWriting to prefix range result }
+        ensures { BeginsWriting to (bare prefix) range result }
+    {
+        FrameWriter::with_layout(alloc, to, Layout::bare(prefix), range)
+    }
+
+    /// Makes a writer of frames whose headers are laid out so. It allocates nothing.
+    pub fn with_layout(alloc: Global, to: W, layout: Layout, range: RangeCfg) -> FrameWriter<W>
+        ensures { BeginsWriting to layout range result }
     {
         let rest = Unsent::new(Head::new(), IoBufs::default());
         FrameWriter {
             to,
-            prefix,
+            layout,
             range,
             rest,
             more: VecDeque::new(alloc),
@@ -61,12 +69,30 @@ impl<W: Drop> FrameWriter<W> {
     }
 
     /// Puts a frame of this body after those that aren't sent; nothing is sent yet. The body's chunks aren't copied.
-    /// Fails with `BufError::TooLong` if its length is outside the range or can't be written so (see `Prefix::fits`),
-    /// or both are longer than `usize::MAX`; with `BufError::Memory`, unless all is sent: then nothing is allocated.
+    /// Fails with `BufError::TooLong` if the number of its bytes is outside the range, its length can't be written so
+    /// (see `Prefix::fits`), header and body are longer than `usize::MAX`, or headers have bytes around their lengths;
+    /// with `BufError::Memory`, unless all is sent: then nothing is allocated.
     pub fn put(&mut self, body: IoBufs) -> Result<(), Refused<IoBufs>>
-        ensures { PutsFrame self.old body result self.new }
+        ensures { PutsFrame [] [] self.old body result self.new }
     {
-        let Some(head) = self.prefix.head_within(body.len(), &self.range) else {
+        self.put_with(&[], &[], body)
+    }
+
+    /// Acts as `put`, with a header that has these bytes before its length, and these after it. Fails with
+    /// `BufError::TooLong` also if the layout has another number of them, or more than 22.
+    #[inline(always)]
+    pub fn put_with(
+        &mut self,
+        before: &[u8],
+        after: &[u8],
+        body: IoBufs,
+    ) -> Result<(), Refused<IoBufs>>
+        ensures { PutsFrame before.now after.now self.old body result self.new }
+    {
+        let Some(head) = self
+            .layout
+            .header_within(before, after, body.len(), &self.range)
+        else {
             return Err(Refused {
                 cause: BufError::TooLong,
                 value: body,

@@ -5,6 +5,9 @@
 mod arc;
 #[path = "../layer/base.rs"]
 mod base;
+#[allow(unsafe_code)]
+#[path = "spare/block.rs"]
+mod block;
 #[path = "kit/bytes.rs"]
 pub mod bytes;
 #[path = "../layer/deque.rs"]

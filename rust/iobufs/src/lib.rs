@@ -21,6 +21,7 @@ mod error;
 mod io;
 #[allow(dead_code, missing_docs, clippy::new_without_default)]
 mod kit;
+mod layout;
 #[allow(unsafe_code)]
 mod lent;
 mod part;
@@ -38,6 +39,7 @@ mod view;
 #[cfg(feature = "commonware-codec")]
 pub use commonware::EncodeExt;
 pub use error::{AllocError, Error, TryGetError};
+pub use layout::{Layout, Whole};
 pub use part::IoBufMut;
 pub use parts::{Builder, IoBufsMut};
 pub use streams::{FrameCodec, FrameError, FrameReader, FrameWriter};

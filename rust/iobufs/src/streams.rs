@@ -3,9 +3,9 @@
 use crate::error::{fault, out_of_memory, shared};
 use crate::io::Honest;
 use crate::kit::{Global, bytes as kit};
-use crate::proved::iobufs_core::codec::{BufError, RangeCfg};
+use crate::proved::iobufs_core::codec::{self, BufError, RangeCfg};
 use crate::proved::iobufs_frames as inner;
-use crate::{Error, IoBuf, IoBufs, Prefix};
+use crate::{Error, IoBuf, IoBufs, Layout, Prefix, Whole};
 use bytes::BytesMut;
 use std::io::{self, ErrorKind, Read, Write};
 use std::ops::RangeBounds;
@@ -97,22 +97,23 @@ impl From<FrameError> for io::Error {
 /// ```
 #[derive(Clone, Copy, Debug, PartialEq, Eq)]
 pub struct FrameCodec {
-    prefix: inner::Prefix,
+    layout: inner::Layout,
     range: RangeCfg,
 }
 
 impl FrameCodec {
-    /// Makes a codec of frames with lengths in `range` that are written as `prefix`.
+    /// Makes a codec of frames with bodies of lengths in `range`, and headers that are laid out so: as a [`Prefix`], or a
+    /// [`Layout`].
     ///
     /// ```
     /// use iobufs::{FrameCodec, Prefix};
     ///
-    /// const CODEC_LIMIT: usize = 1024;
-    /// let codec = FrameCodec::new(Prefix::Varint, 1..=CODEC_LIMIT); // no empty frame
+    /// const LONGEST: usize = 1024;
+    /// let codec = FrameCodec::new(Prefix::Varint, 1..=LONGEST); // no empty frame
     /// assert!(codec.decode(&mut b"\0"[..].into()).is_err());
     /// ```
-    pub fn new(prefix: Prefix, range: impl RangeBounds<usize>) -> Self {
-        FrameCodec { prefix: prefix.inner(), range: RangeCfg::new(range) }
+    pub fn new(layout: impl Into<Layout>, range: impl RangeBounds<usize>) -> Self {
+        FrameCodec { layout: layout.into().inner(), range: RangeCfg::new(range) }
     }
 
     /// Takes the first body, which shares the storage of `src`; `None` if its frame isn't whole yet. Unless a frame is
@@ -133,11 +134,39 @@ impl FrameCodec {
     /// # Errors
     /// Returns [`Error::InvalidVarint`] or [`Error::InvalidLength`] if no further bytes can make the frame whole.
     pub fn decode(&self, src: &mut BytesMut) -> Result<Option<IoBuf>, Error> {
-        let mut held = inner::Received::new(Global, self.prefix);
+        Ok(self.take(src, |held, range| held.next(range))?.map(IoBuf))
+    }
+
+    /// Takes the first frame with its header, as [`decode`](Self::decode) takes its body.
+    ///
+    /// ```
+    /// use iobufs::{FrameCodec, Layout, Prefix};
+    ///
+    /// let codec = FrameCodec::new(Layout::new(Prefix::U16Be).before(1), ..=1024);
+    /// let mut src = bytes::BytesMut::from("Q\0\x02ok");
+    /// let whole = codec.decode_whole(&mut src)?.unwrap();
+    /// assert_eq!(whole.header(), b"Q\0\x02");
+    /// assert_eq!(whole.into_body(), "ok");
+    /// # Ok::<(), iobufs::Error>(())
+    /// ```
+    ///
+    /// # Errors
+    /// Returns the errors of `decode`.
+    pub fn decode_whole(&self, src: &mut BytesMut) -> Result<Option<Whole<IoBuf>>, Error> {
+        Ok(self.take(src, |held, range| held.next_whole(range))?.map(Whole::of))
+    }
+
+    /// Takes from the bytes of `src`, which is moved in and out.
+    fn take<T>(
+        &self,
+        src: &mut BytesMut,
+        next: impl FnOnce(&mut inner::Received, &RangeCfg) -> Result<T, codec::Error>,
+    ) -> Result<T, Error> {
+        let mut held = inner::Received::with_layout(Global, self.layout);
         *held.block_mut() = kit::BytesMut::of(mem::take(src));
-        let body = held.next(&self.range);
+        let taken = next(&mut held, &self.range);
         *src = mem::replace(held.block_mut(), kit::BytesMut::new(Global)).into_inner();
-        Ok(body.map_err(fault)?.map(IoBuf))
+        taken.map_err(fault)
     }
 
     /// Appends the frame of a body, which is copied.
@@ -155,10 +184,31 @@ impl FrameCodec {
     /// ```
     ///
     /// # Errors
-    /// Returns [`Error::InvalidLength`] if the length is outside the range, or can't be written as the prefix. Then
-    /// `dst` is unchanged.
+    /// Returns [`Error::InvalidLength`] if the length is outside the range, or can't be written so, or headers have bytes
+    /// around their lengths. Then `dst` is unchanged.
     pub fn encode(&self, body: &IoBufs, dst: &mut BytesMut) -> Result<(), Error> {
-        self.begin(body.len(), dst)?;
+        self.begin(&[], &[], body.len(), dst)?;
+        body.for_each_chunk(|chunk| dst.extend_from_slice(chunk));
+        Ok(())
+    }
+
+    /// Appends a frame as [`encode`](Self::encode) does, with these bytes before its length and after it.
+    ///
+    /// ```
+    /// use iobufs::{FrameCodec, Layout, Prefix};
+    ///
+    /// let codec = FrameCodec::new(Layout::new(Prefix::U16Be).before(1), ..=1024);
+    /// let mut dst = bytes::BytesMut::new();
+    /// codec.encode_with(b"Q", &[], &"ok".into(), &mut dst)?;
+    /// assert_eq!(&dst[..], b"Q\0\x02ok");
+    /// # Ok::<(), iobufs::Error>(())
+    /// ```
+    ///
+    /// # Errors
+    /// Returns [`Error::InvalidLength`] if the length is outside the range, or can't be written so, or the layout has
+    /// another number of bytes before or after the length, or more than 22. Then `dst` is unchanged.
+    pub fn encode_with(&self, before: &[u8], after: &[u8], body: &IoBufs, dst: &mut BytesMut) -> Result<(), Error> {
+        self.begin(before, after, body.len(), dst)?;
         body.for_each_chunk(|chunk| dst.extend_from_slice(chunk));
         Ok(())
     }
@@ -176,14 +226,15 @@ impl FrameCodec {
     /// # Errors
     /// Returns the errors of `encode`.
     pub fn encode_slice(&self, body: &[u8], dst: &mut BytesMut) -> Result<(), Error> {
-        self.begin(body.len(), dst)?;
+        self.begin(&[], &[], body.len(), dst)?;
         dst.extend_from_slice(body);
         Ok(())
     }
 
-    /// Appends the length of a body, and reserves space for the body.
-    fn begin(&self, len: usize, dst: &mut BytesMut) -> Result<(), Error> {
-        let head = self.prefix.head_within(len, &self.range).ok_or(Error::InvalidLength(len))?;
+    /// Appends the header of a body, and reserves space for the body.
+    #[inline(always)]
+    fn begin(&self, before: &[u8], after: &[u8], len: usize, dst: &mut BytesMut) -> Result<(), Error> {
+        let head = self.layout.header_within(before, after, len, &self.range).ok_or(Error::InvalidLength(len))?;
         dst.reserve(head.len() + len);
         dst.extend_from_slice(head.as_slice());
         Ok(())
@@ -191,8 +242,8 @@ impl FrameCodec {
 }
 
 /// Takes frames from a reader: lengths, each followed by a body. A read fills the space of one block, which its bodies
-/// share: they aren't copied. A body keeps the whole block: up to 64 KiB, or twice a longer frame that came before it.
-/// Copy a small body that you keep, by [`IoBuf::copy_from_slice`].
+/// share: they aren't copied. A body keeps its own frame or 64 KiB, whichever is more. Copy a small body that you keep,
+/// by [`IoBuf::copy_from_slice`].
 ///
 /// ```
 /// use iobufs::{FrameReader, FrameWriter};
@@ -220,7 +271,8 @@ impl<R> FrameReader<R> {
         Self::with_prefix(from, Prefix::Varint, range)
     }
 
-    /// Makes a reader of frames with lengths in `range` that are written as `prefix`.
+    /// Makes a reader of frames with bodies of lengths in `range`, and headers that are laid out so: as a [`Prefix`], or a
+    /// [`Layout`].
     ///
     /// ```
     /// use iobufs::{FrameReader, Prefix};
@@ -229,8 +281,24 @@ impl<R> FrameReader<R> {
     /// assert_eq!(from.next()?.unwrap(), "ok");
     /// # Ok::<(), iobufs::FrameError>(())
     /// ```
-    pub fn with_prefix(from: R, prefix: Prefix, range: impl RangeBounds<usize>) -> Self {
-        FrameReader(shared(inner::FrameReader::with_prefix(Global, from, prefix.inner(), RangeCfg::new(range))))
+    pub fn with_prefix(from: R, layout: impl Into<Layout>, range: impl RangeBounds<usize>) -> Self {
+        let (layout, range) = (layout.into().inner(), RangeCfg::new(range));
+        FrameReader(shared(inner::FrameReader::with_layout(Global, from, layout, range)))
+    }
+
+    /// Lays the headers out so from the next frame on.
+    ///
+    /// ```
+    /// use iobufs::{FrameReader, Prefix};
+    ///
+    /// let mut from = FrameReader::new(&b"\x02ok\0\x02ok"[..], ..=1024);
+    /// assert_eq!(from.next()?.unwrap(), "ok");
+    /// from.set_layout(Prefix::U16Be);
+    /// assert_eq!(from.next()?.unwrap(), "ok");
+    /// # Ok::<(), iobufs::FrameError>(())
+    /// ```
+    pub fn set_layout(&mut self, layout: impl Into<Layout>) {
+        self.0.set_layout(layout.into().inner());
     }
 
     /// Takes the next body if its whole frame was read, without a read; otherwise returns `None`.
@@ -248,6 +316,21 @@ impl<R> FrameReader<R> {
     pub fn try_next(&mut self) -> Result<Option<IoBuf>, Error> {
         let body = self.0.try_next().map_err(fault)?;
         Ok(body.map(IoBuf))
+    }
+
+    /// Takes the next frame with its header if it was read whole, without a read.
+    ///
+    /// ```
+    /// let mut from = iobufs::FrameReader::new(&b"\x02ok"[..], ..=1024);
+    /// assert!(from.try_next_whole()?.is_none()); // nothing was read
+    /// # Ok::<(), iobufs::Error>(())
+    /// ```
+    ///
+    /// # Errors
+    /// Returns the errors of [`try_next`](Self::try_next).
+    pub fn try_next_whole(&mut self) -> Result<Option<Whole<IoBuf>>, Error> {
+        let whole = self.0.try_next_whole().map_err(fault)?;
+        Ok(whole.map(Whole::of))
     }
 
     /// Returns the reader.
@@ -332,6 +415,20 @@ impl<R: Read> FrameReader<R> {
     pub fn next(&mut self) -> Result<Option<IoBuf>, FrameError> {
         Ok(self.0.next()?.map(IoBuf))
     }
+
+    /// Takes the next frame with its header, as [`next`](Self::next) takes its body.
+    ///
+    /// ```
+    /// let mut from = iobufs::FrameReader::new(&b"\x02ok"[..], ..=1024);
+    /// assert_eq!(from.next_whole()?.unwrap().header(), [2]);
+    /// # Ok::<(), iobufs::FrameError>(())
+    /// ```
+    ///
+    /// # Errors
+    /// Returns the errors of `next`.
+    pub fn next_whole(&mut self) -> Result<Option<Whole<IoBuf>>, FrameError> {
+        Ok(self.0.next_whole()?.map(Whole::of))
+    }
 }
 
 impl<R: fmt::Debug> fmt::Debug for FrameReader<R> {
@@ -368,7 +465,8 @@ impl<W> FrameWriter<W> {
         Self::with_prefix(to, Prefix::Varint, range)
     }
 
-    /// Makes a writer of frames with lengths in `range` that are written as `prefix`.
+    /// Makes a writer of frames with bodies of lengths in `range`, and headers that are laid out so: as a [`Prefix`], or a
+    /// [`Layout`].
     ///
     /// ```
     /// use iobufs::{FrameWriter, Prefix};
@@ -379,9 +477,26 @@ impl<W> FrameWriter<W> {
     /// assert_eq!(to.into_inner(), b"\x02\0\0\0ok");
     /// # Ok::<(), Box<dyn std::error::Error>>(())
     /// ```
-    pub fn with_prefix(to: W, prefix: Prefix, range: impl RangeBounds<usize>) -> Self {
+    pub fn with_prefix(to: W, layout: impl Into<Layout>, range: impl RangeBounds<usize>) -> Self {
         let to = Honest { to, took: false };
-        FrameWriter(inner::FrameWriter::with_prefix(Global, to, prefix.inner(), RangeCfg::new(range)))
+        FrameWriter(inner::FrameWriter::with_layout(Global, to, layout.into().inner(), RangeCfg::new(range)))
+    }
+
+    /// Lays the headers out so from the next `put` on.
+    ///
+    /// ```
+    /// use iobufs::{FrameWriter, Prefix};
+    ///
+    /// let mut to = FrameWriter::new(Vec::new(), ..=1024);
+    /// to.put("ok")?;
+    /// to.set_layout(Prefix::U16Be);
+    /// to.put("ok")?;
+    /// to.send()?;
+    /// assert_eq!(to.get_ref(), b"\x02ok\0\x02ok");
+    /// # Ok::<(), Box<dyn std::error::Error>>(())
+    /// ```
+    pub fn set_layout(&mut self, layout: impl Into<Layout>) {
+        self.0.layout = layout.into().inner();
     }
 
     /// Puts a frame of this body after those that aren't sent yet; nothing is written. It allocates space for the list
@@ -396,10 +511,31 @@ impl<W> FrameWriter<W> {
     /// ```
     ///
     /// # Errors
-    /// Returns [`Error::InvalidLength`] if the length is outside the range, or can't be written as the prefix. Then
-    /// nothing is put.
+    /// Returns [`Error::InvalidLength`] if the length is outside the range, or can't be written so, or headers have bytes
+    /// around their lengths. Then nothing is put.
     pub fn put(&mut self, body: impl Into<IoBufs>) -> Result<(), Error> {
-        self.0.put(body.into().0).map_err(|refused| match refused.cause {
+        self.put_with(&[], &[], body)
+    }
+
+    /// Puts a frame as [`put`](Self::put) does, with these bytes before its length and after it.
+    ///
+    /// ```
+    /// use iobufs::{FrameWriter, Layout, Prefix};
+    ///
+    /// let layout = Layout::new(Prefix::U16Be).before(1);
+    /// let mut to = FrameWriter::with_prefix(Vec::new(), layout, ..=1024);
+    /// to.put_with(b"Q", &[], "ok")?;
+    /// to.send()?;
+    /// assert_eq!(to.get_ref(), b"Q\0\x02ok");
+    /// # Ok::<(), Box<dyn std::error::Error>>(())
+    /// ```
+    ///
+    /// # Errors
+    /// Returns [`Error::InvalidLength`] if the length is outside the range, or can't be written so, or the layout has
+    /// another number of bytes before or after the length, or more than 22. Then nothing is put.
+    #[inline]
+    pub fn put_with(&mut self, before: &[u8], after: &[u8], body: impl Into<IoBufs>) -> Result<(), Error> {
+        self.0.put_with(before, after, body.into().0).map_err(|refused| match refused.cause {
             BufError::TooLong => Error::InvalidLength(refused.value.len()),
             _ => out_of_memory(None),
         })

@@ -6,7 +6,7 @@ use crate::io::Honest;
 use crate::kit::{Clone as _, Global};
 use crate::proved::iobufs_core::codec as core;
 use crate::proved::{iobufs as inner, iobufs_frames};
-use crate::{Error, IoBuf, IoBufMut};
+use crate::{Error, IoBuf, IoBufMut, Layout, Whole};
 use bytes::{Bytes, BytesMut};
 use std::io::{self, IoSlice, Write};
 use std::iter::FusedIterator;
@@ -690,13 +690,29 @@ impl Prefix {
 pub struct Frames(iobufs_frames::Frames);
 
 impl Frames {
-    /// Makes frames to which nothing was fed, with lengths that are written as `prefix`.
+    /// Makes frames to which nothing was fed, with headers that are laid out so: as a [`Prefix`], or a [`Layout`].
     ///
     /// ```
     /// assert!(iobufs::Frames::new(iobufs::Prefix::U32Be).is_empty());
     /// ```
-    pub fn new(prefix: Prefix) -> Self {
-        Frames(iobufs_frames::Frames::new(prefix.inner()))
+    pub fn new(layout: impl Into<Layout>) -> Self {
+        Frames(iobufs_frames::Frames::with_layout(layout.into().inner()))
+    }
+
+    /// Lays the headers out so from the next frame on.
+    ///
+    /// ```
+    /// use iobufs::{Frames, Prefix};
+    ///
+    /// let mut frames = Frames::default();
+    /// frames.feed(b"\x02ok\0\x02ok".into());
+    /// assert_eq!(frames.next(..=1024)?.unwrap(), "ok");
+    /// frames.set_layout(Prefix::U16Be);
+    /// assert_eq!(frames.next(..=1024)?.unwrap(), "ok");
+    /// # Ok::<(), iobufs::Error>(())
+    /// ```
+    pub fn set_layout(&mut self, layout: impl Into<Layout>) {
+        self.0.layout = layout.into().inner();
     }
 
     /// Adds bytes at the end, which aren't copied.
@@ -737,6 +753,24 @@ impl Frames {
     pub fn next(&mut self, range: impl RangeBounds<usize>) -> Result<Option<IoBuf>, Error> {
         let body = self.0.next(Global, &core::RangeCfg::new(range)).map_err(fault)?;
         Ok(body.map(IoBuf))
+    }
+
+    /// Takes the first frame with its header, as [`next`](Self::next) takes its body: its chunks aren't copied.
+    ///
+    /// ```
+    /// let mut frames = iobufs::Frames::default();
+    /// frames.feed(b"\x02ok".into());
+    /// let whole = frames.next_whole(..=1024)?.unwrap();
+    /// assert_eq!(whole.header_len(), 1);
+    /// assert_eq!(whole.into_body(), "ok");
+    /// # Ok::<(), iobufs::Error>(())
+    /// ```
+    ///
+    /// # Errors
+    /// Returns the errors of `next`.
+    pub fn next_whole(&mut self, range: impl RangeBounds<usize>) -> Result<Option<Whole<IoBufs>>, Error> {
+        let whole = self.0.next_whole(Global, &core::RangeCfg::new(range)).map_err(fault)?;
+        Ok(whole.map(|(header, frame)| Whole { header, frame: IoBufs(frame) }))
     }
 
     /// Returns how many bytes were fed and not taken.

@@ -120,6 +120,54 @@ fn memory_of_readers() {
     }
 }
 
+/// What a block has besides its bytes: its record, and what the C library rounds a large allocation up by.
+const RECORD: usize = 4096 + 128;
+
+/// A number below `n`, drawn by xorshift.
+fn drawn(state: &mut u64, n: usize) -> usize {
+    *state ^= *state << 13;
+    *state ^= *state >> 7;
+    *state ^= *state << 17;
+    (*state % n as u64) as usize
+}
+
+/// Gives at most `1` bytes a read.
+struct Few<'a>(&'a [u8], usize);
+
+impl Read for Few<'_> {
+    fn read(&mut self, dst: &mut [u8]) -> io::Result<usize> {
+        let n = dst.len().min(self.1);
+        self.0.read(&mut dst[..n])
+    }
+}
+
+/// Of frames of drawn sizes, large and small, each body is kept alone: it keeps at most its own frame or a block.
+#[test]
+fn memory_of_one_body() {
+    let mut state = 0x9e37_79b9_7f4a_7c15;
+    for round in 0..40 {
+        let mut to = FrameWriter::new(Vec::new(), ..);
+        let sizes: Vec<usize> = (0..2 + drawn(&mut state, 5))
+            .map(|_| {
+                let most = [20, 300, 70_000, 3_000_000][drawn(&mut state, 4)];
+                drawn(&mut state, most)
+            })
+            .collect();
+        sizes.iter().for_each(|len| to.put(vec![7; *len]).unwrap());
+        to.send().unwrap();
+        let (wire, most) = (to.into_inner(), [1000, 60_000, usize::MAX][round % 3]);
+        for (kept, len) in sizes.iter().enumerate() {
+            let before = HELD.get();
+            let mut from = FrameReader::new(Few(&wire, most), ..);
+            let body = (0..=kept).map(|_| from.next().unwrap().unwrap()).last().unwrap();
+            drop(from);
+            let held = (HELD.get() - before) as usize;
+            assert!(held <= BLOCK.max(len + 4) + RECORD, "{held} bytes for {len}: {kept} of {sizes:?}");
+            assert_eq!(body.len(), *len);
+        }
+    }
+}
+
 // Once the list of frames has space, a frame is put and sent without an allocation, and so is read what a block holds.
 #[test]
 fn allocations_of_frames() {

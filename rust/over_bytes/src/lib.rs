@@ -8,6 +8,8 @@ extern crate self as kit;
 mod arc;
 #[path = "../../iobufs/layer/base.rs"]
 mod base;
+#[path = "../../iobufs/src/spare/block.rs"]
+mod block;
 #[path = "../../iobufs/src/kit/bytes.rs"]
 pub mod bytes;
 #[path = "../../kit/tests/bytes.rs"]

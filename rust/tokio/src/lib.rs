@@ -2,7 +2,7 @@
 #![forbid(unsafe_code)]
 #![warn(missing_docs)]
 use bytes::{Bytes, BytesMut};
-use iobufs::{FrameError, IoBuf, IoBufs, Prefix};
+use iobufs::{FrameError, IoBuf, IoBufs, Layout, Whole};
 use std::io;
 use std::ops::RangeBounds;
 use std::pin::Pin;
@@ -16,7 +16,8 @@ use tokio_util::codec::{Decoder, Encoder};
 pub struct FrameCodec(iobufs::FrameCodec);
 
 impl FrameCodec {
-    /// Makes a codec of frames with lengths in `range` that are written as `prefix`.
+    /// Makes a codec of frames with bodies of lengths in `range`, and headers that are laid out so: as a [`Prefix`], or a
+    /// [`Layout`].
     ///
     /// ```
     /// use iobufs_tokio::FrameCodec;
@@ -26,8 +27,15 @@ impl FrameCodec {
     /// let bodies = FramedRead::new(&b"\x05hello"[..], codec); // a `Stream` of them
     /// # let _ = bodies;
     /// ```
-    pub fn new(prefix: Prefix, range: impl RangeBounds<usize>) -> Self {
-        FrameCodec(iobufs::FrameCodec::new(prefix, range))
+    ///
+    /// [`Prefix`]: iobufs::Prefix
+    pub fn new(layout: impl Into<Layout>, range: impl RangeBounds<usize>) -> Self {
+        FrameCodec(iobufs::FrameCodec::new(layout, range))
+    }
+
+    /// Returns a codec of such frames with their headers.
+    pub fn whole(self) -> WholeCodec {
+        WholeCodec(self.0)
     }
 }
 
@@ -71,6 +79,52 @@ macro_rules! encoders {
 }
 
 encoders! { IoBuf Bytes &[u8] }
+
+/// A codec of frames with their headers: a frame that is decoded shares the block that it was read into. One is encoded
+/// of the bytes before its length, those after it, and its body.
+///
+/// ```
+/// use bytes::BytesMut;
+/// use iobufs::{IoBufs, Layout, Prefix};
+/// use iobufs_tokio::FrameCodec;
+/// use tokio_util::codec::{Decoder, Encoder};
+///
+/// let mut mqtt = FrameCodec::new(Layout::new(Prefix::Varint).before(1), ..=268_435_455).whole();
+/// let mut bytes = BytesMut::new();
+/// mqtt.encode((&[0x30][..], &[][..], IoBufs::from("hello")), &mut bytes)?;
+/// assert_eq!(&bytes[..], b"\x30\x05hello");
+/// assert_eq!(mqtt.decode(&mut bytes)?.unwrap().header(), b"\x30\x05");
+/// # Ok::<(), iobufs::FrameError>(())
+/// ```
+#[derive(Clone, Copy, Debug, PartialEq, Eq)]
+pub struct WholeCodec(iobufs::FrameCodec);
+
+impl Decoder for WholeCodec {
+    type Item = Whole<IoBuf>;
+    type Error = FrameError;
+
+    fn decode(&mut self, src: &mut BytesMut) -> Result<Option<Whole<IoBuf>>, FrameError> {
+        Ok(self.0.decode_whole(src)?)
+    }
+
+    /// Fails with `FrameError::Cut` if the input ends inside a frame.
+    fn decode_eof(&mut self, src: &mut BytesMut) -> Result<Option<Whole<IoBuf>>, FrameError> {
+        match self.0.decode_whole(src)? {
+            None if !src.is_empty() => Err(FrameError::Cut),
+            whole => Ok(whole),
+        }
+    }
+}
+
+impl Encoder<(&[u8], &[u8], IoBufs)> for WholeCodec {
+    type Error = FrameError;
+
+    /// Fails with `Error::InvalidLength` if the frame can't be sent; then `dst` is unchanged.
+    fn encode(&mut self, frame: (&[u8], &[u8], IoBufs), dst: &mut BytesMut) -> Result<(), FrameError> {
+        let (before, after, body) = frame;
+        Ok(self.0.encode_with(before, after, &body, dst)?)
+    }
+}
 
 /// The bytes of an [`IoBufs`] as a reader, which never waits.
 ///

@@ -2,6 +2,7 @@
 //! error.
 #![forbid(unsafe_code)]
 use super::base::{self, AllocError, AllocFailed, Global};
+use super::block::show_again;
 use super::vec::Vec;
 use bytes::Buf as _;
 use std::io;
@@ -153,13 +154,15 @@ impl base::Clone for Bytes {
 pub struct BytesMut {
     block: bytes::BytesMut,
     len: usize,
+    /// Whether each byte of the block's allocation was ever readable.
+    is_shown: bool,
 }
 
 impl BytesMut {
     #[inline]
     pub(crate) fn of(block: bytes::BytesMut) -> BytesMut {
         let len = block.len();
-        BytesMut { block, len }
+        BytesMut { block, len, is_shown: false }
     }
 
     #[inline]
@@ -176,7 +179,7 @@ impl BytesMut {
 
     /// Returns no bytes, and space for at least `n`.
     pub fn with_capacity(_: Global, n: usize) -> Result<BytesMut, AllocError> {
-        Ok(BytesMut { block: bytes::BytesMut::zeroed(n), len: 0 })
+        Ok(BytesMut { block: bytes::BytesMut::zeroed(n), len: 0, is_shown: true })
     }
 
     #[inline]
@@ -209,11 +212,11 @@ impl BytesMut {
     /// Makes space for `more` bytes.
     pub fn reserve(&mut self, more: usize) -> Result<(), AllocError> {
         if self.block.is_empty() {
-            self.block = bytes::BytesMut::zeroed(more);
+            (self.block, self.is_shown) = (bytes::BytesMut::zeroed(more), true);
         } else if self.capacity() - self.len < more {
             self.block.truncate(self.len);
             self.block.reserve(more);
-            self.show();
+            self.block.resize(self.block.capacity(), 0);
         }
         Ok(())
     }
@@ -221,15 +224,17 @@ impl BytesMut {
     /// Makes space for `more` bytes without allocating, if the front of the block has it and nothing else shares the
     /// block. Returns whether there is so much space.
     pub fn try_reclaim(&mut self, more: usize) -> bool {
+        if self.capacity() - self.len >= more {
+            return true;
+        }
         self.block.truncate(self.len);
         let is_done = self.block.try_reclaim(more);
-        self.show();
+        if self.is_shown {
+            show_again(&mut self.block);
+        } else {
+            self.block.resize(self.block.capacity(), 0);
+        }
         is_done
-    }
-
-    // Makes all of the block readable.
-    fn show(&mut self) {
-        self.block.resize(self.block.capacity(), 0);
     }
 
     /// Appends bytes that fit into the space.
@@ -312,7 +317,7 @@ impl BytesMut {
 
     /// Moves the bytes from `at` on, and the space, which are there, into another buffer.
     pub fn split_off(&mut self, at: usize) -> Result<BytesMut, AllocError> {
-        let back = BytesMut { block: self.block.split_off(at), len: self.len.saturating_sub(at) };
+        let back = BytesMut { block: self.block.split_off(at), len: self.len.saturating_sub(at), is_shown: false };
         self.len = self.len.min(at);
         Ok(back)
     }

@@ -1,26 +1,41 @@
-use Rattle.std.proofs.Common.{ap, arith, inl, inr, sym, ◌∙◌, ◌≤◌, ◌≡◌, ◌+◌, ◌++◌, length, refl}
+use Rattle.std.proofs.Common.{ap, arith, inl, inr, ◌∙◌, ◌≤◌, ◌≡◌, ◌+◌, ◌-◌, drop, length, refl}
 use Rattle.std.proofs.lemmas.Bool.{false≢true}
 use Rattle.iobufs_core.proofs.LengthFacts.{less}
 use Rattle.iobufs_core.specs.MarkedText.{MarkedText, taken_view}
 use Rattle.iobufs_core.specs.View.{static_mark}
-use Rattle.iobufs_frames.specs.Frames.{CanFollow, IsCutFrom, frame_written}
-use Rattle.iobufs_frames.specs.Prefixes.{prefix_written}
+use Rattle.iobufs_frames.specs.Frames.{IsCutFrom, IsAtFront, Parts}
+use Rattle.iobufs_frames.specs.Prefixes.{header_size}
+use Rattle.iobufs_frames.proofs.LayoutFacts.{seen_within}
 use Rattle.iobufs_frames.proofs.PrefixFacts.{one_length}
-use Rattle.iobufs_frames.proofs.PrefixLaws.{taken-with, wanted-with}
+use Rattle.iobufs_frames.proofs.LayoutFacts.{has_body}
+use Rattle.iobufs_frames.proofs.PrefixLaws.{taken-with}
 use Rattle.iobufs_frames.proofs.Frames.next.Goals as goal
+
+pub sizes_of-requires : goal.sizes_of-requires
+sizes_of-requires c =
+    let layout = c.args.self.now.layout in
+    let l = c.in-Some.found in
+    let seen = rw c.in-Some.is at c.in_ok-found.ensures.found in
+    omega (arith, seen_within layout c.args.self.now.rest.bytes l.value l.len seen, c.len.ensures.value)
 
 -- the body that was taken
 taken : (c : goal.In-Ok)
-    → (CanFollow c.args.self.now.prefix c.args.range.now c.in-Ok.body.bytes
-    × (c.args.self.now.rest.bytes ≡ frame_written c.args.self.now.prefix c.in-Ok.body.bytes ++ c.take_owned_after.new.self.bytes))
-    × IsCutFrom c.args.self.now.prefix c.args.self.now.rest c.take_owned_after.new.self c.in-Ok.body
+    → ((frame : Parts) × IsAtFront c.args.self.now.layout c.args.range.now c.args.self.now.rest.bytes
+    c.take_owned_after.new.self.bytes frame
+    × (frame.body ≡ c.in-Ok.body.bytes))
+    × IsCutFrom c.args.self.now.layout c.args.self.now.rest c.take_owned_after.new.self c.in-Ok.body
 taken c =
+    let layout = c.args.self.now.layout in
     let l = c.in-Some.found in
+    let s = c.in-Some-2.sizes in
     let (at, long, there) = rw c.in-Some.is at c.in_ok-found.ensures.found in
-    let (size, within) = rw c.in-Some-2.is at c.in_ok-frame_size.ensures.whole in
-    let fits : l.len + l.value ≤ length c.args.self.now.rest.bytes = omega (arith, size, within, c.len.ensures.value) in
-    taken-with c.args.self.now.prefix c.args.range.now c.args.self.now.rest c.take_owned_after.new.self l.value l.len c.in-Ok.body at
-    c.in_ok-frame_size.ensures.inside long fits c.in-Ok.ensures.ok c.in-Ok.ensures.rest
+    let header = rw c.in-Some-2.is at c.in_ok-sizes.ensures.header in
+    let body = rw c.in-Some-2.is at c.in_ok-sizes.ensures.body in
+    let within = rw c.in-Some-2.is at c.in_ok-sizes.ensures.whole in
+    let front : s.header ≡ header_size layout l.value = omega (arith, header, long) in
+    let fits : s.header + s.body ≤ length c.args.self.now.rest.bytes = omega (arith, within, c.len.ensures.value) in
+    taken-with layout c.args.range.now c.args.self.now.rest c.take_owned_after.new.self l.value s.header s.body c.in-Ok.body at
+    c.in_ok-sizes.ensures.inside front body fits c.in-Ok.ensures.ok c.in-Ok.ensures.rest
 
 pub returns-in-Ok-clause-next : goal.returns-in-Ok-clause-next
 returns-in-Ok-clause-next c = (taken c).0
@@ -30,13 +45,18 @@ returns-in-Ok-clause-left c = (refl, (taken c).1)
 
 pub returns-in-Err-clause-next : goal.returns-in-Err-clause-next
 returns-in-Err-clause-next c =
+    let layout = c.args.self.now.layout in
     let l = c.in-Some.found in
+    let s = c.in-Some-2.sizes in
     let (at, long, there) = rw c.in-Some.is at c.in_ok-found.ensures.found in
-    let (size, within) = rw c.in-Some-2.is at c.in_ok-frame_size.ensures.whole in
-    let fits : l.len + l.value ≤ length c.args.self.now.rest.bytes = omega (arith, size, within, c.len.ensures.value) in
-    elim (less 0 l.value) [
+    let header = rw c.in-Some-2.is at c.in_ok-sizes.ensures.header in
+    let body = rw c.in-Some-2.is at c.in_ok-sizes.ensures.body in
+    let within = rw c.in-Some-2.is at c.in_ok-sizes.ensures.whole in
+    let front : s.header ≡ header_size layout l.value = omega (arith, header, long) in
+    let fits : s.header + s.body ≤ length c.args.self.now.rest.bytes = omega (arith, within, c.len.ensures.value) in
+    elim (less 0 s.body) [
       | inl some ↦ (
-        wanted-with c.args.self.now.prefix c.args.range.now c.args.self.now.rest l.value l.len at c.in_ok-frame_size.ensures.inside long
+        has_body layout c.args.range.now c.args.self.now.rest.bytes l.value s.header s.body at c.in_ok-sizes.ensures.inside front body
             fits some,
         ap (λ (t : MarkedText). t.bytes) c.in-Err.ensures.unchanged,
       )
@@ -46,11 +66,14 @@ returns-in-Err-clause-next c =
 pub returns-in-Err-clause-static_text : goal.returns-in-Err-clause-static_text
 returns-in-Err-clause-static_text c (n, at, static) =
     let l = c.in-Some.found in
+    let s = c.in-Some-2.sizes in
     let text = c.args.self.now.rest in
-    let prefix = c.args.self.now.prefix in
+    let layout = c.args.self.now.layout in
     let (there, long, within) = rw c.in-Some.is at c.in_ok-found.ensures.found in
-    let same : n ≡ l.value = one_length prefix text.bytes n l.value at there in
-    let mark : (taken_view text l.len l.value).mark ≡ static_mark =
-    ap (λ k. (taken_view text k l.value).mark) (long ∙ ap (λ m. length (prefix_written prefix m)) (sym same))
-    ∙ ap (λ m. (taken_view text (length (prefix_written prefix n)) m).mark) (sym same) ∙ static in
+    let header = rw c.in-Some-2.is at c.in_ok-sizes.ensures.header in
+    let body = rw c.in-Some-2.is at c.in_ok-sizes.ensures.body in
+    let same : n ≡ l.value = one_length layout.prefix (drop layout.before text.bytes) n l.value at there in
+    let front : s.header ≡ header_size layout n = omega (arith, header, long, ap (header_size layout) same) in
+    let count : s.body ≡ n - layout.counts = omega (arith, body, same) in
+    let mark : (taken_view text s.header s.body).mark ≡ static_mark = (λ i. (taken_view text (front i) (count i)).mark) ∙ static in
     λ _. absurd (false≢true (c.in-Err.ensures.static_text mark tt))

@@ -1,5 +1,5 @@
 use Rattle.std.proofs.Common.{◌≡◌, ◌∙◌, List, ap, length, subst, sym, take, ℕ}
-use Rattle.iobufs_frames.specs.Prefixes.{IsSeenAt}
+use Rattle.iobufs_frames.specs.Prefixes.{IsSeenIn}
 use Rattle.iobufs_frames.specs.Receiving.{ReceivedBytes}
 use Rattle.iobufs_frames.proofs.block.Received.lend_space.Goals as goal
 
@@ -10,4 +10,4 @@ invariant_of-self c =
     ∙ ap (λ n. take n c.advance_mut.new.self.items) (c.len-len.ensures.value
     ∙ sym (ap (λ (v : ReceivedBytes). length v.bytes) c.self.view_is))
     ∙ c.advance_mut.ensures.front in
-    λ l is. subst (λ (w : List ℕ). IsSeenAt r.prefix w l.value l.len) (sym same) (c.self.invariant l is)
+    λ l is. subst (λ (w : List ℕ). IsSeenIn r.layout w l.value l.len) (sym same) (c.self.invariant l is)

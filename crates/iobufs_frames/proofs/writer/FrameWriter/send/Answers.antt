@@ -29,6 +29,6 @@ loop-self-preserved g c =
           (subst (λ (w : Writer). ArePassed (unsent_frames w) new.rest new.more.items) wrote gone.passed);
       settled = gone.settled;
       flushed = ap (λ (w : Writer). w.is_flushed) gone.same ∙ ap (λ (w : Writer). w.is_flushed) wrote ∙ inv.flushed;
-      prefix = ap (λ (w : Writer). w.prefix) gone.same ∙ ap (λ (w : Writer). w.prefix) wrote ∙ inv.prefix;
+      layout = ap (λ (w : Writer). w.layout) gone.same ∙ ap (λ (w : Writer). w.layout) wrote ∙ inv.layout;
       range = ap (λ (w : Writer). w.range) gone.same ∙ ap (λ (w : Writer). w.range) wrote ∙ inv.range;
     }

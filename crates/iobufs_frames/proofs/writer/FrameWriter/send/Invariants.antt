@@ -10,7 +10,7 @@ invariant-loop-self g l = record {
   passed : ArePassed (unsent_frames l.fn.self) l.self.rest l.self.more.items;
   settled : l.self.rest.bytes ≡ [] → l.self.more.items ≡ [];
   flushed : l.self.is_flushed ≡ false;
-  prefix : l.self.prefix ≡ l.fn.self.prefix;
+  layout : l.self.layout ≡ l.fn.self.layout;
   range : l.self.range ≡ l.fn.self.range;
 }
 
