@@ -494,6 +494,15 @@ impl BytesMut {
         }
     }
 
+    /// Returns the bytes, to be overwritten.
+    #[inline]
+    pub fn as_mut_slice(&mut self) -> &mut [u8] {
+        match &mut self.block {
+            Some(block) => &mut block.as_mut_slice()[..self.len],
+            None => &mut [],
+        }
+    }
+
     /// Makes space for `more` bytes. If it fails, the bytes and the space don't change.
     pub fn reserve(&mut self, more: usize) -> Result<(), AllocError> {
         if self.try_reclaim(more) {

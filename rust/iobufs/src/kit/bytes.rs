@@ -209,6 +209,12 @@ impl BytesMut {
         &self.block[..self.len]
     }
 
+    /// Returns the bytes, to be overwritten.
+    #[inline]
+    pub fn as_mut_slice(&mut self) -> &mut [u8] {
+        &mut self.block[..self.len]
+    }
+
     /// Makes space for `more` bytes.
     pub fn reserve(&mut self, more: usize) -> Result<(), AllocError> {
         if self.block.is_empty() {
