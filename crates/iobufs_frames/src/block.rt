@@ -71,6 +71,16 @@ fn widen(block: &mut BytesMut, whole: usize, size: usize) -> Result<(), AllocErr
     Ok(())
 }
 
+// The address of a block's bytes from an index on.
+#[inline(always)]
+fn address_from(block: &mut BytesMut, from: usize) -> *mut u8
+    requires { from ≤ length block.old.items }
+    ensures { block.new ≡ block.old }
+{
+    let (_, rest) = block.as_mut_slice().split_at_mut(from);
+    address_mut(rest)
+}
+
 impl Received {
     /// Makes an empty one, of frames whose headers are their lengths, written as `prefix`. It allocates nothing.
     pub fn new(alloc: Global, prefix: Prefix) -> Received
@@ -270,8 +280,7 @@ impl Received {
             return 0;
         }
         self.block.advance_mut(space);
-        let (_, rest) = self.block.as_mut_slice().split_at_mut(len);
-        *at = address_mut(rest);
+        *at = address_from(&mut self.block, len);
         self.block.truncate(len);
         space
     }

@@ -219,6 +219,7 @@ impl Prefix {
     }
 
     /// Encodes a length. It allocates nothing.
+    #[inline(always)]
     pub fn head(self, n: usize) -> Head
         requires { n < prefix_limit self }
         ensures { result.filled ≡ prefix_written self n }
@@ -238,6 +239,7 @@ impl Prefix {
     }
 
     // Encodes a length after what is there.
+    #[inline(always)]
     fn put_length(self, n: usize, head: &mut Head)
         requires { (n < prefix_limit self) × (10 ≤ head.old.spare) }
         ensures { IsPut head.old (prefix_written self n) head.new }

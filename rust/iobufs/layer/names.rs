@@ -10,7 +10,7 @@ pub mod prelude {
 /// The kit's std.
 pub mod std {
     pub use super::super::io;
-    pub use ::std::{fmt, mem, ops, ptr};
+    pub use ::std::{fmt, mem, ops};
 
     pub mod alloc {
         pub use super::super::super::base::{AllocError, AllocFailed, Global};

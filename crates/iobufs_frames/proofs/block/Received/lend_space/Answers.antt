@@ -7,6 +7,7 @@ pub invariant_of-self : goal.invariant_of-self
 invariant_of-self c =
     let r = c.self.inside in
     let same : c.truncate.new.self.items ≡ r.block.items = c.truncate.ensures.items
+    ∙ ap (λ block. take c.len-len.result block.items) c.address_from.ensures
     ∙ ap (λ n. take n c.advance_mut.new.self.items) (c.len-len.ensures.value
     ∙ sym (ap (λ (v : ReceivedBytes). length v.bytes) c.self.view_is))
     ∙ c.advance_mut.ensures.front in
