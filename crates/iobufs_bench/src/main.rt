@@ -4,6 +4,7 @@
 #![tactic(auto)]
 
 mod codec;
+mod everyday;
 mod frames;
 mod lists;
 mod run;

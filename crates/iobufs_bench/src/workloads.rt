@@ -1,6 +1,6 @@
 // The workloads by their names.
 use crate::run::{CHUNK, Run, RunError, copies, lists, native, pattern, texts};
-use crate::{codec, frames, lists, single, texts, turns};
+use crate::{codec, everyday, frames, lists, single, texts, turns};
 use bytes::Bytes;
 use iobufs_core::buf::IoBuf;
 
@@ -28,6 +28,24 @@ pub fn run_named(rt: &HostRuntime, name: &str) -> Result<Run, RunError> {
         "take_view_1k_1m" => single::take_1k(rt),
         "take_view_1k_whole" => single::take_whole(rt),
         "recover_put64_freeze" => single::recover(rt),
+        _ => run_everyday(rt, name),
+    }
+}
+
+// Everyday calls on small values.
+fn run_everyday(rt: &HostRuntime, name: &str) -> Result<Run, RunError> {
+    match name {
+        "numbers_read" => everyday::read_numbers(rt),
+        "numbers_put" => everyday::put_numbers(rt),
+        "new_put64_freeze" => everyday::new_freeze(rt),
+        "from_vec64" => everyday::from_vec(rt),
+        "slice_recover_freeze64" => everyday::slice_recover(rt),
+        "from_array2" => everyday::from_array(rt),
+        "header_body" => everyday::header_body(rt),
+        "frames1000_view" => everyday::frames_view(rt),
+        "equal_views40" => everyday::equal(rt),
+        "encode_entry64" => everyday::encode_entry(rt),
+        "decode_entry64" => everyday::decode_entry(rt),
         _ => run_wire(rt, name),
     }
 }
@@ -97,6 +115,7 @@ fn run_text(rt: &HostRuntime, n: u32, name: &str) -> Result<Run, RunError> {
         "drain" => turns::drain(rt, n, texts(rt.alloc(), copies(n), n)?),
         "bytewise" => texts::bytewise(rt, n),
         "hold" => texts::hold(rt, n),
+        "vectored" => everyday::vectored(rt, n),
         _ => Err(RunError::NoName),
     }
 }
