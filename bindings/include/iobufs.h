@@ -35,8 +35,8 @@
  * The comment of a call that returns a status ends with one line or two:
  *   Fails: the statuses other than IOBUFS_OK, each with its cause. A call that has IOBUFS_MEMORY there may allocate,
  *     and returns it if that fails; no other call allocates. "(reserved)": for a later version. The call doesn't
- *     allocate as it is, and its contract promises that only for no bytes, for those of `iobuf_from_static`, and for
- *     a split or a take of all bytes.
+ *     allocate as it is. Its contract promises that only for no bytes, for those of `iobuf_from_static`, for a split
+ *     or a take of all bytes, and for a builder in which no bytes were put.
  *   Keeps: what is unchanged after a failure.
  * The name in brackets is the original's; "own" if it has none.
  */
@@ -138,7 +138,7 @@ struct iobufs_iovec { const uint8_t *base; size_t len; };
 /* The bounds of a range. */
 enum iobufs_bound { IOBUFS_INCLUDED = 0, IOBUFS_EXCLUDED = 1, IOBUFS_UNBOUNDED = 2 };
 
-/* How the length before a frame is written: a varint, or a number of one, two, three, four or eight bytes, whose highest byte
+/* How a frame's length is written, which comes before its body: a varint, or a number of one, two, three, four or eight bytes, whose highest byte
  * is the first (BE) or the last (LE). */
 enum iobufs_prefix {
     IOBUFS_VARINT = 0,
@@ -381,7 +381,8 @@ IOBUFS_CHECKED iobufs_status iobufsmut_put_u64(struct iobufsmut_at *parts, uint6
 /* Appends a varint length. (usize::write)
  * Fails: IOBUFS_OUT_OF_RANGE if it doesn't fit. */
 IOBUFS_CHECKED iobufs_status iobufsmut_put_length(struct iobufsmut_at *parts, size_t n);
-/* Makes n bytes readable, the parts filled in order; those that were not are zero. (set_len)
+/* Makes n bytes readable, the parts filled in order; those that were not are zero. A part loses readable bytes that
+ * are above its share of the n. (set_len)
  * Fails: IOBUFS_OUT_OF_RANGE if n is above the capacity. */
 IOBUFS_CHECKED iobufs_status iobufsmut_set_len(struct iobufsmut_at *parts, size_t n);
 /* Drops the first n readable bytes; a drained part keeps its spare capacity. (Buf::advance)
@@ -551,8 +552,8 @@ IOBUFS_CHECKED iobufs_status iobufs_received_new(uint8_t prefix, struct iobufs_r
 /* How many bytes came and were not taken. (own) */
 size_t iobufs_received_len(const struct iobufs_received_at *received);
 /* Lends the space for a read: writes its address to `out`, and to `n` how many bytes it has, at least one. They are
- * zeros, or what the block held before. It allocates if there is no space, or if the block was made for one frame
- * above 64 KiB. (own)
+ * zeros, or what the block held before. If there is no space, it uses the block again if no body shares it, and else
+ * allocates. It also allocates after a frame above 64 KiB, which has a block of its own. (own)
  * Fails: IOBUFS_DECLINED if there is no receive block; IOBUFS_MEMORY if it allocates. */
 IOBUFS_CHECKED iobufs_status iobufs_frames_space(struct iobufs_received_at *received, uint8_t **out, size_t *n);
 /* Counts the first n bytes of the space as received, after they were written there; the space is what is after them.
@@ -560,11 +561,12 @@ IOBUFS_CHECKED iobufs_status iobufs_frames_space(struct iobufs_received_at *rece
  * Fails: IOBUFS_OUT_OF_RANGE if it has fewer.
  * Keeps: the block. */
 IOBUFS_CHECKED iobufs_status iobufs_frames_filled(struct iobufs_received_at *received, size_t n);
-/* Takes the first frame, whose length is from lo to hi, not copied: its body shares the block, and keeps all of it.
- * Writes the length that is outside to `wrong`, as iobufs_frames_next does. (own)
+/* Takes the first frame, whose length is from lo to hi. Its body shares the block, and keeps its own frame or 64 KiB,
+ * whichever is more. It is copied only out of a block above 64 KiB of another size than its frame: call this after each
+ * read, and a block gets the size of its frame. Writes the length that is outside to `wrong`, as iobufs_frames_next
+ * does. (own)
  * Fails: IOBUFS_END_OF_BUFFER if it is not whole yet; IOBUFS_INVALID_VARINT if its length is invalid;
- *   IOBUFS_INVALID_LENGTH if its length is outside; IOBUFS_MEMORY in the kit's build, where a body
- *   allocates a count.
+ *   IOBUFS_INVALID_LENGTH if its length is outside; IOBUFS_MEMORY, for the copy, and in the kit's build for a count.
  * Keeps: both. */
 IOBUFS_CHECKED iobufs_status iobufs_received_next(struct iobufs_received_at *received, size_t lo, size_t hi, struct iobuf_at *out,
     size_t *wrong);
