@@ -164,6 +164,8 @@ inputs! { IoBuf IoBuf IoBufMut IoBuf Bytes IoBuf BytesMut IoBuf IoBufs IoBufs Io
 /// A value that can be written. A type of a caller becomes one by [`fields!`](crate::fields),
 /// [`kinds!`](crate::kinds) or [`by_parts!`](crate::by_parts).
 ///
+/// Generic code names the trait [`Encode`] or [`Decode`] in each call: methods of the proved traits come before theirs.
+///
 /// ```
 /// fn size(value: &impl iobufs::codec::Written) -> usize {
 ///     iobufs::codec::Encode::encode_size(value)
@@ -445,7 +447,7 @@ impl From<Error> for values::Fault {
 pub trait ByParts: Sized {
     /// The value as which it is read.
     type Parts: Value;
-    /// The requirement of the value: `()`, or a range of lengths.
+    /// The requirement of the value, of any type: often `()`, a [`RangeCfg`], or that of the parts.
     type Cfg;
 
     /// Returns the requirement of the parts.
@@ -567,7 +569,7 @@ macro_rules! by_parts {
 }
 
 /// Makes a struct of up to six fields a value, field by field. A field's requirement is after its `=`: a range of
-/// lengths. A field without one requires `()`.
+/// lengths, or for a `Vec<u16>` such as `((..=8).into(), ())`. A field without one requires `()`.
 ///
 /// ```
 /// use iobufs::codec::{Decode, Encode};

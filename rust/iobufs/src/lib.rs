@@ -3,7 +3,7 @@
 //! - Bytes in one chunk: [`IoBuf`], and [`IoBufMut`] to write them.
 //! - Bytes in several chunks: [`IoBufs`], [`IoBufsMut`], and [`Builder`] to encode them.
 //! - Frames: [`Frames`] over chunks, [`FrameReader`] and [`FrameWriter`] over a socket or a file, [`FrameCodec`] over a
-//!   `BytesMut`; [`Prefix`] says how a length is written.
+//!   `BytesMut`; [`Prefix`] says how a length is written, [`Layout`] what else a header has.
 //! - A struct or an enum of one's own: [`codec`], by [`fields!`] and [`kinds!`].
 //!
 //! A name in brackets, as `Buf`, is that of the original's trait.

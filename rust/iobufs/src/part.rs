@@ -46,8 +46,8 @@ impl IoBufMut {
     /// ```
     ///
     /// # Panics
-    /// Panics if the alignment isn't a power of two, or the capacity, rounded up to it, passes `isize::MAX`. If the
-    /// storage can't be allocated, the process ends.
+    /// Panics if the alignment isn't a power of two, or the capacity, rounded up to it, passes `isize::MAX`, unless the
+    /// capacity is 0. If the storage can't be allocated, the process ends.
     #[track_caller]
     pub fn with_alignment(capacity: usize, alignment: NonZeroUsize) -> Self {
         let align = alignment.get();

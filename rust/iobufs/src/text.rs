@@ -605,7 +605,7 @@ impl<const N: usize> From<[IoBuf; N]> for IoBufs {
     }
 }
 
-/// How the length before a frame is written.
+/// How a frame's length is written, which comes before its body.
 ///
 /// ```
 /// use iobufs::{Frames, Prefix};

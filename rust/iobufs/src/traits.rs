@@ -1,5 +1,5 @@
-//! The traits of the crate `bytes`, and conversions from and to `Bytes` and `BytesMut`, which copy nothing that is
-//! shared.
+//! The traits of the crate `bytes`, and conversions from and to `Bytes` and `BytesMut`. Those to a view or a `Bytes` copy
+//! nothing; one to a buffer to write copies bytes that another handle shares.
 use crate::kit::bytes as kit;
 use crate::proved::iobufs_core as inner;
 use crate::{Builder, IoBuf, IoBufMut, IoBufs, IoBufsMut};
