@@ -241,9 +241,9 @@ impl FrameCodec {
     }
 }
 
-/// Takes frames from a reader: lengths, each followed by a body. A read fills the space of one block, which its bodies
-/// share: they aren't copied. A body keeps its own frame or 64 KiB, whichever is more. Copy a small body that you keep,
-/// by [`IoBuf::copy_from_slice`].
+/// Takes frames from a reader: lengths, or headers of a [`Layout`], each followed by a body. A read fills the space of one
+/// block, which its bodies share: they aren't copied. A body keeps its own frame or 64 KiB, whichever is more. Copy a
+/// small body that you keep, by [`IoBuf::copy_from_slice`].
 ///
 /// ```
 /// use iobufs::{FrameReader, FrameWriter};
@@ -440,7 +440,7 @@ impl<R: fmt::Debug> fmt::Debug for FrameReader<R> {
     }
 }
 
-/// Sends frames to a writer: lengths, each followed by a body, whose chunks aren't copied.
+/// Sends frames to a writer: lengths, or headers of a [`Layout`], each followed by a body, whose chunks aren't copied.
 ///
 /// ```
 /// let mut to = iobufs::FrameWriter::new(Vec::new(), ..=1024);
