@@ -1,5 +1,5 @@
-//! The C library `libiobufs`, from its proved sources: the calls of `bindings/include/iobufs.h`. `unsafe` stands in
-//! these where they use the memory that C names. To C a slice is two arguments, an address and a length, and the
+//! The C library `libiobufs`, from its proved sources: the calls of `bindings/include/iobufs.h`. They have
+//! `unsafe` code where they use the memory that C names. To C a slice is two arguments, an address and a length, and the
 //! allocator none: so rustc passes them, as the kit's compiler does, while registers are left. `bindings/c/calls.c`
 //! calls each.
 

@@ -27,8 +27,8 @@ pub enum Error {
     EndOfBuffer,
     /// The bytes are an invalid varint: of more than 64 bits, or not in the shortest form.
     InvalidVarint,
-    /// This length is outside the range, or a body of it can't be written with this header. Of a frame that is read, it is
-    /// the number in the header, with what a layout [`counts`](crate::Layout::counts).
+    /// This length is outside the range, or a body of it can't be written with this header. Of a frame that is read, it
+    /// is the number in the header, with what a layout [`counts`](crate::Layout::counts).
     InvalidLength(usize),
     /// A byte that is neither 0 nor 1.
     InvalidBool,
