@@ -7,8 +7,8 @@ use std::io::IoSlice;
 const TURNS: usize = 1000;
 
 pub fn all(add: &mut dyn FnMut(String, Box<dyn Fn() -> Run>)) {
-    let runs: [(&str, fn() -> Run); 12] = [
-        ("numbers_read", read_numbers),
+    let runs = [
+        ("numbers_read", read_numbers as fn() -> Run),
         ("numbers_put", put_numbers),
         ("new_put64_freeze", new_freeze),
         ("from_vec64", from_vec),
