@@ -1,6 +1,6 @@
 // Loaded before a benchmark's program: counts allocations, their bytes, the bytes that are still allocated at the end and
-// page faults between the first and the second of each pair of readings of the monotonic clock, and has callgrind count
-// instructions there alone.
+// page faults between the first and the second of each pair of readings of the monotonic clock. Built WITH_CALLGRIND it
+// has callgrind count instructions there, and takes no call of the allocator, so that the program's alone are counted.
 #define _GNU_SOURCE
 #include <malloc.h>
 #include <stdio.h>
@@ -9,15 +9,23 @@
 #include <sys/syscall.h>
 #include <time.h>
 #include <unistd.h>
-#ifdef WITH_CALLGRIND
-#include <valgrind/callgrind.h>
-#else
-#define CALLGRIND_ZERO_STATS
-#define CALLGRIND_TOGGLE_COLLECT
-#define CALLGRIND_DUMP_STATS
-#endif
 
 static int inside = 0;
+
+#ifdef WITH_CALLGRIND
+#include <valgrind/callgrind.h>
+
+static void begin(void) {
+    CALLGRIND_ZERO_STATS;
+    CALLGRIND_TOGGLE_COLLECT;
+}
+
+static int end(void) {
+    CALLGRIND_TOGGLE_COLLECT;
+    CALLGRIND_DUMP_STATS;
+    return 0;
+}
+#else
 static long allocations = 0, bytes = 0, kept = 0, faults = 0;
 extern void *__libc_malloc(size_t);
 extern void *__libc_calloc(size_t, size_t);
@@ -51,6 +59,19 @@ int posix_memalign(void **p, size_t a, size_t n) {
     return *p ? 0 : 12;
 }
 
+static void begin(void) {
+    allocations = bytes = kept = 0;
+    faults = page_faults();
+}
+
+static int end(void) {
+    faults = page_faults() - faults;
+    char line[128];
+    int n = snprintf(line, sizeof line, "COUNTED %ld %ld %ld %ld\n", allocations, bytes, kept, faults);
+    return write(2, line, n) == n ? 0 : -1;
+}
+#endif
+
 // The original's program reads the clock once before its first pair: COUNTER_SKIP=1 leaves that out.
 static int skipped(void) {
     static int left = -1;
@@ -64,18 +85,7 @@ int clock_gettime(clockid_t id, struct timespec *time) {
     int answer = syscall(SYS_clock_gettime, id, time);
     if (id != CLOCK_MONOTONIC || skipped()) return answer;
     inside = !inside;
-    if (inside) {
-        allocations = bytes = kept = 0;
-        faults = page_faults();
-        CALLGRIND_ZERO_STATS;
-        CALLGRIND_TOGGLE_COLLECT;
-        return answer;
-    }
-    CALLGRIND_TOGGLE_COLLECT;
-    CALLGRIND_DUMP_STATS;
-    faults = page_faults() - faults;
-    char line[128];
-    int n = snprintf(line, sizeof line, "COUNTED %ld %ld %ld %ld\n", allocations, bytes, kept, faults);
-    if (write(2, line, n) != n) return -1;
+    if (!inside) return end() == 0 ? answer : -1;
+    begin();
     return answer;
 }

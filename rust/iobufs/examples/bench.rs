@@ -1,16 +1,32 @@
 //! bench [--sums] [NAME..]
 //!
-//! The workloads of one buffer, of an `IoBufs` and of an `IoBufsMut`, with the names of those in `crates/iobufs_bench`.
+//! The workloads of one buffer, of an `IoBufs`, of an `IoBufsMut` and of the codec, and everyday calls, with the names of
+//! those in `crates/iobufs_bench`.
 //! Prints the nanoseconds an operation of each, or with `--sums` what one run of each saw, and its operations.
-use iobufs::{IoBuf, IoBufMut, IoBufs, IoBufsMut};
+use bytes::BufMut as _;
+use iobufs::codec::{Decode as _, Encode as _};
+use iobufs::{Builder, IoBuf, IoBufMut, IoBufs, IoBufsMut};
 use std::env;
 use std::hint::black_box;
 use std::time::Instant;
 
+#[path = "bench/everyday.rs"]
+mod everyday;
+
 const MIB: usize = 1 << 20;
 
 /// Nanoseconds, operations, sum.
-type Run = (u64, usize, u64);
+type Run = (u64, Count, u64);
+
+/// A number of operations.
+type Count = usize;
+
+/// A small value of the codec.
+struct Entry {
+    number: u32,
+    body: IoBuf,
+}
+iobufs::fields! { Entry { number: u32, body: IoBuf = ..=64 } }
 
 fn pattern(n: usize) -> Vec<u8> {
     (0..n).map(|i| (31 * i + 7) as u8).collect()
@@ -40,7 +56,7 @@ fn text(n: usize) -> IoBufs {
 }
 
 /// How many `IoBufs` of n chunks a run has.
-fn count(n: usize) -> usize {
+fn copies(n: usize) -> usize {
     (4096 / n).clamp(2, 512)
 }
 
@@ -165,7 +181,7 @@ fn recover() -> Run {
 }
 
 fn joined(n: usize, join: impl Fn(&mut IoBufs, IoBuf)) -> Run {
-    let lists: Vec<Vec<IoBuf>> = (0..count(n)).map(|_| views(n)).collect();
+    let lists: Vec<Vec<IoBuf>> = (0..copies(n)).map(|_| views(n)).collect();
     let mut texts = Vec::with_capacity(lists.len());
     let (ns, operations, _) = timed(n * lists.len(), || {
         for list in lists {
@@ -182,7 +198,7 @@ fn joined(n: usize, join: impl Fn(&mut IoBufs, IoBuf)) -> Run {
 
 /// Texts from whose front `step` takes `size` bytes as often as it can; and what is done with the rest.
 fn drained(n: usize, size: usize, step: impl Fn(&mut IoBufs) -> u64, rest: usize) -> Run {
-    let mut texts: Vec<IoBufs> = (0..count(n)).map(|_| text(n)).collect();
+    let mut texts: Vec<IoBufs> = (0..copies(n)).map(|_| text(n)).collect();
     let turns = 256 * n / size;
     timed(texts.len() * (turns + rest), || {
         let mut sum = 0;
@@ -212,7 +228,7 @@ fn text_len(n: usize) -> Run {
 }
 
 fn split_mid(n: usize) -> Run {
-    let mut texts: Vec<IoBufs> = (0..count(n)).map(|_| text(n)).collect();
+    let mut texts: Vec<IoBufs> = (0..copies(n)).map(|_| text(n)).collect();
     let mut fronts = Vec::with_capacity(texts.len());
     let (ns, operations, _) = timed(texts.len(), || {
         fronts.extend(texts.iter_mut().map(|text| text.split_to(128 * n + 1)));
@@ -223,7 +239,7 @@ fn split_mid(n: usize) -> Run {
 }
 
 fn text_bytewise(n: usize) -> Run {
-    let mut texts: Vec<IoBufs> = (0..(count(n) / 16).max(1)).map(|_| text(n)).collect();
+    let mut texts: Vec<IoBufs> = (0..(copies(n) / 16).max(1)).map(|_| text(n)).collect();
     timed(256 * n * texts.len(), || {
         let mut sum = 0;
         for text in &mut texts {
@@ -237,7 +253,7 @@ fn text_bytewise(n: usize) -> Run {
 }
 
 fn coalesced(n: usize) -> Run {
-    let texts: Vec<IoBufs> = (0..count(n)).map(|_| text(n)).collect();
+    let texts: Vec<IoBufs> = (0..copies(n)).map(|_| text(n)).collect();
     let mut views = Vec::with_capacity(texts.len());
     let (ns, operations, _) = timed(texts.len(), || {
         views.extend(texts.into_iter().map(IoBufs::coalesce));
@@ -248,7 +264,7 @@ fn coalesced(n: usize) -> Run {
 
 fn text_clone_drop(n: usize) -> Run {
     let text = text(n);
-    timed(count(n), || (0..count(n)).map(|_| mark(black_box(&text).clone().chunk())).sum())
+    timed(copies(n), || (0..copies(n)).map(|_| mark(black_box(&text).clone().chunk())).sum())
 }
 
 /// The offsets that are searched.
@@ -264,7 +280,7 @@ fn locate(n: usize) -> Run {
 
 /// Takes 1,000 bytes from the front, up to 200 times of each `IoBufs`.
 fn split_few(n: usize) -> Run {
-    let (copies, turns) = (count(n), (256 * n / 1000).min(200));
+    let (copies, turns) = (copies(n), (256 * n / 1000).min(200));
     let mut texts: Vec<IoBufs> = (0..copies).map(|_| text(n)).collect();
     timed(copies * turns, || {
         texts.iter_mut().map(|text| (0..turns).map(|_| mark(text.split_to(1000).chunk())).sum::<u64>()).sum()
@@ -273,13 +289,70 @@ fn split_few(n: usize) -> Run {
 
 fn walk(n: usize) -> Run {
     let text = text(n);
-    timed(n * count(n), || {
+    timed(n * copies(n), || {
         let mut sum = 0;
-        for _ in 0..count(n) {
+        for _ in 0..copies(n) {
             black_box(&text).for_each_chunk(|chunk| sum += mark(chunk));
         }
         sum
     })
+}
+
+fn encode_view() -> Run {
+    let view = native(64);
+    let _shared = view.clone();
+    let encode = |_| {
+        let text = black_box(&view).encode_iobufs();
+        text.chunk_count() as u64 + mark(text.chunk())
+    };
+    timed(1000, || (0..1000).map(encode).sum())
+}
+
+fn build_records() -> Run {
+    let view = native(64);
+    let _shared = view.clone();
+    let build = |_| {
+        let mut builder = Builder::new(64 * 6);
+        for i in 0..64 {
+            builder.put_u16(i);
+            builder.push(black_box(&view).clone());
+            builder.put_u32(7);
+        }
+        let text = builder.finish();
+        text.chunk_count() as u64 + mark(text.chunk())
+    };
+    timed(64 * 50, || (0..50).map(build).sum())
+}
+
+/// Frames of `len` bytes, each after its length, in chunks of `piece` bytes.
+fn frames(number: usize, len: usize, piece: usize) -> IoBufs {
+    let frame = native(len).encode_iobufs().coalesce();
+    let whole = IoBuf::from(frame.as_ref().repeat(number));
+    (0..whole.len()).step_by(piece).map(|at| whole.slice(at..whole.len().min(at + piece))).collect()
+}
+
+fn decode(text: &mut IoBufs) -> u64 {
+    let mut sum = 0;
+    while text.has_remaining() {
+        sum += mark(text.read_view(..=MIB).expect("a whole frame").as_ref());
+    }
+    sum
+}
+
+/// The length, and then the bytes.
+fn take_frames(text: &mut IoBufs) -> u64 {
+    let mut sum = 0;
+    while text.has_remaining() {
+        let len = text.read_length(..=MIB).expect("a length");
+        sum += mark(text.take_view(len).as_ref());
+    }
+    sum
+}
+
+fn decoded(number: usize, len: usize, piece: usize, read: fn(&mut IoBufs) -> u64) -> Run {
+    let source = frames(number, len, piece);
+    let mut texts: Vec<IoBufs> = (0..4).map(|_| source.clone()).collect();
+    timed(4 * number, || texts.iter_mut().map(read).sum())
 }
 
 fn parts_put(n: usize, len: usize) -> Run {
@@ -313,7 +386,7 @@ fn parts_coalesce(n: usize, len: usize) -> Run {
         part.put_slice(&pattern(len));
         part
     };
-    let rows: Vec<IoBufsMut> = (0..count(n)).map(|_| (0..n).map(|_| part()).collect()).collect();
+    let rows: Vec<IoBufsMut> = (0..copies(n)).map(|_| (0..n).map(|_| part()).collect()).collect();
     let mut parts = Vec::with_capacity(rows.len());
     let (ns, operations, _) = timed(rows.len(), || {
         parts.extend(rows.into_iter().map(IoBufsMut::coalesce));
@@ -339,8 +412,20 @@ fn workloads() -> Vec<Workload> {
     add("read_view_bytewise_1m".into(), Box::new(read_bytewise));
     add("read_view_64_1m".into(), Box::new(read64));
     add("recover_put64_freeze".into(), Box::new(recover));
+    add("encode_view64".into(), Box::new(encode_view));
+    add("build_records64".into(), Box::new(build_records));
+    for (name, number, len, piece) in [
+        ("decode64_one_chunk", 1024, 64, 1 << 30),
+        ("decode64_chunks1024", 1024, 64, 1024),
+        ("decode64_chunks48", 1024, 64, 48),
+        ("decode16k_chunks1024", 16, 16384, 1024),
+    ] {
+        add(name.into(), Box::new(move || decoded(number, len, piece, decode)));
+        add(format!("{name}_take"), Box::new(move || decoded(number, len, piece, take_frames)));
+    }
+    everyday::all(&mut add);
     add("text1_coalesce".into(), Box::new(|| coalesced(1)));
-    for n in [1, 2] {
+    for n in [1, 2, 8] {
         add(format!("text{n}_queue_split"), Box::new(move || queue(n, |text| mark(text.split_to(256).chunk()))));
         let advance = |text: &mut IoBufs| {
             text.advance(256);
