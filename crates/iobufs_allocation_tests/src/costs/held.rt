@@ -128,7 +128,7 @@ fn drain_chunks(rt: &(impl Print + Abort + AllocGlobal)) -> Result<(), Fail> {
         text.append(rt.alloc(), IoBuf::from(b"ab".as_slice()))?;
     }
     println!(rt; "chunks {}", 65536 * 64)?;
-    text.advance(131070);
+    assert!(rt; text.try_advance(131070), "chunks are missing");
     println!(rt; "advanced {}", 65536 * 64)?;
     println!(rt; "last_chunk {}", text.len())?;
     Ok(())
