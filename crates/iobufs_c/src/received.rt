@@ -179,7 +179,8 @@ fn next_of(received: &mut Option<Received>, range: &RangeCfg) -> Result<Option<I
 
 /// Takes the first frame, whose length is from `lo` to `hi`. Returns `Status::EndOfBuffer` if it is not whole yet,
 /// `Status::InvalidVarint` or `Status::InvalidLength` if no further bytes can make it whole, or `Status::Memory`; an
-/// invalid length is written to `wrong`. Unless a frame is taken, both handles are unchanged. The body isn't copied.
+/// invalid length is written to `wrong`. Unless a frame is taken, both handles are unchanged. The body is copied only
+/// from a block above 64 KiB that isn't its frame's alone.
 #[unsafe(no_mangle)]
 pub extern "C" fn iobufs_received_next(
     received: &mut ReceivedAt,
