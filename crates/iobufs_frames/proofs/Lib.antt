@@ -1,4 +1,5 @@
 pub mod BlockLaws
+mod Examples
 pub mod FrameFacts
 pub mod FrameLaws
 pub mod HeadLaws

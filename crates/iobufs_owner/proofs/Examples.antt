@@ -1,9 +1,13 @@
 -- Answers that are no step of the machine, by the definitions.
 use Rattle.std.specs.Prelude.{◌≡◌, true, false, [], ◌∷◌, None, Some, refl}
-use Rattle.std.proofs.Common.{inl, inr, subst, sym}
+use Rattle.std.proofs.Common.{arith, inl, inr, subst, sym}
 use Rattle.iobufs_owner.specs.Types.{View, Begin, Drop, Go, New, Put, TryIntoMut, Memory, Done, Declined, Made, Refused}
 use Rattle.iobufs_owner.specs.Places.{is_power_below}
 use Rattle.iobufs_owner.specs.World.{World, LiveHandle, Sharing, holders}
+use Rattle.iobufs_owner.specs.Causes.{IsBeside}
+use Rattle.iobufs_owner.specs.Promises.{Promises}
+use Rattle.iobufs_owner.specs.Reading.{reading}
+use Rattle.iobufs_owner.specs.State.{State}
 use Rattle.iobufs_owner.specs.Steps.{Steps, Begins, DropIs, RecoverIs, native_block}
 
 -- a view of four bytes, the only handle of a block of eight
@@ -56,3 +60,12 @@ over = record {
 ceiling_is_not_passed_again : (next : World) → Steps over (record { thread = 0; act = Go true }) (Made 2) next → ⊥
 unfolding holders
 ceiling_is_not_passed_again next step = absurd (let e = step.0 in cc)
+
+-- a step that is granted memory has no want of it beside its cause
+granted_memory_is_no_cause : IsBeside true Memory → ⊥
+granted_memory_is_no_cause beside =
+    elim beside [ inl denied ↦ absurd (let e = denied.1 in cc) | inr room ↦ absurd (let e = room in cc) ]
+
+-- no block has three holders under a ceiling of one
+third_holder_is_none : (s : State) → Promises s → s.ceiling ≡ 1 → holders (reading s) 0 ≡ 3 → ⊥
+third_holder_is_none s promises one three = absurd (omega (arith, promises.capped 0, one, three))

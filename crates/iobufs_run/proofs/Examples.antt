@@ -1,8 +1,10 @@
 -- Answers that are no step of a command, by the definitions.
-use Rattle.std.specs.Prelude.{ℕ, List, [], ◌∷◌}
+use Rattle.std.specs.Prelude.{◌≡◌, ℕ, List, [], ◌∷◌}
 use Rattle.std.proofs.Common.{inl, inr}
 use Rattle.iobufs_core.specs.View.{View as ViewValue}
+use Rattle.iobufs_run.specs.Choices.{SameOutcome}
 use Rattle.iobufs_run.specs.Run.{Step}
+use Rattle.iobufs_run.specs.declared.command.Reply.{Reply}
 use Rattle.iobufs_run.specs.declared.table.Slot.{Slot}
 use Rattle.iobufs_run.specs.declared.table.Slot.TheVariants.{Free, View}
 use Rattle.iobufs_run.specs.declared.command.Cmd.TheVariants.{Clear, Take, Drop}
@@ -25,3 +27,8 @@ view_is_not_cleared view new step = absurd (let e = step.0 in cc)
 -- a dropped buffer is gone
 dropped_is_gone : (view : ViewValue) → Step (View view ∷ []) (Drop 0) Done (View view ∷ []) → ⊥
 dropped_is_gone view step = absurd (let e = step.1.1 in cc)
+
+-- two outcomes of a `take` leave the same buffers
+takes_end_alike : (old new another : List Slot) (target n : ℕ) (reply other : Reply)
+    → SameOutcome old (Take target n) reply other new another → new ≡ another
+takes_end_alike old new another target n reply other same = same.1

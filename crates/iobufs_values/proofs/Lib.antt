@@ -1,3 +1,4 @@
 mod Behind
 mod DecodedBack
+mod Examples
 mod Turns

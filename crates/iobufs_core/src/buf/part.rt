@@ -1,5 +1,5 @@
 // A buffer of fixed capacity, to be written.
-ghost use Rattle.std.specs.Prelude.{◌≡◌, ◌+◌, ◌-◌, ◌<◌, ◌≤◌, ◌==◌, [], ◌∷◌, length, drop, replicate, vec_len, vec_capacity, false, IfOk, OnErr, OnOk, Err, ◌^◌, IsOk, IsOkUnless, IsTrue, IsFalse, MatchResult, nat_le, ◌↔◌, Some, codes, ◌++◌};
+ghost use Rattle.std.specs.Prelude.{◌≡◌, ◌+◌, ◌-◌, ◌<◌, ◌≤◌, ◌==◌, [], ◌∷◌, length, drop, replicate, vec_len, vec_capacity, false, IfOk, OnErr, OnOk, Err, ◌^◌, IsOk, IsOkUnless, IsTrue, IsFalse, MatchResult, nat_le, ◌↔◌, ◌⊎◌, ◌/◌, Some, codes, ◌++◌};
 ghost use Rattle.std.specs.Align.{IsLayout};
 ghost use Rattle.iobufs_core.specs.Part.{empty_part, is_bad_layout as bad_layout, part_capacity, part_copied, part_drained, part_overwritten, part_put, part_with_len, part_truncated};
 ghost use Rattle.std.specs.Borrow.{Lends, Array, sem, u8 as byte};
@@ -66,6 +66,13 @@ fn is_bad_layout(n: usize, align: usize) -> bool
     ensures layout { IsTrue result ↔ ((0 < n) × (IsLayout n align → ⊥)) }
 {
     n != 0 && Layout::from_size_align(n, align).is_err()
+}
+
+// Whether `n` bytes fit into a capacity, and fill half of their storage, or it has at most 4 KiB.
+fn suits(n: usize, capacity: usize, stored: usize) -> bool
+    ensures { IsTrue result ↔ ((n ≤ capacity) × ((stored / 2 ≤ n) ⊎ (stored / 2 ≤ 2 ^ 11))) }
+{
+    n <= capacity && stored / 2 <= n.max(1 << 11)
 }
 
 impl IoBufMut {
@@ -311,7 +318,7 @@ impl IoBufMut {
         ensures same { second.new ≡ second.old }
     {
         let len = first.len() + second.len() + third.len();
-        if len <= isize::MAX as usize && first.suits(len) {
+        if len <= isize::MAX as usize && suits(len, first.capacity(), first.storage.capacity()) {
             let mut whole = mem::replace(first, IoBufMut::default(alloc));
             whole.put_slice(second.as_ref());
             whole.put_slice(third.as_ref());
@@ -325,13 +332,6 @@ impl IoBufMut {
             whole.put_slice(third.as_ref());
         }
         Ok(whole)
-    }
-
-    // Whether `n` bytes fit, and fill half of the storage, or it has at most 4 KiB.
-    fn suits(&self, n: usize) -> bool
-        ensures { IsTrue result → n ≤ part_capacity self.now }
-    {
-        n <= self.capacity() && self.storage.capacity() / 2 <= n.max(1 << 11)
     }
 
     pub(super) fn from_shell(
