@@ -1,7 +1,7 @@
 // Buffers of several chunks. A clause sees the bytes, and where each chunk begins and how it is stored.
 ghost use Rattle.iobufs.specs.Inside.Pieces.{AreViews, of_pieces, pieces_bytes};
 ghost use Rattle.iobufs.specs.Located.{greatest_key, keys_upto};
-ghost use Rattle.iobufs.specs.Refusals.{IsRefusedAt};
+ghost use Rattle.iobufs.specs.Refusals.{Adds, IsRefusedAt};
 ghost use Rattle.iobufs.specs.Sending.{IsRestOf, IsSent};
 ghost use Rattle.iobufs.specs.Views.{text_views};
 ghost use Rattle.iobufs_core.specs.Chunks.{first_chunk};
@@ -307,13 +307,7 @@ impl IoBufs {
     /// `usize::MAX`, `BufError::Memory` if allocation fails.
     #[inline(always)]
     pub fn append(&mut self, alloc: Global, piece: IoBuf) -> Result<(), Refused<IoBuf>>
-        ensures done { OnOk result (self.new ≡ text_append self.old piece) }
-        ensures unchanged { OnErr result (self.new ≡ self.old) }
-        ensures handed_back { IfErr result (λ refused. refused.value ≡ piece) }
-        ensures too_long { 2 ^ 64 ≤ text_len self.old + length piece.bytes
-            → IsErrAnd result (λ refused. refused.cause ≡ BufError.TooLong) }
-        ensures memory { text_len self.old + length piece.bytes < 2 ^ 64
-            → IfErr result (λ refused. refused.cause ≡ BufError.Memory) }
+        ensures added { Adds (text_append self.old piece) self.old piece result self.new }
         ensures nothing { length piece.bytes ≡ 0 → IsOk result }
         ensures onto_nothing { text_len self.old ≡ 0 → IsOk result }
     {
@@ -331,13 +325,7 @@ impl IoBufs {
     // instructions.
     #[inline(never)]
     fn append_any(&mut self, alloc: Global, piece: IoBuf) -> Result<(), Refused<IoBuf>>
-        ensures done { OnOk result (self.new ≡ text_append self.old piece) }
-        ensures unchanged { OnErr result (self.new ≡ self.old) }
-        ensures handed_back { IfErr result (λ refused. refused.value ≡ piece) }
-        ensures too_long { 2 ^ 64 ≤ text_len self.old + length piece.bytes
-            → IsErrAnd result (λ refused. refused.cause ≡ BufError.TooLong) }
-        ensures memory { text_len self.old + length piece.bytes < 2 ^ 64
-            → IfErr result (λ refused. refused.cause ≡ BufError.Memory) }
+        ensures added { Adds (text_append self.old piece) self.old piece result self.new }
         ensures nothing { length piece.bytes ≡ 0 → IsOk result }
         ensures onto_nothing { text_len self.old ≡ 0 → IsOk result }
     {
@@ -368,13 +356,7 @@ impl IoBufs {
     /// Fails as `append`.
     #[inline(always)]
     pub fn prepend(&mut self, alloc: Global, piece: IoBuf) -> Result<(), Refused<IoBuf>>
-        ensures done { OnOk result (self.new ≡ text_prepend self.old piece) }
-        ensures unchanged { OnErr result (self.new ≡ self.old) }
-        ensures handed_back { IfErr result (λ refused. refused.value ≡ piece) }
-        ensures too_long { 2 ^ 64 ≤ text_len self.old + length piece.bytes
-            → IsErrAnd result (λ refused. refused.cause ≡ BufError.TooLong) }
-        ensures memory { text_len self.old + length piece.bytes < 2 ^ 64
-            → IfErr result (λ refused. refused.cause ≡ BufError.Memory) }
+        ensures added { Adds (text_prepend self.old piece) self.old piece result self.new }
         ensures nothing { length piece.bytes ≡ 0 → IsOk result }
         ensures onto_nothing { text_len self.old ≡ 0 → IsOk result }
     {
@@ -392,13 +374,7 @@ impl IoBufs {
     // the instructions.
     #[inline(never)]
     fn prepend_any(&mut self, alloc: Global, piece: IoBuf) -> Result<(), Refused<IoBuf>>
-        ensures done { OnOk result (self.new ≡ text_prepend self.old piece) }
-        ensures unchanged { OnErr result (self.new ≡ self.old) }
-        ensures handed_back { IfErr result (λ refused. refused.value ≡ piece) }
-        ensures too_long { 2 ^ 64 ≤ text_len self.old + length piece.bytes
-            → IsErrAnd result (λ refused. refused.cause ≡ BufError.TooLong) }
-        ensures memory { text_len self.old + length piece.bytes < 2 ^ 64
-            → IfErr result (λ refused. refused.cause ≡ BufError.Memory) }
+        ensures added { Adds (text_prepend self.old piece) self.old piece result self.new }
         ensures nothing { length piece.bytes ≡ 0 → IsOk result }
         ensures onto_nothing { text_len self.old ≡ 0 → IsOk result }
     {

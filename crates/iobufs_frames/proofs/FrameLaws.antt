@@ -7,7 +7,9 @@ use Rattle.iobufs_core.specs.MarkedText.{MarkedText, text_append}
 use Rattle.iobufs_core.specs.declared.codec.base.Error.{Error}
 use Rattle.iobufs_core.specs.declared.codec.base.Error.TheVariants.{EndOfBuffer, InvalidVarint, InvalidLength, Memory, BadLayout, TooLong}
 use Rattle.iobufs_core.specs.declared.codec.base.RangeCfg.{RangeCfg}
+use Rattle.iobufs_core.specs.declared.codec.base.Refused.{Refused}
 use Rattle.iobufs.proofs.Joined.{bytes-append}
+use Rattle.iobufs.specs.Refusals.{Adds}
 use Rattle.iobufs_frames.proofs.FrameFacts.{first_is, first_stays, none_in_front, nothing_is_open, one_end, one_more, stands, stays_bad, written-push}
 use Rattle.iobufs_frames.specs.Frames.{AreSameFrames, AreMoved, BareIsPrefixed, BeginsWith, CanAllFollow, CanFollow, FirstIsRead, FirstIsTaken, HasBodies, HasFrame, HasFrames, HaveOneReading, IsFramed, LacksFrame, Parts, Takes, TakesFirst, all_written, bodies, frame_written, is_any}
 use Rattle.iobufs_frames.proofs.LayoutFacts.{admitted, cut_at, follows, frame_long, one_front, parts_at}
@@ -205,9 +207,9 @@ bare_prefixed prefix range frame fits =
 -- ---- bytes put after
 
 -- where a piece was appended to a text, its bytes follow those of the text
-pub fed : {Nothing Refusal : Type 0} (old new : MarkedText) (piece : View) (result : Result Nothing Refusal)
-    → OnOk result (new ≡ text_append old piece) → OnOk result (new.bytes ≡ old.bytes ++ piece.bytes)
-fed old new piece (Ok done) is = ap (λ (t : MarkedText). t.bytes) is ∙ bytes-append old piece
+pub fed : (old new : MarkedText) (piece : View) (result : Result (Unit {0}) (Refused View))
+    → Adds (text_append old piece) old piece result new → OnOk result (new.bytes ≡ old.bytes ++ piece.bytes)
+fed old new piece (Ok done) added = ap (λ (t : MarkedText). t.bytes) added.0 ∙ bytes-append old piece
 fed old new piece (Err refused) is = tt
 
 -- ---- frames found in order

@@ -3,6 +3,7 @@
 #![tactic(auto)]
 
 ghost use Rattle.std.specs.Prelude.{◌≡◌, ◌≢◌, ◌⊎◌, ℕ, ◌+◌, ◌^◌, ◌<◌, ◌≤◌, List, ◌++◌, length, OnOk, OnErr, IfOk, IfErr, IsOk, IsErrAnd, IsOkUnless, IfNone, IfSome};
+ghost use Rattle.iobufs.specs.Refusals.{Adds};
 ghost use Rattle.iobufs_core.specs.MarkedText.{default_text, text_append};
 ghost use Rattle.iobufs_frames.specs.Frames.{AreMoved, HasBodies, HasStaticBody, IsCutFrom, IsSplitFrom, LacksFrame, MatchTaken, TakesFirst, TakesWhole, bodies, joined_bytes};
 ghost use Rattle.iobufs_frames.specs.Prefixes.{bare};
@@ -94,15 +95,9 @@ impl Frames {
 
     /// Adds bytes at the end, as `IoBufs::append` does.
     pub fn feed(&mut self, alloc: Global, piece: IoBuf) -> Result<(), Refused<IoBuf>>
-        ensures done { OnOk result (self.new.rest ≡ text_append self.old.rest piece) }
+        ensures added { Adds (text_append self.old.rest piece) self.old.rest piece result self.new.rest }
         ensures bytes { OnOk result (self.new.rest.bytes ≡ self.old.rest.bytes ++ piece.bytes) }
         ensures layout { self.new.layout ≡ self.old.layout }
-        ensures unchanged { OnErr result (self.new ≡ self.old) }
-        ensures handed_back { IfErr result (λ refused. refused.value ≡ piece) }
-        ensures too_long { 2 ^ 64 ≤ length self.old.rest.bytes + length piece.bytes
-            → IsErrAnd result (λ refused. refused.cause ≡ BufError.TooLong) }
-        ensures memory { length self.old.rest.bytes + length piece.bytes < 2 ^ 64
-            → IfErr result (λ refused. refused.cause ≡ BufError.Memory) }
         ensures nothing { length piece.bytes ≡ 0 → IsOk result }
         ensures onto_nothing { length self.old.rest.bytes ≡ 0 → IsOk result }
     {

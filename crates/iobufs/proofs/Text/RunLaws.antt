@@ -1,5 +1,5 @@
 -- Views joined one by one, as an iterator gives them.
-use Rattle.iobufs.proofs.Text.Known.{BufError, IsRefusedAt, List, MarkedText, Memory, None, Option, Run, Some, TooLong, View, Yields, [], ap, arith, by_lt, cond, false, joined, le-ltb, length, length-append, lt-ltb, nat_lt, refl, run, text_append, text_len, to_end, to_item, true, ℕ, ◌++◌, ◌+◌, ◌<◌, ◌^◌, ◌∙◌, ◌∷◌, ◌≡◌, ◌≤◌}
+use Rattle.iobufs.proofs.Text.Known.{BufError, IsRefusedAt, List, MarkedText, Memory, None, Option, Run, Some, TooLong, View, Yields, [], ap, arith, cond, false, joined, length, length-append, nat_lt, refl, run, sym, text_append, text_len, to_end, to_item, true, ◌++◌, ◌+◌, ◌<◌, ◌^◌, ◌∙◌, ◌∷◌, ◌≡◌}
 use Rattle.iobufs.proofs.Joined.{bytes-append}
 use Rattle.iobufs.proofs.Text.JoinLaws.{joined-push}
 
@@ -15,18 +15,13 @@ length-more : (views : List View) (view : View) (t : MarkedText) → t ≡ joine
     → text_len (joined (views ++ view ∷ [])) ≡ text_len t + length view.bytes
 length-more views view t e = cc (joined-push views view, bytes-append (joined views) view, length-append (joined views).bytes view.bytes)
 
-told : (total : ℕ) (cause : BufError) → (2 ^ 64 ≤ total → cause ≡ TooLong) → (total < 2 ^ 64 → cause ≡ Memory)
-    → cause ≡ cond (nat_lt total (2 ^ 64)) Memory TooLong
-told total cause long short =
-    by_lt total (2 ^ 64) (λ h. rw (lt-ltb total (2 ^ 64) h) (short h)) (λ h. rw (le-ltb total (2 ^ 64) h) (long h))
-
 -- a view with bytes after views with bytes, joined so far, is refused as too long where all don't fit a number, else for a failed
 -- allocation
 pub refused-at : (views : List View) (view : View) (t : MarkedText) (cause : BufError) → t ≡ joined views → text_len t < 2 ^ 64
     → 0 < text_len t
-    → 0 < length view.bytes → (2 ^ 64 ≤ text_len t + length view.bytes → cause ≡ TooLong)
-    → (text_len t + length view.bytes < 2 ^ 64 → cause ≡ Memory) → IsRefusedAt (views ++ view ∷ []) cause
-refused-at views view t cause e fits some more long short =
+    → 0 < length view.bytes → cause ≡ cond (nat_lt (text_len t + length view.bytes) (2 ^ 64)) Memory TooLong
+    → IsRefusedAt (views ++ view ∷ []) cause
+refused-at views view t cause e fits some more told =
     let n = length-more views view t e in
     let same = ap text_len e in
     record {
@@ -36,12 +31,11 @@ refused-at views view t cause e fits some more long short =
       some = omega arith;
       fits = omega arith;
       more = more;
-      told = told (text_len (joined (views ++ view ∷ []))) cause (λ h. long (omega arith)) (λ h. short (omega arith));
+      told = told ∙ ap (λ total. cond (nat_lt total (2 ^ 64)) Memory TooLong) (sym n);
     }
 
 -- a text with a view appended fits a number where their lengths together do
-pub fits-more : (t u : MarkedText) (view : View) → u ≡ text_append t view → (2 ^ 64 ≤ text_len t + length view.bytes → ⊥)
-    → text_len u < 2 ^ 64
-fits-more t u view a never =
+pub fits-more : (t u : MarkedText) (view : View) → u ≡ text_append t view → text_len t + length view.bytes < 2 ^ 64 → text_len u < 2 ^ 64
+fits-more t u view a fits =
     let n = ap text_len a ∙ ap length (bytes-append t view) ∙ length-append t.bytes view.bytes in
-    by_lt (text_len t + length view.bytes) (2 ^ 64) (λ h. omega arith) (λ h. absurd (never h))
+    omega arith

@@ -19,5 +19,5 @@ returns c =
     omega (arith, header_long layout frame size.before_fits size.after_fits, prefix_long layout.prefix (n + layout.counts) size.small) in
     let view = copied header c.as_slice.result.now (Ok c.in-Ok.header) (c.as_slice.ensures ∙ head body.bytes refl) some
     c.in-Ok.ensures.ok in
-    let done = c.in-Ok-prepend.ensures.done ∙ ap (text_prepend body) view in
+    let done = c.in-Ok-prepend.ensures.added.0 ∙ ap (text_prepend body) view in
     (size, done, ap (λ (t : MarkedText). t.bytes) done ∙ bytes-prepend body (own_view header))

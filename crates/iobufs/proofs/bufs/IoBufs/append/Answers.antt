@@ -13,16 +13,14 @@ invariant_of-self c =
     subst AreViews (sym c.push_back_reserved.ensures.pushed)
     (AreViews-append c.in-Many.row.views _ (subst AreViews (sym seen) c.self.invariant) (c.len-more.ensures.room, tt))
 
-pub returns-then-has_room-clause-done : goal.returns-then-has_room-clause-done
-returns-then-has_room-clause-done c =
+pub returns-then-has_room-clause-added : goal.returns-then-has_room-clause-added
+returns-then-has_room-clause-added c =
     let seen : c.in-Many.row.views ≡ c.self.inside.pieces = ap views (sym c.in-Many.is)
     ∙ ap (λ (s : Inside). s.pieces) c.self-inside.view_is in
-    behind-row c.in-Many.row.views _ (pieced-as c.in-Many.is c.self-inside.invariant) (ap of_pieces seen ∙ c.self.view_is) _ c.args.piece
-    (omega (arith, c.if-more-ne0.true, c.len-more.ensures.value)) c.push_back_reserved.ensures.pushed
-
-pub returns-then-has_room-clause-too_long : goal.returns-then-has_room-clause-too_long
-returns-then-has_room-clause-too_long c =
-    let seen : c.in-Many.row.views ≡ c.self.inside.pieces = ap views (sym c.in-Many.is)
-    ∙ ap (λ (s : Inside). s.pieces) c.self-inside.view_is in
-    let len = length-row c.in-Many.row.views _ (pieced-as c.in-Many.is c.self-inside.invariant) (ap of_pieces seen ∙ c.self.view_is) in
-    λ long. absurd (omega (arith, long, len, c.len-len.ensures.value, c.len-more.ensures.value, c.if-more-len.true))
+    let pieced = pieced-as c.in-Many.is c.self-inside.invariant in
+    let shown = ap of_pieces seen ∙ c.self.view_is in
+    let len = length-row c.in-Many.row.views _ pieced shown in (
+      behind-row c.in-Many.row.views _ pieced shown _ c.args.piece
+          (omega (arith, c.if-more-ne0.true, c.len-more.ensures.value)) c.push_back_reserved.ensures.pushed,
+      omega (arith, len, c.len-len.ensures.value, c.len-more.ensures.value, c.if-more-len.true),
+    )

@@ -4,11 +4,11 @@ use Rattle.iobufs.proofs.bufs.IoBufs.from_chunks.Goals as goal
 pub loop-chunk-preserved : goal.loop-chunk-preserved
 loop-chunk-preserved g c =
     let l = c.loop-chunk in
-    let added = c.in_ok-append.ensures.done in
+    let (added, fits) = c.in_ok-append.ensures.added in
     record {
       so_far = added ∙ ap (λ (x : MarkedText). text_append x c.in-Some.chunk) l.invariant.so_far
           ∙ sym (joined-push l.yielded c.in-Some.chunk);
-      fits = fits-more l.text _ c.in-Some.chunk added c.in_ok-append.ensures.too_long;
+      fits = fits-more l.text _ c.in-Some.chunk added fits;
     }
 
 pub returns-in_err-append-clause-err : goal.returns-in_err-append-clause-err
@@ -21,7 +21,7 @@ returns-in_err-append-clause-err g c =
     rw (told, cause) (
       run_to_item g.I.Iterator.next_gives _ l.yielded l.yielded_by c.in-Some.chunk c.in-Some.ensures.steps,
       refl,
-      refused-at l.yielded c.in-Some.chunk l.text _ l.invariant.so_far l.invariant.fits some more refused.too_long refused.memory,
+      refused-at l.yielded c.in-Some.chunk l.text _ l.invariant.so_far l.invariant.fits some more refused.added.2,
     )
 
 pub returns-clause-ok : goal.returns-clause-ok

@@ -1,5 +1,7 @@
 use Rattle.std.proofs.Common.{◌+◌, ap, sym, refl, subst, ◌∙◌}
+use Rattle.std.proofs.lemmas.Bool.{cond-true, lt-ltb}
 use Rattle.std.proofs.lemmas.Result.{err_from_is_err_and}
+use Rattle.iobufs_core.specs.declared.codec.base.BufError.TheVariants.{Memory, TooLong}
 use Rattle.iobufs_run.specs.Refusals.{refusal_of}
 use Rattle.iobufs_run.specs.Run.{MayFree}
 use Rattle.iobufs_run.specs.Slots.{slot_named, is_view, view_held}
@@ -28,7 +30,7 @@ returns-in_err-append-clause-err c =
     c.loop-src-test.true in
     let fits = source_fits old sources i c.loop-src.text c.in_ok-piece.piece c.requires.fits inv.text
     (sym read.0 ∙ took.0) c.loop-src-test.true in
-    let memory = c.in_err-append.ensures.memory fits in
+    let memory = c.in_err-append.ensures.added.2 ∙ cond-true _ Memory TooLong (lt-ltb _ _ fits) in
     let freed = freed_more old c.loop-src.slots sources i c.take_view.new.slot inv.freed c.loop-src-test.true took.1 in
     let (refusal, told, cause) = err_from_is_err_and c.from_residual-in_err-append.result c.from_residual-in_err-append.ensures.1 in
     rw told (cause ∙ ap refusal_of memory, subst (MayFree sources old) (sym freed) (MayFree-front sources (i + 1) old))
@@ -45,5 +47,5 @@ loop-src-preserved c =
     let piece = ap view_held (sym took.0 ∙ read.0) in record {
       freed = freed_more old c.loop-src.slots sources i c.take_view.new.slot inv.freed c.loop-src-test.true took.1;
       text = text_more (λ src. view_held (slot_named old src)) sources i c.loop-src.text c.append.new.self c.in_ok-piece.piece inv.text
-          c.in_ok-append.ensures.done piece c.loop-src-test.true;
+          c.in_ok-append.ensures.added.0 piece c.loop-src-test.true;
     }
