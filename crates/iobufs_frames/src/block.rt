@@ -5,7 +5,7 @@ ghost use Rattle.std.specs.Io.KnownBytes.{Consumes, IsAtEnd, Keeps};
 ghost use Rattle.iobufs_core.specs.View.{view_of_bytes};
 ghost use Rattle.iobufs_frames.specs.Frames.{TakesFirst, TakesWhole};
 ghost use Rattle.iobufs_frames.specs.Prefixes.{HasNoLengthIn, IsOpenIn, IsSeenIn, bare};
-ghost use Rattle.iobufs_frames.specs.Receiving.{HasReceived, KeepsReceived, KeepsSpace, block_row, none_received, shares_block};
+ghost use Rattle.iobufs_frames.specs.Receiving.{HasReceived, KeepsReceived, KeepsSpace, block_row, none_received, is_bytes_view};
 ghost use Rattle.iobufs_frames.specs.contracts.block.Received.{the_row};
 
 use crate::lengths::{Layout, Length, Prefix, sizes_of};
@@ -200,7 +200,7 @@ impl Received {
     #[inline(always)]
     pub fn next(&mut self, range: &RangeCfg) -> Result<Option<IoBuf>, Error>
         ensures next { TakesFirst self.old.layout range.now self.old.bytes result self.new.bytes }
-        ensures left { KeepsReceived shares_block self.old result self.new }
+        ensures left { KeepsReceived is_bytes_view self.old result self.new }
     {
         let Some(found) = self.length()? else {
             return Ok(None);
@@ -219,7 +219,7 @@ impl Received {
     #[inline(always)]
     pub fn next_whole(&mut self, range: &RangeCfg) -> Result<Option<(usize, IoBuf)>, Error>
         ensures next { TakesWhole (λ view. view.bytes) self.old.layout range.now self.old.bytes result self.new.bytes }
-        ensures left { KeepsReceived (λ whole. shares_block whole.1) self.old result self.new }
+        ensures left { KeepsReceived (λ whole. is_bytes_view whole.1) self.old result self.new }
     {
         let Some(length) = self.length()? else {
             return Ok(None);
