@@ -158,39 +158,32 @@ impl Received {
             self.block.advance(size);
             return Ok(IoBuf::default());
         }
-        if self.whole > MOST {
-            return self.take_from_large(skip, size);
+        if self.whole > MOST && self.whole != size {
+            return self.copy_out(skip, size);
         }
         let mut frame = self.block.freeze_to(size)?;
         frame.advance(skip);
-        Ok(IoBuf::from(frame))
-    }
-
-    // Acts as `take` on a block above `MOST`. It goes with the frame that it was made for; any other is copied.
-    #[inline(never)]
-    fn take_from_large(&mut self, skip: usize, size: usize) -> Result<IoBuf, AllocError>
-        requires { (skip ≤ size) × (size ≤ length self.old.bytes) }
-        ensures body { IfOk result (λ body. body ≡ view_of_bytes (drop skip (take size self.old.bytes))) }
-        ensures rest { OnOk result (self.new.bytes ≡ drop size self.old.bytes) }
-        ensures space { OnOk result (KeepsSpace self.old self.new) }
-        ensures layout { self.new.layout ≡ self.old.layout }
-        ensures unchanged { OnErr result (self.new ≡ self.old) }
-    {
-        self.known = None;
-        if self.whole != size {
-            let bytes = self.block.as_slice();
-            let mut copy = Bytes::copy_from_slice(*self.block.allocator(), &bytes[..size])?;
-            copy.advance(skip);
-            self.block.advance(size);
-            return Ok(IoBuf::from(copy));
-        }
-        let mut own = self.block.freeze_to(size)?;
-        own.advance(skip);
-        if self.block.is_empty() {
+        if self.whole > MOST && self.block.is_empty() {
             self.block = BytesMut::new(*self.block.allocator());
             self.whole = MOST;
         }
-        Ok(IoBuf::from(own))
+        Ok(IoBuf::from(frame))
+    }
+
+    // Acts as `take`, and copies the frame: out of a block above `MOST` that was made for another one.
+    #[inline(never)]
+    fn copy_out(&mut self, skip: usize, size: usize) -> Result<IoBuf, AllocError>
+        requires { (skip ≤ size) × (size ≤ length self.old.bytes) }
+        ensures body { IfOk result (λ body. body ≡ view_of_bytes (drop skip (take size self.old.bytes))) }
+        ensures rest { OnOk result (self.new ≡ record self.old { bytes = drop size self.old.bytes }) }
+        ensures unchanged { OnErr result (self.new ≡ self.old) }
+    {
+        self.known = None;
+        let bytes = self.block.as_slice();
+        let mut copy = Bytes::copy_from_slice(*self.block.allocator(), &bytes[..size])?;
+        copy.advance(skip);
+        self.block.advance(size);
+        Ok(IoBuf::from(copy))
     }
 
     /// Takes the first frame; `None` if it is not whole yet. Fails with `Error::InvalidVarint` (of varints alone) or
