@@ -51,7 +51,7 @@ impl Model for Received {
 
 // Makes a full block, which had `whole` bytes when nothing had been taken from it, one of `size` bytes. It moves the
 // bytes to the front or to a new block, unless they are all that it ever had. A block that grows in place gets twice
-// its size at least, so one of another size above `MOST` is a new one.
+// its size at least, so one that is to have less is a new one.
 fn widen(block: &mut BytesMut, whole: usize, size: usize) -> Result<(), AllocError>
     requires { length block.old.items < size }
     ensures items { block.new.items ≡ block.old.items }
@@ -59,7 +59,7 @@ fn widen(block: &mut BytesMut, whole: usize, size: usize) -> Result<(), AllocErr
     ensures failed { OnErr result (block.old.spare ≤ block.new.spare) }
 {
     let len = block.len();
-    if len == whole && (size <= MOST || len <= size - len) {
+    if len == whole && len <= size - len {
         return block.reserve(size - len);
     }
     if whole <= MOST && block.try_reclaim(size - len) {
