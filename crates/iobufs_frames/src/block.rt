@@ -208,7 +208,8 @@ impl Received {
         }
     }
 
-    /// Takes the first frame with its header, as `next` takes its body, and returns how long the header is.
+    /// Takes the first frame with its header, as `next` takes its body, and returns how long the header is. Fails with
+    /// `Error::InvalidVarint`, `Error::InvalidLength` or `Error::Memory`.
     #[inline(always)]
     pub fn next_whole(&mut self, range: &RangeCfg) -> Result<Option<(usize, IoBuf)>, Error>
         ensures next { TakesWhole (λ view. view.bytes) self.old.layout range.now self.old.bytes result self.new.bytes }
