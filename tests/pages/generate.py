@@ -21,7 +21,7 @@ ENSURES = re.compile(r"ensures (\w+) \{(.*?) \}(?=\s*(?:ensures|\{|;|$))", re.S)
 REQUIRES = re.compile(r"requires(?: \w+)? \{(.*?)\}\n", re.S)  # requires { at ≤ length self.old }
 RESULT = re.compile(r"->\s*(.*?)(?=\n\s*(?:requires|ensures|where)|\{|;)", re.S)  # -> Option<u8>
 ARGUMENTS = re.compile(r"\w+(?:<.*?>)?\((.*?)\)\s*(?:->|\n|\{|;)", re.S)  # get<T>(&self, at: usize) ->
-TOLD = re.compile(r"End\.Bad Error\.\w+")  # An error that a clause tells of, and no call returns: End.Bad Error.TooLong
+TOLD = re.compile(r"(?:End\.Bad|≢) Error\.\w+")  # An error that a clause tells of, and no call returns: ≢ Error.Memory
 KIND = re.compile(r"\b(TooLong|BadLayout|InvalidVarint|InvalidLength|EndOfBuffer|Memory|ExtraData)\b")  # TooLong
 ERROR = re.compile(r"\b(FrameError|TryGetError|AllocError|Fault|Refusal|Error)>")  # Result<IoBuf, FrameError>
 # The original's name in a comment: (the crate's `Buf::get_u8()`, of one byte), or (own)
@@ -59,7 +59,7 @@ def errors(declared, comment):
     found = RESULT.search(declared)
     result = found[1] if found else ""
     if result.startswith("Option<"):
-        return "`None`"
+        return ", ".join(["`None`", *dict.fromkeys(KIND.findall(declared) if "Result<" in result else ())])
     if "Result<" not in result:
         return ""
     kind = ERROR.search(result)

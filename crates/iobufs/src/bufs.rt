@@ -232,7 +232,7 @@ impl IoBufs {
         Some(self.locate(at))
     }
 
-    /// Borrows a chunk by its index, also an only one without bytes (own).
+    /// Borrows a chunk by its index (own). If there are no bytes, the only chunk has none.
     pub fn view_at(&self, i: usize) -> Option<&IoBuf>
         ensures { option_copied result ≡ slice_get (text_views self.now) i }
     {

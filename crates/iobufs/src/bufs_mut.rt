@@ -229,7 +229,8 @@ impl IoBufsMut {
     }
 
     /// Makes `n` bytes readable, filling the buffers in order; bytes that were not are zero (`IoBufsMut::set_len`,
-    /// which is unsafe there).
+    /// which is unsafe there). Each buffer is filled to its capacity before the next one, so readable bytes of later
+    /// buffers are lost if `n` doesn't reach them.
     #[tactic(auto, using(crate::proofs::Parts::FewLaws::keeping))]
     pub fn set_len(&mut self, n: usize)
         requires { n ≤ parts_capacity self.old }

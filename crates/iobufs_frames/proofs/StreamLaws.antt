@@ -32,9 +32,9 @@ first_of_known T gives needs layout range (Some text) (Some more) held read left
     (subst (λ (w : List ℕ). IsFramed layout range w frames end rest) (ap (λ w. held ++ w) took ∙ sym (append_assoc held read more)) framed)
 
 -- a reader takes the first of all frames that it holds and may still read
-pub first_of_all : {R T : Type 0} (gives : Parts → T → Type 0) (needs : Parts → Type 0) (shares : T → Type 0)
+pub first_of_all : {R T : Type 0} (gives : Parts → T → Type 0) (needs : Parts → Type 0) (also : T → Type 0)
     (remaining : R → Option (List ℕ)) (old new : FrameReader R) (result : Result (Option T) FrameError)
-    → TakesNext gives needs shares remaining old result new → IsFirstOfAll gives needs remaining old result new
-first_of_all {R} {T} gives needs shares remaining old new result is =
+    → TakesNext gives needs also remaining old result new → IsFirstOfAll gives needs remaining old result new
+first_of_all {R} {T} gives needs also remaining old new result is =
     first_of_known T gives needs old.held.layout old.range (remaining old.from) (remaining new.from) old.held.bytes is.read new.held.bytes
     result is.took is.first

@@ -2,8 +2,8 @@
 --     ReceivedBytes    how the headers are laid out, the bytes that were not taken, and how many more fit after them
 --     none_received    none of them, and no space
 --     KeepsSpace       a frame was taken: the space stays, or went with an emptied block
---     shares_block     a view of a block's bytes
---     KeepsReceived    a frame was taken that shares the block, with the space of KeepsSpace; or all stays
+--     is_bytes_view    a view whose storage is a `Bytes`: it shares the block, or is a copy
+--     KeepsReceived    a frame was taken, of which something holds, with the space of KeepsSpace; or all stays
 --     HasReceived      bytes came after those that are held, into the space
 --     block_row        a block of the crate `bytes`, for the clause on one that is lent
 use Rattle.std.specs.Prelude.{◌≡◌, ◌⊎◌, ℕ, ◌+◌, Option, Result, List, [], ◌++◌, length}
@@ -30,14 +30,14 @@ none_received layout = record { layout = layout; bytes = []; space = 0 }
 abbrev pub KeepsSpace : ReceivedBytes → ReceivedBytes → Type 0
 KeepsSpace old new = (new.space ≡ old.space) ⊎ ((new.bytes ≡ []) × (new.space ≡ 0))
 
--- all bytes of a block
-abbrev pub shares_block : View → Type 0
-shares_block view = view ≡ view_of_bytes view.bytes
+-- a view whose storage is a `Bytes`
+abbrev pub is_bytes_view : View → Type 0
+is_bytes_view view = view ≡ view_of_bytes view.bytes
 
--- a frame was taken that `shares` the block, with the space of `KeepsSpace`; or none was, and all stays
+-- a frame was taken, of which `also` holds, with the space of `KeepsSpace`; or none was, and all stays
 abbrev pub KeepsReceived : {T : Type 0} → (T → Type 0) → ReceivedBytes → Result (Option T) Error → ReceivedBytes → Type 0
-KeepsReceived shares old result new = MatchTaken result
-    (λ taken. (new.layout ≡ old.layout) × KeepsSpace old new × shares taken) (new ≡ old)
+KeepsReceived also old result new = MatchTaken result
+    (λ taken. (new.layout ≡ old.layout) × KeepsSpace old new × also taken) (new ≡ old)
 
 -- so many bytes came after those that are held, into the space
 pub record HasReceived (n : ℕ) (old new : ReceivedBytes) : Type 0 where

@@ -28,7 +28,7 @@ use Rattle.iobufs_core.specs.declared.codec.base.Error.{Error}
 use Rattle.iobufs_core.specs.declared.codec.base.RangeCfg.{RangeCfg}
 use Rattle.iobufs_core.specs.declared.codec.base.Refused.{Refused}
 use Rattle.iobufs_frames.specs.Frames.{CanBeSent, IsFirstOf, IsFramed, LacksFrame, Parts, ReadsBy, Takes, has_bytes, is_any, is_body, is_whole}
-use Rattle.iobufs_frames.specs.Receiving.{KeepsReceived, shares_block}
+use Rattle.iobufs_frames.specs.Receiving.{KeepsReceived, is_bytes_view}
 use Rattle.iobufs_frames.specs.Unsent.{ArePassed, UnsentBytes, frames_bytes, unsent_frame, unsent_nothing}
 use Rattle.iobufs_frames.specs.declared.End.{End}
 use Rattle.iobufs_frames.specs.declared.End.TheVariants.{Open}
@@ -58,27 +58,27 @@ abbrev pub IsNeeded : Layout → RangeCfg → List ℕ → List ℕ → Type 0 �
 IsNeeded layout range held read idle = ((read ≡ []) × idle) ⊎ WasNeeded layout range held read
 
 -- Bytes were read, none more than the frame needs, and the frame at the front of all was taken. It is taken as something that
--- `gives` relates to it, and of which `shares` holds.
-pub record TakesNext {R T : Type 0} (gives : Parts → T → Type 0) (needs : Parts → Type 0) (shares : T → Type 0)
+-- `gives` relates to it, and of which `also` holds.
+pub record TakesNext {R T : Type 0} (gives : Parts → T → Type 0) (needs : Parts → Type 0) (also : T → Type 0)
     (remaining : R → Option (List ℕ)) (old : FrameReader R) (result : Result (Option T) FrameError) (new : FrameReader R) : Type 0 where
   pub read : List ℕ
   pub took : Consumes (remaining old.from) (remaining new.from) read
   pub needed : IsNeeded old.held.layout old.range old.held.bytes read (new.from ≡ old.from)
   pub first : ReadsBy (Takes gives needs old.held.layout old.range) (IsAtEnd (remaining new.from))
       (old.held.bytes ++ read) result new.held.bytes
-  pub shared : IfOk result (λ found. IfSome found shares)
+  pub also_holds : IfOk result (λ found. IfSome found also)
   pub layout : new.held.layout ≡ old.held.layout
   pub range : new.range ≡ old.range
 
--- `next`: as its body, which shares the block
+-- `next`: as its body, a view of a `Bytes`
 abbrev pub TakesFrame : {R : Type 0} → (R → Option (List ℕ)) → FrameReader R → Result (Option View) FrameError → FrameReader R → Type 0
-TakesFrame remaining old result new = TakesNext is_body has_bytes shares_block remaining old result new
+TakesFrame remaining old result new = TakesNext is_body has_bytes is_bytes_view remaining old result new
 
 -- `next_whole`: with its header
 abbrev pub TakesWholeFrame : {R : Type 0} → (R → Option (List ℕ)) → FrameReader R → Result (Option (ℕ × View)) FrameError
     → FrameReader R → Type 0
 TakesWholeFrame remaining old result new =
-    TakesNext (is_whole old.held.layout (λ view. view.bytes)) is_any (λ whole. shares_block whole.1) remaining old result new
+    TakesNext (is_whole old.held.layout (λ view. view.bytes)) is_any (λ whole. is_bytes_view whole.1) remaining old result new
 
 -- so of a reader whose bytes are known: the first of all frames that it holds and may still read, and the others are left
 abbrev pub IsFirstOfAll : {R T : Type 0} → (Parts → T → Type 0) → (Parts → Type 0) → (R → Option (List ℕ)) → FrameReader R
@@ -89,10 +89,10 @@ IsFirstOfAll gives needs remaining old result new =
     → IsFirstOf gives needs old.held.layout old.range frames end rest result (new.held.bytes ++ has)))
 
 -- the frame at the front of the held bytes was taken so, without a read
-pub record TakesHeld {R T : Type 0} (gives : Parts → T → Type 0) (needs : Parts → Type 0) (shares : T → Type 0) (old : FrameReader R)
+pub record TakesHeld {R T : Type 0} (gives : Parts → T → Type 0) (needs : Parts → Type 0) (also : T → Type 0) (old : FrameReader R)
     (result : Result (Option T) Error) (new : FrameReader R) : Type 0 where
   pub first : Takes gives needs old.held.layout old.range old.held.bytes result new.held.bytes
-  pub held : KeepsReceived shares old.held result new.held
+  pub held : KeepsReceived also old.held result new.held
   pub from : new.from ≡ old.from
   pub range : new.range ≡ old.range
 

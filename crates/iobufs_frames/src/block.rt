@@ -5,7 +5,7 @@ ghost use Rattle.std.specs.Io.KnownBytes.{Consumes, IsAtEnd, Keeps};
 ghost use Rattle.iobufs_core.specs.View.{view_of_bytes};
 ghost use Rattle.iobufs_frames.specs.Frames.{TakesFirst, TakesWhole};
 ghost use Rattle.iobufs_frames.specs.Prefixes.{HasNoLengthIn, IsOpenIn, IsSeenIn, bare};
-ghost use Rattle.iobufs_frames.specs.Receiving.{HasReceived, KeepsReceived, KeepsSpace, block_row, none_received, shares_block};
+ghost use Rattle.iobufs_frames.specs.Receiving.{HasReceived, KeepsReceived, KeepsSpace, block_row, none_received, is_bytes_view};
 ghost use Rattle.iobufs_frames.specs.contracts.block.Received.{the_row};
 
 use crate::lengths::{Layout, Length, Prefix, sizes_of};
@@ -51,7 +51,7 @@ impl Model for Received {
 
 // Makes a full block, which had `whole` bytes when nothing had been taken from it, one of `size` bytes. It moves the
 // bytes to the front or to a new block, unless they are all that it ever had. A block that grows in place gets twice
-// its size at least, so one of another size above `MOST` is a new one.
+// its size at least, so one that is to have less is a new one.
 fn widen(block: &mut BytesMut, whole: usize, size: usize) -> Result<(), AllocError>
     requires { length block.old.items < size }
     ensures items { block.new.items ≡ block.old.items }
@@ -59,7 +59,7 @@ fn widen(block: &mut BytesMut, whole: usize, size: usize) -> Result<(), AllocErr
     ensures failed { OnErr result (block.old.spare ≤ block.new.spare) }
 {
     let len = block.len();
-    if len == whole && (size <= MOST || len <= size - len) {
+    if len == whole && len <= size - len {
         return block.reserve(size - len);
     }
     if whole <= MOST && block.try_reclaim(size - len) {
@@ -158,39 +158,32 @@ impl Received {
             self.block.advance(size);
             return Ok(IoBuf::default());
         }
-        if self.whole > MOST {
-            return self.take_from_large(skip, size);
+        if self.whole > MOST && self.whole != size {
+            return self.copy_out(skip, size);
         }
         let mut frame = self.block.freeze_to(size)?;
         frame.advance(skip);
-        Ok(IoBuf::from(frame))
-    }
-
-    // Acts as `take` on a block above `MOST`. It goes with the frame that it was made for; any other is copied.
-    #[inline(never)]
-    fn take_from_large(&mut self, skip: usize, size: usize) -> Result<IoBuf, AllocError>
-        requires { (skip ≤ size) × (size ≤ length self.old.bytes) }
-        ensures body { IfOk result (λ body. body ≡ view_of_bytes (drop skip (take size self.old.bytes))) }
-        ensures rest { OnOk result (self.new.bytes ≡ drop size self.old.bytes) }
-        ensures space { OnOk result (KeepsSpace self.old self.new) }
-        ensures layout { self.new.layout ≡ self.old.layout }
-        ensures unchanged { OnErr result (self.new ≡ self.old) }
-    {
-        self.known = None;
-        if self.whole != size {
-            let bytes = self.block.as_slice();
-            let mut copy = Bytes::copy_from_slice(*self.block.allocator(), &bytes[..size])?;
-            copy.advance(skip);
-            self.block.advance(size);
-            return Ok(IoBuf::from(copy));
-        }
-        let mut own = self.block.freeze_to(size)?;
-        own.advance(skip);
-        if self.block.is_empty() {
+        if self.whole > MOST && self.block.is_empty() {
             self.block = BytesMut::new(*self.block.allocator());
             self.whole = MOST;
         }
-        Ok(IoBuf::from(own))
+        Ok(IoBuf::from(frame))
+    }
+
+    // Acts as `take`, and copies the frame: out of a block above `MOST` that was made for another one.
+    #[inline(never)]
+    fn copy_out(&mut self, skip: usize, size: usize) -> Result<IoBuf, AllocError>
+        requires { (skip ≤ size) × (size ≤ length self.old.bytes) }
+        ensures body { IfOk result (λ body. body ≡ view_of_bytes (drop skip (take size self.old.bytes))) }
+        ensures rest { OnOk result (self.new ≡ record self.old { bytes = drop size self.old.bytes }) }
+        ensures unchanged { OnErr result (self.new ≡ self.old) }
+    {
+        self.known = None;
+        let bytes = self.block.as_slice();
+        let mut copy = Bytes::copy_from_slice(*self.block.allocator(), &bytes[..size])?;
+        copy.advance(skip);
+        self.block.advance(size);
+        Ok(IoBuf::from(copy))
     }
 
     /// Takes the first frame; `None` if it is not whole yet. Fails with `Error::InvalidVarint` (of varints alone) or
@@ -200,7 +193,7 @@ impl Received {
     #[inline(always)]
     pub fn next(&mut self, range: &RangeCfg) -> Result<Option<IoBuf>, Error>
         ensures next { TakesFirst self.old.layout range.now self.old.bytes result self.new.bytes }
-        ensures left { KeepsReceived shares_block self.old result self.new }
+        ensures left { KeepsReceived is_bytes_view self.old result self.new }
     {
         let Some(found) = self.length()? else {
             return Ok(None);
@@ -215,11 +208,12 @@ impl Received {
         }
     }
 
-    /// Takes the first frame with its header, as `next` takes its body, and returns how long the header is.
+    /// Takes the first frame with its header, as `next` takes its body, and returns how long the header is. Fails with
+    /// `Error::InvalidVarint`, `Error::InvalidLength` or `Error::Memory`.
     #[inline(always)]
     pub fn next_whole(&mut self, range: &RangeCfg) -> Result<Option<(usize, IoBuf)>, Error>
         ensures next { TakesWhole (λ view. view.bytes) self.old.layout range.now self.old.bytes result self.new.bytes }
-        ensures left { KeepsReceived (λ whole. shares_block whole.1) self.old result self.new }
+        ensures left { KeepsReceived (λ whole. is_bytes_view whole.1) self.old result self.new }
     {
         let Some(length) = self.length()? else {
             return Ok(None);

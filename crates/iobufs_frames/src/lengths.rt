@@ -1,10 +1,11 @@
 // How the length before a body is written and read.
-ghost use Rattle.std.specs.Prelude.{◌≡◌, ◌≤◌, ◌<◌, ◌+◌, ◌-◌, ◌++◌, [], ℕ, List, length, nat_lt, take, drop, true, false, MatchOption, IfOk, IfErr, IfSome, IfNone, OnOk, IsOkUnless};
+ghost use Rattle.std.specs.Prelude.{◌≡◌, ◌≢◌, ◌≤◌, ◌<◌, ◌+◌, ◌-◌, ◌++◌, [], ℕ, List, length, nat_lt, take, drop, true, false, MatchOption, IfOk, IfErr, IfSome, IfNone, OnOk, IsOkUnless};
 ghost use Rattle.iobufs_core.specs.PartLaws.{IsPut};
-ghost use Rattle.iobufs_frames.specs.Frames.{CanBeSent, HasFrameSize, PrependsLength, header_written};
+ghost use Rattle.iobufs_frames.specs.Frames.{CanBeSent, HasFrameSize, PrependsLength, TakesWhole, header_written};
 ghost use Rattle.iobufs_frames.specs.Prefixes.{HasNoLengthAt, HasNoLengthIn, IsLengthAt, IsOpenAt, IsOpenIn, IsSeenAt, IsSeenIn, admits, bare, own_view, prefix_limit, prefix_written, width_size};
 
 use crate::heads::Head;
+use crate::shown::Shown;
 use iobufs::bufs::IoBufs;
 use iobufs_core::buf::IoBuf;
 use iobufs_core::codec::{Buf, BufError, BufMut, Error, RangeCfg, Refused, Write, peek_length};
@@ -298,6 +299,24 @@ impl Layout {
         }
     }
 
+    /// Returns how many bytes the first frame of these has in its header, and in all; `None` if it is not whole. Fails
+    /// with `Error::InvalidVarint` or `Error::InvalidLength` if no further bytes can make it whole.
+    #[inline(always)]
+    pub fn frame_in(self, bytes: &[u8], range: &RangeCfg) -> Result<Option<(usize, usize)>, Error>
+        ensures first { (left : List ℕ) × TakesWhole (λ n. take n bytes.now) self range.now bytes.now result left }
+        ensures fits { IfOk result (λ found. IfSome found (λ sizes. (sizes.0 ≤ sizes.1)
+            × (sizes.1 ≤ length bytes.now))) }
+        ensures memory { IfErr result (λ error. error ≢ Error.Memory) }
+    {
+        let Some(length) = self.length_in(&Shown { bytes })? else {
+            return Ok(None);
+        };
+        let Some(parts) = sizes_of(self, length, bytes.len(), range)? else {
+            return Ok(None);
+        };
+        Ok(Some((parts.header, parts.header + parts.body)))
+    }
+
     /// How many bytes a frame with this length has at most.
     pub(crate) fn most_of(self, found: Length) -> usize {
         let around = self.before as usize + self.after as usize;
@@ -376,7 +395,7 @@ pub fn framed_with(alloc: Global, prefix: Prefix, body: IoBufs) -> Result<IoBufs
 }
 
 /// Prepends its header to a body, as `framed_with` does its length. Fails with `BufError::TooLong` also if the layout
-/// has another number of bytes before the length or after it, or more than 22.
+/// has another number of bytes before the length or after it, or more than 22; else with `BufError::Memory`.
 pub fn framed_with_layout(
     alloc: Global,
     layout: Layout,

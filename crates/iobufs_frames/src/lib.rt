@@ -127,7 +127,8 @@ impl Frames {
     }
 
     /// Takes the first frame with its header, as `next` takes its body, and returns how many bytes the header has. Its
-    /// chunks aren't copied. Fails with `Error::Memory` also for a frame of several chunks.
+    /// chunks aren't copied. Fails with `Error::InvalidVarint`, `Error::InvalidLength` or `Error::Memory`. A frame
+    /// of several chunks needs memory even if its body is static.
     pub fn next_whole(
         &mut self,
         alloc: Global,

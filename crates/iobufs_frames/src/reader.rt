@@ -2,7 +2,7 @@
 ghost use Rattle.std.specs.Prelude.{◌≡◌, ◌<◌, ◌^◌, IfOk, length};
 ghost use Rattle.iobufs_frames.specs.Frames.{has_bytes, is_any, is_body, is_whole};
 ghost use Rattle.iobufs_frames.specs.Prefixes.{bare};
-ghost use Rattle.iobufs_frames.specs.Receiving.{shares_block};
+ghost use Rattle.iobufs_frames.specs.Receiving.{is_bytes_view};
 ghost use Rattle.iobufs_frames.specs.Streams.{BeginsReading, Fills, ReadsMore, TakesFrame, TakesHeld, TakesWholeFrame};
 ghost use Rattle.iobufs_frames.specs.declared.lengths.Prefix.TheVariants.{Spelled};
 
@@ -68,7 +68,7 @@ impl<R: Drop> FrameReader<R> {
     /// does.
     #[inline(always)]
     pub fn try_next(&mut self) -> Result<Option<IoBuf>, Error>
-        ensures { TakesHeld is_body has_bytes shares_block self.old result self.new }
+        ensures { TakesHeld is_body has_bytes is_bytes_view self.old result self.new }
     {
         self.held.next(&self.range)
     }
@@ -76,7 +76,7 @@ impl<R: Drop> FrameReader<R> {
     /// Takes the next frame with its header, as `try_next` takes its body, and returns how long the header is.
     #[inline(always)]
     pub fn try_next_whole(&mut self) -> Result<Option<(usize, IoBuf)>, Error>
-        ensures { TakesHeld (is_whole self.old.held.layout (λ view. view.bytes)) is_any (λ whole. shares_block whole.1)
+        ensures { TakesHeld (is_whole self.old.held.layout (λ view. view.bytes)) is_any (λ whole. is_bytes_view whole.1)
             self.old result self.new }
     {
         self.held.next_whole(&self.range)

@@ -79,7 +79,8 @@ impl<W: Drop> FrameWriter<W> {
     }
 
     /// Acts as `put`, with a header that has these bytes before its length, and these after it. Fails with
-    /// `BufError::TooLong` also if the layout has another number of them, or more than 22.
+    /// `BufError::TooLong` also if the layout has another number of them, or more than 22; with `BufError::Memory`,
+    /// unless all is sent.
     #[inline(always)]
     pub fn put_with(
         &mut self,

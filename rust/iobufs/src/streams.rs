@@ -3,10 +3,10 @@
 use crate::error::{fault, out_of_memory, shared};
 use crate::io::Honest;
 use crate::kit::{Global, bytes as kit};
-use crate::proved::iobufs_core::codec::{self, BufError, RangeCfg};
+use crate::proved::iobufs_core::codec::{BufError, RangeCfg};
 use crate::proved::iobufs_frames as inner;
 use crate::{Error, IoBuf, IoBufs, Layout, Prefix, Whole};
-use bytes::BytesMut;
+use bytes::{Buf, Bytes, BytesMut};
 use std::io::{self, ErrorKind, Read, Write};
 use std::ops::RangeBounds;
 use std::{error, fmt, mem};
@@ -87,7 +87,7 @@ impl From<FrameError> for io::Error {
 /// buffer. The crate `iobufs-tokio` makes it a codec of `tokio_util::codec::Framed`.
 ///
 /// ```
-/// use bytes::BytesMut;
+/// use bytes::{Buf, Bytes, BytesMut};
 /// let codec = iobufs::FrameCodec::new(iobufs::Prefix::U16Be, ..=1024);
 /// let mut bytes = BytesMut::new();
 /// codec.encode(&"hello".into(), &mut bytes)?;
@@ -120,7 +120,7 @@ impl FrameCodec {
     /// taken, `src` is unchanged.
     ///
     /// ```
-    /// use bytes::BytesMut;
+    /// use bytes::{Buf, Bytes, BytesMut};
     ///
     /// let codec = iobufs::FrameCodec::new(iobufs::Prefix::Varint, ..=1024);
     /// let mut src = BytesMut::from("\x02ok\x05wo");
@@ -134,7 +134,10 @@ impl FrameCodec {
     /// # Errors
     /// Returns [`Error::InvalidVarint`] or [`Error::InvalidLength`] if no further bytes can make the frame whole.
     pub fn decode(&self, src: &mut BytesMut) -> Result<Option<IoBuf>, Error> {
-        Ok(self.take(src, |held, range| held.next(range))?.map(IoBuf))
+        Ok(self.take(src)?.map(|(header, mut frame)| {
+            frame.advance(header);
+            frame.into()
+        }))
     }
 
     /// Takes the first frame with its header, as [`decode`](Self::decode) takes its body.
@@ -153,26 +156,20 @@ impl FrameCodec {
     /// # Errors
     /// Returns the errors of `decode`.
     pub fn decode_whole(&self, src: &mut BytesMut) -> Result<Option<Whole<IoBuf>>, Error> {
-        Ok(self.take(src, |held, range| held.next_whole(range))?.map(Whole::of))
+        Ok(self.take(src)?.map(|(header, frame)| Whole::of((header, IoBuf::from(frame).0))))
     }
 
-    /// Takes from the bytes of `src`, which is moved in and out.
-    fn take<T>(
-        &self,
-        src: &mut BytesMut,
-        next: impl FnOnce(&mut inner::Received, &RangeCfg) -> Result<T, codec::Error>,
-    ) -> Result<T, Error> {
-        let mut held = inner::Received::with_layout(Global, self.layout);
-        *held.block_mut() = kit::BytesMut::of(mem::take(src));
-        let taken = next(&mut held, &self.range);
-        *src = mem::replace(held.block_mut(), kit::BytesMut::new(Global)).into_inner();
-        taken.map_err(fault)
+    /// Takes the first frame, and returns it with the number of its header's bytes.
+    #[inline(always)]
+    fn take(&self, src: &mut BytesMut) -> Result<Option<(usize, Bytes)>, Error> {
+        let found = self.layout.frame_in(src, &self.range).map_err(fault)?;
+        Ok(found.map(|(header, size)| (header, src.split_to(size).freeze())))
     }
 
     /// Appends the frame of a body, which is copied.
     ///
     /// ```
-    /// use bytes::BytesMut;
+    /// use bytes::{Buf, Bytes, BytesMut};
     /// use iobufs::{Error, FrameCodec, Prefix};
     ///
     /// let codec = FrameCodec::new(Prefix::U8, ..=1024);

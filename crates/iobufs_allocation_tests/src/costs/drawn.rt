@@ -10,7 +10,7 @@ use std::test::Fail;
 
 // Numbers that follow from a first one.
 #[derive(Drop)]
-struct Draw {
+pub(crate) struct Draw {
     state: u64,
 }
 
@@ -22,7 +22,7 @@ const MOST: usize = 4194304;
 
 impl Draw {
     // Begins with the word that `DRAW` has in the environment.
-    fn new(rt: &impl Env) -> Draw {
+    pub(crate) fn new(rt: &impl Env) -> Draw {
         let mut word = [0u8; 64];
         let len = rt.var("DRAW", &mut word).unwrap_or(0);
         let mut state = 1u64;
@@ -33,7 +33,7 @@ impl Draw {
     }
 
     // A number below a limit, or 0.
-    fn below(&mut self, limit: usize) -> usize {
+    pub(crate) fn below(&mut self, limit: usize) -> usize {
         self.state = self
             .state
             .wrapping_mul(6364136223846793005)
@@ -43,7 +43,7 @@ impl Draw {
     }
 
     // A number from 1 to a limit, of a drawn scale.
-    fn size(&mut self, limit: usize) -> usize {
+    pub(crate) fn size(&mut self, limit: usize) -> usize {
         let scale = SCALES.get(self.below(SCALES.len())).copied().unwrap_or(1);
         self.below(scale.min(limit)).saturating_add(1)
     }

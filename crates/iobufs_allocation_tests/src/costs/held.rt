@@ -2,11 +2,12 @@
 // gone. A test prints the most bytes held since its last line. `tests/costs` compares the memory that was allocated and
 // not freed meanwhile.
 use crate::costs::calls::ANY;
+use crate::costs::drawn::Draw;
 use crate::word::mark;
 use iobufs::bufs::IoBufs;
 use iobufs_core::buf::IoBuf;
 use iobufs_core::codec::{Buf, BufError};
-use iobufs_frames::{Prefix, Received};
+use iobufs_frames::{FrameReader, Prefix, Received};
 use iobufs_made::parts;
 use std::alloc::Global;
 use std::io::{self, Read};
@@ -43,13 +44,18 @@ impl Read for Source {
     }
 }
 
+// Adds a frame of so many bytes.
+fn push_frame(bytes: &mut Vec<u8>, len: usize) -> Result<(), BufError> {
+    bytes.extend_from_slice(Prefix::Spelled.head(len).as_slice())?;
+    bytes.resize(bytes.len().saturating_add(len), 7)?;
+    Ok(())
+}
+
 fn source_of(alloc: Global, case: &Case) -> Result<Source, BufError> {
     let (_, count, len, most, _) = *case;
-    let head = Prefix::Spelled.head(len);
     let mut bytes = Vec::new(alloc);
     for _ in 0..count {
-        bytes.extend_from_slice(head.as_slice())?;
-        bytes.resize(bytes.len().saturating_add(len), 7)?;
+        push_frame(&mut bytes, len)?;
     }
     Ok(Source {
         rest: bytes.leak(),
@@ -108,6 +114,39 @@ fn receive(rt: &(impl Print + Abort + AllocGlobal), case: &Case) -> Result<(), F
     Ok(())
 }
 
+// The body of the frame after the first `skipped` ones, without the reader and the other bodies.
+fn body_alone(alloc: Global, from: Source, skipped: usize) -> Result<IoBuf, BufError> {
+    let mut reader = FrameReader::new(alloc, from, ANY)?;
+    for _ in 0..skipped {
+        if reader.next().is_err() {
+            return Err(BufError::TooLong);
+        }
+    }
+    match reader.next() {
+        Ok(Some(body)) => Ok(body),
+        _ => Err(BufError::TooLong),
+    }
+}
+
+// Reads frames of drawn lengths, keeps the body of one of them, and prints how many bytes its frame has.
+fn keep_one(rt: &(impl Print + Abort + AllocGlobal), draw: &mut Draw) -> Result<(), Fail> {
+    let (skipped, most) = (draw.below(5), draw.size(100000));
+    let (mut bytes, mut before, mut len) = (Vec::new(rt.alloc()), 0usize, 0usize);
+    for _ in 0..=skipped {
+        (before, len) = (bytes.len(), draw.size(1000000));
+        push_frame(&mut bytes, len)?;
+    }
+    let size = bytes.len().saturating_sub(before);
+    push_frame(&mut bytes, draw.size(1000000))?;
+    let rest = bytes.leak();
+    mark(rt, "call");
+    let body = body_alone(rt.alloc(), Source { rest, most }, skipped)?;
+    println!(rt; "dropped")?;
+    println!(rt; "alone {size}")?;
+    assert!(rt; body.len() == len, "{} bytes for {len}", body.len());
+    Ok(())
+}
+
 // Coalesces a hundred times two bytes in a long buffer and two more, and keeps them.
 fn coalesce_many(rt: &(impl Print + Abort + AllocGlobal)) -> Result<(), Fail> {
     let mut kept = Vec::with_capacity(rt.alloc(), 100)?;
@@ -138,6 +177,10 @@ fn drain_chunks(rt: &(impl Print + Abort + AllocGlobal)) -> Result<(), Fail> {
 fn held(rt: HostRuntime) -> Result<(), Fail> {
     for case in &CASES {
         receive(&rt, case)?;
+    }
+    let mut draw = Draw::new(&rt);
+    for _ in 0..40usize {
+        keep_one(&rt, &mut draw)?;
     }
     coalesce_many(&rt)?;
     drain_chunks(&rt)
