@@ -52,6 +52,7 @@ pub(crate) fn layout_of(said: &LayoutInC) -> Option<Layout>
     }
 }
 
+// The bytes around the length are one slice, so that each slice is passed in registers, as rust/c/src/lib.rs needs it.
 /// Encodes the header of a body of `n` bytes, to be sent before it, and writes how many bytes the header has: at most
 /// 32. Of the bytes around its length, `layout.before` are before it, and `layout.after` after it. Returns
 /// `Status::BadKind` if the prefix is unknown, `Status::TooLong` if `around` has another number of bytes, or more than
