@@ -507,8 +507,8 @@ IOBUFS_CHECKED iobufs_status iobufs_get_u32(struct iobufs_at *bufs, uint32_t *ou
  * Keeps: both. */
 IOBUFS_CHECKED iobufs_status iobufs_get_u64(struct iobufs_at *bufs, uint64_t *out);
 
-/* ---- iobufs_frames (Frames): frames, each a header and a body, of bytes that come in chunks. The header is a length, unless
- * iobufs_frames_set_layout says otherwise ---- */
+/* ---- iobufs_frames (Frames): frames, each a header and a body, of bytes that come in chunks. The header is a length,
+ * unless iobufs_frames_set_layout says otherwise ---- */
 
 /* The library's size of a `struct iobufs_frames`. */
 size_t iobufs_frames_size(void);
@@ -516,7 +516,7 @@ size_t iobufs_frames_size(void);
 void iobufs_frames_init(struct iobufs_frames *at);
 /* Drops what was fed; nothing is left, and lengths are varints. (Drop) */
 void iobufs_frames_drop(struct iobufs_frames_at *frames);
-/* Says how lengths are written from the next frame on, by an `enum iobufs_prefix`. (own)
+/* Says how lengths are written from the next frame on, by an `enum iobufs_prefix`. Headers have nothing else then. (own)
  * Fails: IOBUFS_BAD_KIND if it is none. */
 IOBUFS_CHECKED iobufs_status iobufs_frames_set_prefix(struct iobufs_frames_at *frames, uint8_t prefix);
 /* Says how headers are laid out from the next frame on. (own)
@@ -531,9 +531,10 @@ IOBUFS_CHECKED iobufs_status iobufs_frames_rest(const struct iobufs_frames_at *f
  * Fails: IOBUFS_TOO_LONG if the length would pass SIZE_MAX; IOBUFS_MEMORY if the list of chunks has to grow.
  * Keeps: both. */
 IOBUFS_CHECKED iobufs_status iobufs_frames_feed(struct iobufs_frames_at *frames, struct iobuf_at *view);
-/* Takes the body of the first frame, which has from lo to hi bytes: shared within a chunk, a copy across chunks. Writes the
- * length in the header to `wrong` if its body is outside, or if it is less than `counts`. No further bytes make a frame whole after IOBUFS_INVALID_VARINT or
- * IOBUFS_INVALID_LENGTH. A loop of iobufs_frames_feed and this call is `Frames::run`. (own)
+/* Takes the body of the first frame, which has from lo to hi bytes: shared within a chunk, a copy across chunks. Writes
+ * the number in the header to `wrong` if the body would be outside, or the number is below `counts`. No further bytes
+ * make a frame whole after IOBUFS_INVALID_VARINT or IOBUFS_INVALID_LENGTH. A loop of iobufs_frames_feed and this call is
+ * `Frames::run`. (own)
  * Fails: IOBUFS_END_OF_BUFFER if it is not whole yet; IOBUFS_INVALID_VARINT if its length is invalid;
  *   IOBUFS_INVALID_LENGTH if its length is outside; IOBUFS_MEMORY, for the copy.
  * Keeps: both. */
