@@ -19,13 +19,13 @@ use Rattle.std.specs.Prelude.{◌≡◌, ℕ, ◌==◌, if◌then◌else◌, Opt
 use Rattle.std.specs.Option.{option_map}
 use Rattle.std.specs.contracts.option.Option.{the_row as option_row}
 use Rattle.iobufs_core.specs.MarkedText.{MarkedText, default_text}
-use Rattle.iobufs_core.specs.View.{View}
+use Rattle.iobufs_core.specs.View.{View, view_of_bytes}
 use Rattle.iobufs_core.specs.declared.codec.base.Error.{Error}
 use Rattle.iobufs_core.specs.declared.codec.base.Error.TheVariants as error
 use Rattle.iobufs_core.specs.declared.codec.base.RangeCfg.{RangeCfg}
 use Rattle.iobufs_frames.specs.Frames.{HasFrameSize, IsCutFrom, IsSplitFrom, MatchTaken, Parts, Takes, has_bytes, header_written, is_any, is_body, is_whole}
 use Rattle.iobufs_frames.specs.Prefixes.{bare}
-use Rattle.iobufs_frames.specs.Receiving.{KeepsSpace, ReceivedBytes, none_received, shares_block}
+use Rattle.iobufs_frames.specs.Receiving.{KeepsSpace, ReceivedBytes, none_received}
 use Rattle.iobufs_frames.specs.contracts.block.Received.{the_row as of_received}
 use Rattle.iobufs_frames.specs.declared.Frames.{Frames}
 use Rattle.iobufs_frames.specs.declared.lengths.Layout.{Layout}
@@ -116,20 +116,20 @@ TakesWholeOf range old new code out now wrong length =
     TakesOf (is_whole old.layout (λ text. text.bytes)) is_any (λ had has whole. IsSplitFrom had has whole.1) range old new
     code out now wrong length
 
--- the first frame is taken so from a receive block, and what is taken `shares` it
-pub record ReceivesBy {T : Type 0} (gives : Parts → T → Type 0) (needs : Parts → Type 0) (shares : T → Type 0)
+-- the first frame is taken so from a receive block, as a view of a `Bytes`
+pub record ReceivesBy {T : Type 0} (gives : Parts → T → Type 0) (needs : Parts → Type 0) (view : T → View)
     (range : RangeCfg) (old new : Option ReceivedBytes) (code : ℕ) (out now : T) (wrong length : ℕ) : Type 0 where
   pub found : Result (Option T) Error
   pub told : IsTold found code out now wrong length
   pub next : Takes gives needs (received_or_none old).layout range (received_or_none old).bytes found (received_or_none new).bytes
   pub rest : MatchTaken found (λ taken. AreBoth (λ had has. (has.layout ≡ had.layout) × KeepsSpace had has) old new
-      × shares taken) (new ≡ old)
+      × (view taken ≡ view_of_bytes (view taken).bytes)) (new ≡ old)
 
 abbrev pub TakesReceived : RangeCfg → Option ReceivedBytes → Option ReceivedBytes → ℕ → View → View → ℕ → ℕ → Type 0
 TakesReceived range old new code out now wrong length =
-    ReceivesBy is_body has_bytes shares_block range old new code out now wrong length
+    ReceivesBy is_body has_bytes (λ body. body) range old new code out now wrong length
 
 abbrev pub TakesWholeReceived : RangeCfg → Option ReceivedBytes → Option ReceivedBytes → ℕ → ℕ × View → ℕ × View → ℕ → ℕ → Type 0
 TakesWholeReceived range old new code out now wrong length =
-    ReceivesBy (is_whole (received_or_none old).layout (λ view. view.bytes)) is_any (λ whole. shares_block whole.1) range old new
+    ReceivesBy (is_whole (received_or_none old).layout (λ view. view.bytes)) is_any (λ whole. whole.1) range old new
     code out now wrong length

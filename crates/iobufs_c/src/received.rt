@@ -2,9 +2,10 @@
 ghost use Rattle.std.specs.Prelude.{◌≡◌, ◌⊎◌, ◌≤◌, ◌<◌, ◌==◌, if◌then◌else◌, length, nat_le, Option, Some, None, false, IfNone, IfSome};
 ghost use Rattle.std.specs.Borrow.{sem, Lends, full_share};
 ghost use Rattle.std.specs.Ptr.{lies_at, room_at};
+ghost use Rattle.iobufs_core.specs.View.{view_of_bytes};
 ghost use Rattle.iobufs_frames.specs.Frames.{MatchTaken, TakesFirst, TakesWhole};
 ghost use Rattle.iobufs_frames.specs.Prefixes.{bare};
-ghost use Rattle.iobufs_frames.specs.Receiving.{HasReceived, KeepsSpace, ReceivedBytes, none_received, shares_block};
+ghost use Rattle.iobufs_frames.specs.Receiving.{HasReceived, KeepsSpace, ReceivedBytes, none_received};
 ghost use Rattle.iobufs_c.specs.Codes.{IsDoneUnless, code_of};
 ghost use Rattle.iobufs_c.specs.FrameRows.{AreBoth, TakesReceived, TakesWholeReceived, layout_from_c, prefix_from_c, received_or_none, received_row};
 
@@ -215,7 +216,7 @@ fn next_of(received: &mut Option<Received>, range: &RangeCfg) -> Result<Option<I
     ensures next { TakesFirst (received_or_none received.old).layout range.now (received_or_none received.old).bytes
         result (received_or_none received.new).bytes }
     ensures left { MatchTaken result (λ body. AreBoth (λ had has. (has.layout ≡ had.layout) × KeepsSpace had has)
-        received.old received.new × shares_block body) (received.new ≡ received.old) }
+        received.old received.new × (body ≡ view_of_bytes body.bytes)) (received.new ≡ received.old) }
 {
     match received {
         Some(received) => received.next(range),
@@ -252,7 +253,7 @@ fn next_whole_of(
     ensures next { TakesWhole (λ view. view.bytes) (received_or_none received.old).layout range.now
         (received_or_none received.old).bytes result (received_or_none received.new).bytes }
     ensures left { MatchTaken result (λ whole. AreBoth (λ had has. (has.layout ≡ had.layout) × KeepsSpace had has)
-        received.old received.new × shares_block whole.1) (received.new ≡ received.old) }
+        received.old received.new × (whole.1 ≡ view_of_bytes whole.1.bytes)) (received.new ≡ received.old) }
 {
     match received {
         Some(received) => received.next_whole(range),
