@@ -781,6 +781,36 @@ static void buffer_numbers(void) {
     iobuf_drop(&view);
 }
 
+/* Parts of three bytes each: what is written to the addresses of a list, as readv does, is read after the first `gone`. */
+static void check_read(size_t count, size_t gone) {
+    PARTS(parts);
+    struct iobufmut memory[5];
+    struct iobufmut_at places[5];
+    struct iobufs_iovec list[5];
+    uint8_t got[15];
+    size_t chunks = count - gone / 3, n = 3 * count - gone;
+    for (size_t i = 0; i < count; i++) {
+        places[i].at = &memory[i];
+        iobufmut_init(places[i].at);
+        OK(iobufmut_with_capacity(3, &places[i]));
+    }
+    OK(iobufsmut_from_parts(places, count, &parts));
+    OK(iobufsmut_set_len(&parts, 3 * count));
+    OK(iobufsmut_advance(&parts, gone));
+    CHECK(iobufsmut_chunks(&parts, list, 5) == chunks);
+    for (size_t i = 0; i < chunks; i++) memset((uint8_t *)list[i].base, 'a' + (int)i, list[i].len);
+    OK(iobufsmut_copy_to_slice(&parts, got, n));
+    CHECK(!memcmp(got, "aabbbcccdddeee", n));
+    iobufsmut_drop(&parts);
+}
+
+static void parts_read(void) {
+    for (size_t count = 1; count <= 5; count++) {
+        check_read(count, 1);
+        if (count > 1) check_read(count, 4);
+    }
+}
+
 /* Numbers that are cut by the ends of parts, and then of chunks. */
 static void parts_numbers(void) {
     PARTS(parts); TEXT(text);
@@ -1009,7 +1039,7 @@ int main(void) {
     buffer_of_none(); buffer_puts(); buffer_writes(); buffer_drains(); buffer_freezes(); buffer_from_views();
     text_chunks(); text_lists(); text_slices(); text_truncates(); text_cuts(); text_copies_out(); text_takes();
     text_single(); text_append_all();
-    parts_of_few(); parts_put(); parts_drain(); parts_coalesce();
+    parts_of_few(); parts_put(); parts_read(); parts_drain(); parts_coalesce();
     builders();
     text_lengths(); view_lengths();
     buffer_numbers(); parts_numbers(); builder_numbers();

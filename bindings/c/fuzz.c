@@ -276,8 +276,8 @@ static size_t came_len;
 static struct iobufs_received received_memory;
 static struct iobufs_received_at received_at;
 
-/* Bodies that were taken of what was received. */
-static struct { uint8_t bytes[BODY]; size_t len; } kept[VIEWS];
+/* Frames that were taken of what was received, with their headers or without. */
+static struct { uint8_t bytes[10 + BODY]; size_t len; } kept[VIEWS];
 static struct iobuf kept_memory[VIEWS];
 static struct iobuf_at kept_at[VIEWS];
 
@@ -1001,8 +1001,24 @@ static void frames_take(int view) {
     CHECK(iobufs_frames_len(&frames_at) == text_len(&frames));
 }
 
-static void frames_call(int view) {
+/* The first frame with its header is the first bytes that were fed, in their chunks. */
+static void frames_take_whole(int text) {
+    uint8_t all[PIECES * MOST];
+    size_t at, body, header, wrong;
+    bytes_of(&frames, all);
+    iobufs_status status = iobufs_frames_next_whole(&frames_at, 0, BODY, &text_at[text], &header, &wrong);
+    CHECK(status == front_of(all, text_len(&frames), &at, &body));
+    if (status == IOBUFS_OK) {
+        CHECK(header == at);
+        replace_text(text, split(&frames, at + body));
+    }
+    same_text(text);
+    CHECK(iobufs_frames_len(&frames_at) == text_len(&frames));
+}
+
+static void frames_call(int view, int text) {
     if (below(2) && frames.count < MOST_FED) frames_feed(view);
+    else if (below(2)) frames_take_whole(text);
     else frames_take(view);
 }
 
@@ -1028,13 +1044,18 @@ static void received_fill(void) {
     came_len += n;
 }
 
+/* A frame is taken with its header or without. */
 static void received_take(int i) {
-    size_t at, body, wrong;
-    iobufs_status status = iobufs_received_next(&received_at, 0, BODY, &kept_at[i], &wrong);
+    size_t at, body, header, wrong;
+    const int whole = below(2) == 0;
+    iobufs_status status = whole ? iobufs_received_next_whole(&received_at, 0, BODY, &kept_at[i], &header, &wrong)
+                                 : iobufs_received_next(&received_at, 0, BODY, &kept_at[i], &wrong);
     CHECK(status == front_of(came, came_len, &at, &body));
     if (status == IOBUFS_OK) {
-        kept[i].len = body;
-        memcpy(kept[i].bytes, came + at, body);
+        const size_t from = whole ? 0 : at;
+        CHECK(!whole || header == at);
+        kept[i].len = at + body - from;
+        memcpy(kept[i].bytes, came + from, kept[i].len);
         came_len -= at + body;
         memmove(came, came + at + body, came_len);
     } else if (status != IOBUFS_END_OF_BUFFER) {
@@ -1095,7 +1116,7 @@ static void any_call(void) {
     case 6: case 7: case 8: text_call(text, other_than(text, TEXTS), i); break;
     case 9: row_call((int)below(ROWS), text, i); break;
     case 10: builder_call(text, i); break;
-    case 11: frames_call(i); break;
+    case 11: frames_call(i, text); break;
     case 12: received_call(i); break;
     }
 }

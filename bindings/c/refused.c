@@ -99,11 +99,19 @@ static iobufs_status next(struct made *m) {
     size_t wrong;
     return iobufs_frames_next(&m->frames, 0, 99, &m->out_view, &wrong);
 }
+static iobufs_status next_whole(struct made *m) {
+    size_t header, wrong;
+    return iobufs_frames_next_whole(&m->frames, 0, 99, &m->out_text, &header, &wrong);
+}
 static iobufs_status rest(struct made *m) { return iobufs_frames_rest(&m->frames, &m->out_text); }
 static iobufs_status space(struct made *m) { uint8_t *at; size_t n; return iobufs_frames_space(&m->fresh, &at, &n); }
 static iobufs_status received(struct made *m) {
     size_t wrong;
     return iobufs_received_next(&m->received, 0, 99, &m->out_view, &wrong);
+}
+static iobufs_status received_whole(struct made *m) {
+    size_t header, wrong;
+    return iobufs_received_next_whole(&m->received, 0, 99, &m->out_view, &header, &wrong);
 }
 static iobufs_status read_view(struct made *m) { return iobufs_read_view(&m->text, 0, 99, &m->out_view); }
 static iobufs_status view_read(struct made *m) { return iobuf_read_view(&m->view, 0, 99, &m->out_view); }
@@ -172,9 +180,11 @@ static const struct { const char *name; run *call; kept *stays; } cases[] = {
     { "finish", finish, given_up },
     { "feed", feed, frames_stay },
     { "next", next, frames_stay },
+    { "next_whole", next_whole, frames_stay },
     { "rest", rest, frames_stay },
     { "space", space, received_stays },
     { "received next", received, received_stays },
+    { "received next_whole", received_whole, received_stays },
     { "read_view", read_view, text_stays },
     { "view read_view", view_read, view_stays },
 };

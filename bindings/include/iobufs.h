@@ -44,7 +44,7 @@
 #define IOBUFS_H
 
 /* The version of this header, of the archive and of the Rust crate. It models commonware-runtime 2026.10.0. */
-#define IOBUFS_VERSION "0.2.0"
+#define IOBUFS_VERSION "0.3.0"
 
 #include <stdbool.h>
 #include <stddef.h>
@@ -146,6 +146,11 @@ enum iobufs_prefix {
     IOBUFS_U16_LE = 4, IOBUFS_U32_LE = 5, IOBUFS_U64_LE = 6,
     IOBUFS_U8 = 7, IOBUFS_U24_BE = 8, IOBUFS_U24_LE = 9
 };
+
+/* How a frame's header is laid out: `before` bytes, the length, written as an `enum iobufs_prefix`, and `after` bytes, which the
+ * body follows. The length counts the bytes of the body and `counts` more: 0 if it counts the body alone, 4 if it is a number of
+ * four bytes that counts itself. A header that is its length alone is `{ .prefix = IOBUFS_U32_BE }`. */
+struct iobufs_layout { uint8_t before, prefix, after, counts; };
 
 /* ---- iobuf (IoBuf): a view of bytes, which shares their storage with its clones and slices ---- */
 
@@ -502,7 +507,8 @@ IOBUFS_CHECKED iobufs_status iobufs_get_u32(struct iobufs_at *bufs, uint32_t *ou
  * Keeps: both. */
 IOBUFS_CHECKED iobufs_status iobufs_get_u64(struct iobufs_at *bufs, uint64_t *out);
 
-/* ---- iobufs_frames (Frames): frames, each a length and a body, of bytes that come in chunks ---- */
+/* ---- iobufs_frames (Frames): frames, each a header and a body, of bytes that come in chunks. The header is a length,
+ * unless iobufs_frames_set_layout says otherwise ---- */
 
 /* The library's size of a `struct iobufs_frames`. */
 size_t iobufs_frames_size(void);
@@ -510,9 +516,12 @@ size_t iobufs_frames_size(void);
 void iobufs_frames_init(struct iobufs_frames *at);
 /* Drops what was fed; nothing is left, and lengths are varints. (Drop) */
 void iobufs_frames_drop(struct iobufs_frames_at *frames);
-/* Says how lengths are written from the next frame on, by an `enum iobufs_prefix`. (own)
+/* Says how lengths are written from the next frame on, by an `enum iobufs_prefix`. Headers have nothing else then. (own)
  * Fails: IOBUFS_BAD_KIND if it is none. */
 IOBUFS_CHECKED iobufs_status iobufs_frames_set_prefix(struct iobufs_frames_at *frames, uint8_t prefix);
+/* Says how headers are laid out from the next frame on. (own)
+ * Fails: IOBUFS_BAD_KIND if `layout->prefix` is no `enum iobufs_prefix`. */
+IOBUFS_CHECKED iobufs_status iobufs_frames_set_layout(struct iobufs_frames_at *frames, const struct iobufs_layout *layout);
 /* How many bytes were fed and not taken. (own) */
 size_t iobufs_frames_len(const struct iobufs_frames_at *frames);
 /* The bytes that were fed and not taken, in their storage. (own)
@@ -522,14 +531,22 @@ IOBUFS_CHECKED iobufs_status iobufs_frames_rest(const struct iobufs_frames_at *f
  * Fails: IOBUFS_TOO_LONG if the length would pass SIZE_MAX; IOBUFS_MEMORY if the list of chunks has to grow.
  * Keeps: both. */
 IOBUFS_CHECKED iobufs_status iobufs_frames_feed(struct iobufs_frames_at *frames, struct iobuf_at *view);
-/* Takes the first frame, whose length is from lo to hi: shared within a chunk, a copy across chunks. Writes the
- * length that is outside to `wrong`. No further bytes make a frame whole after IOBUFS_INVALID_VARINT or
- * IOBUFS_INVALID_LENGTH. A loop of iobufs_frames_feed and this call is `Frames::run`. (own)
+/* Takes the body of the first frame, which has from lo to hi bytes: shared within a chunk, a copy across chunks. Writes
+ * the number in the header to `wrong` if the body would be outside, or the number is below `counts`. No further bytes
+ * make a frame whole after IOBUFS_INVALID_VARINT or IOBUFS_INVALID_LENGTH. A loop of iobufs_frames_feed and this call is
+ * `Frames::run`. (own)
  * Fails: IOBUFS_END_OF_BUFFER if it is not whole yet; IOBUFS_INVALID_VARINT if its length is invalid;
  *   IOBUFS_INVALID_LENGTH if its length is outside; IOBUFS_MEMORY, for the copy.
  * Keeps: both. */
 IOBUFS_CHECKED iobufs_status iobufs_frames_next(struct iobufs_frames_at *frames, size_t lo, size_t hi, struct iobuf_at *out,
     size_t *wrong);
+/* Takes the first frame with its header, as iobufs_frames_next takes its body, and writes how many bytes the header has to
+ * `header`. Its chunks share their storage: no byte is copied. (own)
+ * Fails: IOBUFS_END_OF_BUFFER if it is not whole yet; IOBUFS_INVALID_VARINT if its length is invalid;
+ *   IOBUFS_INVALID_LENGTH if its length is outside; IOBUFS_MEMORY, for the deque.
+ * Keeps: both, and `header`. */
+IOBUFS_CHECKED iobufs_status iobufs_frames_next_whole(struct iobufs_frames_at *frames, size_t lo, size_t hi, struct iobufs_at *out,
+    size_t *header, size_t *wrong);
 
 /* Writes a body's length n, which is sent before the body, as an `enum iobufs_prefix` to `out`, and its size to
  * `len`: at most ten bytes. (own)
@@ -537,6 +554,14 @@ IOBUFS_CHECKED iobufs_status iobufs_frames_next(struct iobufs_frames_at *frames,
  *   it doesn't fit into `room` bytes.
  * Keeps: `out` and `len`. */
 IOBUFS_CHECKED iobufs_status iobufs_frames_head(uint8_t prefix, size_t n, uint8_t *out, size_t room, size_t *len);
+/* Writes the header of a body of n bytes, which is sent before it, to `out`, and its size to `len`: at most 32 bytes. The
+ * `count` bytes of `around` are those around its length: the first `layout->before` come before it, the others after. (own)
+ * Fails: IOBUFS_BAD_KIND if `layout->prefix` is unknown; IOBUFS_TOO_LONG if `count` isn't `before` and `after` together, or is
+ *   above 22, if the length can't be written so, or if header and body would pass SIZE_MAX; IOBUFS_OUT_OF_RANGE if the header
+ *   doesn't fit into `room` bytes.
+ * Keeps: `out` and `len`. */
+IOBUFS_CHECKED iobufs_status iobufs_frames_header(const struct iobufs_layout *layout, const uint8_t *around, size_t count, size_t n,
+    uint8_t *out, size_t room, size_t *len);
 
 /* ---- iobufs_received (Received): frames of bytes that are read into one block. None reads as one that holds nothing ---- */
 
@@ -549,6 +574,12 @@ void iobufs_received_drop(struct iobufs_received_at *received);
 /* An empty receive block of frames whose lengths are written as an `enum iobufs_prefix`. (own)
  * Fails: IOBUFS_BAD_KIND if it is none. */
 IOBUFS_CHECKED iobufs_status iobufs_received_new(uint8_t prefix, struct iobufs_received_at *out);
+/* An empty receive block of frames whose headers are laid out so. (own)
+ * Fails: IOBUFS_BAD_KIND if `layout->prefix` is no `enum iobufs_prefix`. */
+IOBUFS_CHECKED iobufs_status iobufs_received_with_layout(const struct iobufs_layout *layout, struct iobufs_received_at *out);
+/* Says how headers are laid out from the next frame on. (own)
+ * Fails: IOBUFS_BAD_KIND if `layout->prefix` is no `enum iobufs_prefix`; IOBUFS_DECLINED if there is no receive block. */
+IOBUFS_CHECKED iobufs_status iobufs_received_set_layout(struct iobufs_received_at *received, const struct iobufs_layout *layout);
 /* How many bytes came and were not taken. (own) */
 size_t iobufs_received_len(const struct iobufs_received_at *received);
 /* Lends the space for a read: writes its address to `out`, and to `n` how many bytes it has, at least one. They are
@@ -561,15 +592,22 @@ IOBUFS_CHECKED iobufs_status iobufs_frames_space(struct iobufs_received_at *rece
  * Fails: IOBUFS_OUT_OF_RANGE if it has fewer.
  * Keeps: the block. */
 IOBUFS_CHECKED iobufs_status iobufs_frames_filled(struct iobufs_received_at *received, size_t n);
-/* Takes the first frame, whose length is from lo to hi. Its body shares the block, and keeps its own frame or 64 KiB,
+/* Takes the body of the first frame, which has from lo to hi bytes. It shares the block, and keeps its own frame or 64 KiB,
  * whichever is more. It is copied only out of a block above 64 KiB of another size than its frame: call this after each
- * read, and a block gets the size of its frame. Writes the length that is outside to `wrong`, as iobufs_frames_next
+ * read, and a block gets the size of its frame. Writes a length that is outside to `wrong`, as iobufs_frames_next
  * does. (own)
  * Fails: IOBUFS_END_OF_BUFFER if it is not whole yet; IOBUFS_INVALID_VARINT if its length is invalid;
  *   IOBUFS_INVALID_LENGTH if its length is outside; IOBUFS_MEMORY, for the copy, and in the kit's build for a count.
  * Keeps: both. */
 IOBUFS_CHECKED iobufs_status iobufs_received_next(struct iobufs_received_at *received, size_t lo, size_t hi, struct iobuf_at *out,
     size_t *wrong);
+/* Takes the first frame with its header, as iobufs_received_next takes its body, and writes how many bytes the header has to
+ * `header`. (own)
+ * Fails: IOBUFS_END_OF_BUFFER if it is not whole yet; IOBUFS_INVALID_VARINT if its length is invalid;
+ *   IOBUFS_INVALID_LENGTH if its length is outside; IOBUFS_MEMORY, for the copy, and in the kit's build for a count.
+ * Keeps: both, and `header`. */
+IOBUFS_CHECKED iobufs_status iobufs_received_next_whole(struct iobufs_received_at *received, size_t lo, size_t hi,
+    struct iobuf_at *out, size_t *header, size_t *wrong);
 
 /* ---- little-endian numbers: put swapped, as in iobufmut_put_u32(&part, iobufs_swap32(n)), and swapped after a read ---- */
 

@@ -360,6 +360,20 @@ impl IoBufsMut {
         }
     }
 
+    /// Returns the address of the readable bytes of a buffer by its index, also of none, to write there (own, for
+    /// layers).
+    pub fn part_ptr(&mut self, i: usize) -> *mut u8
+        requires { i < length self.old }
+        ensures address { result ≡ null_ptr → ⊥ }
+        ensures same { self.new ≡ self.old }
+    {
+        match &mut self.shape {
+            Shape::One(part) => address_mut(part.as_mut()),
+            Shape::Few(parts) => parts.part_ptr(i),
+            Shape::Many(parts) => parts.part_ptr(i),
+        }
+    }
+
     /// Converts the buffers that hold bytes into the chunks of an `IoBufs` (`IoBufsMut::freeze`).
     /// If allocation fails, returns `BufError::Memory` and drops the buffers.
     #[tactic(auto, using(crate::proofs::Parts::Frozen::freezing, crate::proofs::Parts::FewLaws::freezing_few))]

@@ -1,31 +1,41 @@
 -- The state of a handle's frames, and of a receive block's handle.
 --     default_frames      nothing was fed, and lengths are varints
---     prefix_from_c       how lengths are written, as C says it
+--     prefix_from_c,      how lengths are written, and how headers are laid out, as C says it
+--     layout_from_c
+--     HasHeader,          so many bytes can follow a header with these bytes around its length; and that header
+--     header_for
 --     received_row        what the memory holds: a receive block, or none
 --     received_or_none    what the handle shows: none reads as one that holds nothing, with varints
 --     AreBoth             a receive block became another one; none stays none
---     IsTold              the status of taking a frame, the view and the invalid length that are written
---     TakesFrameOf,       so of frames, and of a receive block: the first frame is taken, and nothing else changes
---     TakesReceived
+--     length_told         the invalid length that is written
+--     IsTold              the status of taking a frame, and what is written
+--     TakesOf, ReceivesBy the first frame is taken from frames, and from a receive block, and nothing else changes
+--     TakesFrameOf,       so as its body; and with its header
+--     TakesWholeOf,
+--     TakesReceived,
+--     TakesWholeReceived
 use denote.RattleType.{RattleType}
-use Rattle.std.specs.Prelude.{◌≡◌, ℕ, ◌==◌, if◌then◌else◌, Option, Some, None, Result, Ok, Err}
+use Rattle.std.specs.Prelude.{◌≡◌, ℕ, ◌==◌, if◌then◌else◌, Option, Some, None, Result, Ok, Err, List, take, drop, replicate}
+use Rattle.std.specs.Option.{option_map}
 use Rattle.std.specs.contracts.option.Option.{the_row as option_row}
-use Rattle.iobufs_core.specs.MarkedText.{default_text}
+use Rattle.iobufs_core.specs.MarkedText.{MarkedText, default_text}
 use Rattle.iobufs_core.specs.View.{View, view_of_bytes}
 use Rattle.iobufs_core.specs.declared.codec.base.Error.{Error}
 use Rattle.iobufs_core.specs.declared.codec.base.Error.TheVariants as error
 use Rattle.iobufs_core.specs.declared.codec.base.RangeCfg.{RangeCfg}
-use Rattle.iobufs_frames.specs.Frames.{IsCutFrom, MatchTaken, TakesFirst}
+use Rattle.iobufs_frames.specs.Frames.{HasFrameSize, IsCutFrom, IsSplitFrom, MatchTaken, Parts, Takes, has_bytes, header_written, is_any, is_body, is_whole}
 use Rattle.iobufs_frames.specs.Prefixes.{bare}
 use Rattle.iobufs_frames.specs.Receiving.{KeepsSpace, ReceivedBytes, none_received}
 use Rattle.iobufs_frames.specs.contracts.block.Received.{the_row as of_received}
 use Rattle.iobufs_frames.specs.declared.Frames.{Frames}
+use Rattle.iobufs_frames.specs.declared.lengths.Layout.{Layout}
 use Rattle.iobufs_frames.specs.declared.lengths.Prefix.{Prefix}
 use Rattle.iobufs_frames.specs.declared.lengths.Prefix.TheVariants.{Spelled, Fixed}
 use Rattle.iobufs_frames.specs.declared.lengths.Width.TheVariants.{U8, U16, U24, U32, U64}
 use Rattle.iobufs_frames.specs.declared.lengths.ByteOrder.TheVariants.{Big, Little}
 use Rattle.iobufs_c.specs.Codes.{code_of, of_error}
-use Rattle.iobufs_c.specs.declared.status.Status.TheVariants.{EndOfBuffer, InvalidLength}
+use Rattle.iobufs_c.specs.declared.layouts.LayoutInC.{LayoutInC}
+use Rattle.iobufs_c.specs.declared.status.Status.TheVariants.{EndOfBuffer}
 
 -- nothing was fed, and lengths are varints
 abbrev pub default_frames : Frames
@@ -46,6 +56,20 @@ prefix_from_c kind =
     else if kind == 9 then Some (Fixed U24 Little)
     else None
 
+-- a header whose length is of such a kind
+abbrev pub layout_from_c : LayoutInC → Option Layout
+layout_from_c said = option_map
+    (λ prefix. record { before = said.before; prefix = prefix; after = said.after; counts = said.counts }) (prefix_from_c said.prefix)
+
+-- the first of these bytes come before a length, as many as the layout has there, and the others after it
+abbrev pub HasHeader : Layout → List ℕ → ℕ → Type 0
+HasHeader layout around n = HasFrameSize layout (take layout.before around) (drop layout.before around) n
+
+-- the header of a body of n bytes, whichever they are
+abbrev pub header_for : Layout → List ℕ → ℕ → List ℕ
+header_for layout around n =
+    header_written layout (record { before = take layout.before around; after = drop layout.before around; body = replicate n 0 })
+
 -- a receive block, or none
 abbrev pub received_row : RattleType
 received_row = option_row of_received
@@ -62,24 +86,50 @@ AreBoth R (Some old) None = ⊥
 AreBoth R None (Some new) = ⊥
 AreBoth R None None = Unit {0}
 
--- the status of taking a frame, the view that it is written to, and the length that can't be one
-abbrev pub IsTold : Result (Option View) Error → ℕ → View → View → ℕ → ℕ → Type 0
-IsTold (Ok (Some body)) code out now wrong length = (code ≡ 0) × (now ≡ body) × (length ≡ wrong)
+-- the invalid length that is written, if it is that
+abbrev pub length_told : Error → ℕ → ℕ
+length_told (error.InvalidLength n) wrong = n
+length_told error wrong = wrong
+
+-- the status of taking a frame, what it is written over, and the length that can't be one
+abbrev pub IsTold : {T : Type 0} → Result (Option T) Error → ℕ → T → T → ℕ → ℕ → Type 0
+IsTold (Ok (Some taken)) code out now wrong length = (code ≡ 0) × (now ≡ taken) × (length ≡ wrong)
 IsTold (Ok None) code out now wrong length = (code ≡ code_of EndOfBuffer) × (now ≡ out) × (length ≡ wrong)
-IsTold (Err (error.InvalidLength n)) code out now wrong length = (code ≡ code_of InvalidLength) × (now ≡ out) × (length ≡ n)
-IsTold (Err error) code out now wrong length = (code ≡ code_of (of_error error)) × (now ≡ out) × (length ≡ wrong)
+IsTold (Err error) code out now wrong length = (code ≡ code_of (of_error error)) × (now ≡ out) × (length ≡ length_told error wrong)
 
--- the first frame is taken from frames; the body is the view after its length, of its piece
-pub record TakesFrameOf (range : RangeCfg) (old new : Frames) (code : ℕ) (out now : View) (wrong length : ℕ) : Type 0 where
-  pub found : Result (Option View) Error
+-- the first frame is taken from frames, as something that `gives` relates to it; `cut` says how it was part of their chunks
+pub record TakesOf {T : Type 0} (gives : Parts → T → Type 0) (needs : Parts → Type 0) (cut : MarkedText → MarkedText → T → Type 0)
+    (range : RangeCfg) (old new : Frames) (code : ℕ) (out now : T) (wrong length : ℕ) : Type 0 where
+  pub found : Result (Option T) Error
   pub told : IsTold found code out now wrong length
-  pub next : TakesFirst old.layout range old.rest.bytes found new.rest.bytes
-  pub rest : MatchTaken found (λ body. (new.layout ≡ old.layout) × IsCutFrom old.layout old.rest new.rest body) (new ≡ old)
+  pub next : Takes gives needs old.layout range old.rest.bytes found new.rest.bytes
+  pub rest : MatchTaken found (λ taken. (new.layout ≡ old.layout) × cut old.rest new.rest taken) (new ≡ old)
 
--- the first frame is taken from a receive block; the body shares it
-pub record TakesReceived (range : RangeCfg) (old new : Option ReceivedBytes) (code : ℕ) (out now : View) (wrong length : ℕ) : Type 0 where
-  pub found : Result (Option View) Error
+-- as its body, the view after its header, of its piece
+abbrev pub TakesFrameOf : RangeCfg → Frames → Frames → ℕ → View → View → ℕ → ℕ → Type 0
+TakesFrameOf range old new code out now wrong length =
+    TakesOf is_body has_bytes (IsCutFrom old.layout) range old new code out now wrong length
+
+-- with its header, of so many bytes, in its chunks
+abbrev pub TakesWholeOf : RangeCfg → Frames → Frames → ℕ → ℕ × MarkedText → ℕ × MarkedText → ℕ → ℕ → Type 0
+TakesWholeOf range old new code out now wrong length =
+    TakesOf (is_whole old.layout (λ text. text.bytes)) is_any (λ had has whole. IsSplitFrom had has whole.1) range old new
+    code out now wrong length
+
+-- the first frame is taken so from a receive block, as a view of a `Bytes`
+pub record ReceivesBy {T : Type 0} (gives : Parts → T → Type 0) (needs : Parts → Type 0) (view : T → View)
+    (range : RangeCfg) (old new : Option ReceivedBytes) (code : ℕ) (out now : T) (wrong length : ℕ) : Type 0 where
+  pub found : Result (Option T) Error
   pub told : IsTold found code out now wrong length
-  pub next : TakesFirst (received_or_none old).layout range (received_or_none old).bytes found (received_or_none new).bytes
-  pub rest : MatchTaken found (λ body. AreBoth (λ had has. (has.layout ≡ had.layout) × KeepsSpace had has) old new
-      × (body ≡ view_of_bytes body.bytes)) (new ≡ old)
+  pub next : Takes gives needs (received_or_none old).layout range (received_or_none old).bytes found (received_or_none new).bytes
+  pub rest : MatchTaken found (λ taken. AreBoth (λ had has. (has.layout ≡ had.layout) × KeepsSpace had has) old new
+      × (view taken ≡ view_of_bytes (view taken).bytes)) (new ≡ old)
+
+abbrev pub TakesReceived : RangeCfg → Option ReceivedBytes → Option ReceivedBytes → ℕ → View → View → ℕ → ℕ → Type 0
+TakesReceived range old new code out now wrong length =
+    ReceivesBy is_body has_bytes (λ body. body) range old new code out now wrong length
+
+abbrev pub TakesWholeReceived : RangeCfg → Option ReceivedBytes → Option ReceivedBytes → ℕ → ℕ × View → ℕ × View → ℕ → ℕ → Type 0
+TakesWholeReceived range old new code out now wrong length =
+    ReceivesBy (is_whole (received_or_none old).layout (λ view. view.bytes)) is_any (λ whole. whole.1) range old new
+    code out now wrong length

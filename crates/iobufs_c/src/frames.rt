@@ -7,15 +7,17 @@ ghost use Rattle.iobufs_core.specs.View.{IsFreelyShared, default_view};
 ghost use Rattle.iobufs_frames.specs.Prefixes.{bare, prefix_limit, prefix_written};
 ghost use Rattle.iobufs_frames.specs.contracts.Frames.{the_row as frames_row};
 ghost use Rattle.iobufs_frames.specs.declared.Frames.{Frames as AllFrames};
-ghost use Rattle.iobufs_c.specs.FrameRows.{IsTold, TakesFrameOf, default_frames, prefix_from_c};
-ghost use Rattle.iobufs_c.specs.Codes.{IsDoneUnless, code_of};
+ghost use Rattle.iobufs_c.specs.FrameRows.{IsTold, TakesFrameOf, TakesWholeOf, default_frames, layout_from_c, length_told, prefix_from_c};
+ghost use Rattle.iobufs_c.specs.Codes.{IsDoneUnless, code_of, of_error};
 
+use crate::layouts::{LayoutInC, layout_of, prefix_of};
 use crate::status::{Status, fault, refusal};
 use crate::text::TextAt;
 use crate::view::ViewAt;
+use iobufs::bufs::IoBufs;
 use iobufs_core::buf::IoBuf;
 use iobufs_core::codec::{Error, RangeCfg};
-use iobufs_frames::{ByteOrder, Frames, Layout, Prefix, Width};
+use iobufs_frames::{Frames, Layout};
 use std::alloc::Global;
 use std::marker::{Model, Send};
 use std::mem;
@@ -140,25 +142,6 @@ pub extern "C" fn iobufs_frames_feed(alloc: Global, frames: &mut FramesAt, piece
     }
 }
 
-// The prefix of a kind, if it is known.
-pub(crate) fn prefix_of(kind: u8) -> Option<Prefix>
-    ensures { result ≡ prefix_from_c kind }
-{
-    match kind {
-        0 => Some(Prefix::Spelled),
-        1 => Some(Prefix::Fixed(Width::U16, ByteOrder::Big)),
-        2 => Some(Prefix::Fixed(Width::U32, ByteOrder::Big)),
-        3 => Some(Prefix::Fixed(Width::U64, ByteOrder::Big)),
-        4 => Some(Prefix::Fixed(Width::U16, ByteOrder::Little)),
-        5 => Some(Prefix::Fixed(Width::U32, ByteOrder::Little)),
-        6 => Some(Prefix::Fixed(Width::U64, ByteOrder::Little)),
-        7 => Some(Prefix::Fixed(Width::U8, ByteOrder::Big)),
-        8 => Some(Prefix::Fixed(Width::U24, ByteOrder::Big)),
-        9 => Some(Prefix::Fixed(Width::U24, ByteOrder::Little)),
-        _ => None,
-    }
-}
-
 /// Says how the lengths before the frames are written, from the next frame on. `Status::BadKind` if the kind is
 /// unknown.
 #[unsafe(no_mangle)]
@@ -174,6 +157,24 @@ pub extern "C" fn iobufs_frames_set_prefix(frames: &mut FramesAt, kind: u8) -> u
         return Status::BadKind.code();
     };
     frames.get().layout = Layout::bare(prefix);
+    Status::Done.code()
+}
+
+/// Lays the headers of the frames out so, from the next frame on. `Status::BadKind` if the kind of the prefix is
+/// unknown.
+#[unsafe(no_mangle)]
+pub extern "C" fn iobufs_frames_set_layout(frames: &mut FramesAt, layout: &LayoutInC) -> u8
+    ensures at { frames.new.at ≡ frames.old.at }
+    ensures rest { frames.new.value.rest ≡ frames.old.value.rest }
+    ensures status { (result ≡ 0) ⊎ (result ≡ code_of Status.BadKind) }
+    ensures known { IfSome (layout_from_c layout.now) (λ known. (result ≡ 0) × (frames.new.value.layout ≡ known)) }
+    ensures unknown { IfNone (layout_from_c layout.now) ((result ≡ code_of Status.BadKind)
+        × (frames.new.value ≡ frames.old.value)) }
+{
+    let Some(layout) = layout_of(layout) else {
+        return Status::BadKind.code();
+    };
+    frames.get().layout = layout;
     Status::Done.code()
 }
 
@@ -207,6 +208,17 @@ pub extern "C" fn iobufs_frames_head(prefix: u8, n: usize, out: &mut [u8], len: 
     Status::Done.code()
 }
 
+// The status of an error of taking a frame; an invalid length is written.
+fn told(error: Error, wrong: &mut usize) -> u8
+    ensures code { result ≡ code_of (of_error error) }
+    ensures length { wrong.new ≡ length_told error wrong.old }
+{
+    if let Error::InvalidLength(n) = error {
+        *wrong = n;
+    }
+    fault(error)
+}
+
 // Writes what taking a frame gave, and returns its status.
 pub(crate) fn tell(found: Result<Option<IoBuf>, Error>, out: &mut ViewAt, wrong: &mut usize) -> u8
     ensures at { out.new.at ≡ out.old.at }
@@ -218,11 +230,49 @@ pub(crate) fn tell(found: Result<Option<IoBuf>, Error>, out: &mut ViewAt, wrong:
             Status::Done.code()
         }
         Ok(None) => Status::EndOfBuffer.code(),
-        Err(Error::InvalidLength(n)) => {
-            *wrong = n;
-            Status::InvalidLength.code()
+        Err(error) => told(error, wrong),
+    }
+}
+
+// Acts as `tell` on a frame with its header, in one chunk.
+pub(crate) fn tell_whole(
+    found: Result<Option<(usize, IoBuf)>, Error>,
+    out: &mut ViewAt,
+    header: &mut usize,
+    wrong: &mut usize,
+) -> u8
+    ensures at { out.new.at ≡ out.old.at }
+    ensures told { IsTold found result (header.old, out.old.value) (header.new, out.new.value) wrong.old wrong.new }
+{
+    match found {
+        Ok(Some((size, frame))) => {
+            *header = size;
+            *out.get() = frame;
+            Status::Done.code()
         }
-        Err(error) => fault(error),
+        Ok(None) => Status::EndOfBuffer.code(),
+        Err(error) => told(error, wrong),
+    }
+}
+
+// Acts as `tell_whole` on a frame in several chunks.
+fn tell_chunks(
+    found: Result<Option<(usize, IoBufs)>, Error>,
+    out: &mut TextAt,
+    header: &mut usize,
+    wrong: &mut usize,
+) -> u8
+    ensures at { out.new.at ≡ out.old.at }
+    ensures told { IsTold found result (header.old, out.old.value) (header.new, out.new.value) wrong.old wrong.new }
+{
+    match found {
+        Ok(Some((size, frame))) => {
+            *header = size;
+            *out.get() = frame;
+            Status::Done.code()
+        }
+        Ok(None) => Status::EndOfBuffer.code(),
+        Err(error) => told(error, wrong),
     }
 }
 
@@ -245,4 +295,26 @@ pub extern "C" fn iobufs_frames_next(
 {
     let found = frames.get().next(alloc, &RangeCfg { lo, hi });
     tell(found, out, wrong)
+}
+
+/// Takes the first frame with its header, and writes how many bytes the header has. It has the statuses of
+/// `iobufs_frames_next`, `Status::Memory` also for a frame of several chunks. No byte is copied. Unless a frame is
+/// taken, both handles and `header` are unchanged.
+#[unsafe(no_mangle)]
+pub extern "C" fn iobufs_frames_next_whole(
+    alloc: Global,
+    frames: &mut FramesAt,
+    lo: usize,
+    hi: usize,
+    out: &mut TextAt,
+    header: &mut usize,
+    wrong: &mut usize,
+) -> u8
+    ensures at { (frames.new.at ≡ frames.old.at) × (out.new.at ≡ out.old.at) }
+    ensures next { TakesWholeOf
+        (record { lo = lo; hi = hi }) frames.old.value frames.new.value
+        result (header.old, out.old.value) (header.new, out.new.value) wrong.old wrong.new }
+{
+    let found = frames.get().next_whole(alloc, &RangeCfg { lo, hi });
+    tell_chunks(found, out, header, wrong)
 }

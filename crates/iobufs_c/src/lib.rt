@@ -9,6 +9,7 @@
 pub mod builder;
 pub mod built;
 pub mod frames;
+pub mod layouts;
 pub mod lengths;
 pub mod numbers;
 pub mod part;

@@ -11,7 +11,7 @@ ghost use Rattle.iobufs_c.specs.Rows.{held_parts, parts_of, parts_row};
 
 use crate::part::{PartAt, fits, hand_part};
 use crate::status::{Status, enough, refusal, within};
-use crate::text::{Chunk, TextAt, chunk_of, hand_text};
+use crate::text::{Chunk, TextAt, hand_text};
 use iobufs::bufs::IoBufs;
 use iobufs::bufs_mut::IoBufsMut;
 use iobufs_core::buf::IoBufMut;
@@ -209,12 +209,23 @@ pub extern "C" fn iobufsmut_chunk(parts: &mut PartsAt, out: &mut *mut u8) -> usi
     parts.chunk().len()
 }
 
+// The address of the bytes of a buffer, to write there, and their length.
+fn chunk_at(parts: &mut IoBufsMut, i: usize, len: usize) -> Chunk
+    requires { i < length parts.old }
+    ensures same { parts.new ≡ parts.old }
+    ensures len { result.len ≡ len }
+{
+    let base = parts.part_ptr(i) as *const u8;
+    Chunk { base, len }
+}
+
 // Fills a list with the addresses and lengths of the first chunks of the readable bytes, and returns how many it
 // filled.
-fn fill_chunks(parts: &IoBufsMut, out: &mut [Chunk]) -> usize
-    ensures count { result ≡ min (length out.old) (length (parts_chunks parts.now)) }
+fn fill_chunks(parts: &mut IoBufsMut, out: &mut [Chunk]) -> usize
+    ensures same { parts.new ≡ parts.old }
+    ensures count { result ≡ min (length out.old) (length (parts_chunks parts.old)) }
     ensures lengths { map (λ chunk. chunk.len) (take result out.new) ≡ map length
-        (take result (parts_chunks parts.now)) }
+        (take result (parts_chunks parts.old)) }
     ensures rest { drop result out.new ≡ drop result out.old }
 {
     let mut count = 0;
@@ -224,7 +235,8 @@ fn fill_chunks(parts: &IoBufsMut, out: &mut [Chunk]) -> usize
             return count;
         };
         if !part.is_empty() {
-            out[count] = chunk_of(part.as_ref());
+            let len = part.len();
+            out[count] = chunk_at(parts, i, len);
             count += 1;
         }
         i += 1;

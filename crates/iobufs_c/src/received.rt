@@ -3,13 +3,14 @@ ghost use Rattle.std.specs.Prelude.{◌≡◌, ◌⊎◌, ◌≤◌, ◌<◌, �
 ghost use Rattle.std.specs.Borrow.{sem, Lends, full_share};
 ghost use Rattle.std.specs.Ptr.{lies_at, room_at};
 ghost use Rattle.iobufs_core.specs.View.{view_of_bytes};
-ghost use Rattle.iobufs_frames.specs.Frames.{MatchTaken, TakesFirst};
+ghost use Rattle.iobufs_frames.specs.Frames.{MatchTaken, TakesFirst, TakesWhole};
 ghost use Rattle.iobufs_frames.specs.Prefixes.{bare};
 ghost use Rattle.iobufs_frames.specs.Receiving.{HasReceived, KeepsSpace, ReceivedBytes, none_received};
 ghost use Rattle.iobufs_c.specs.Codes.{IsDoneUnless, code_of};
-ghost use Rattle.iobufs_c.specs.FrameRows.{AreBoth, TakesReceived, prefix_from_c, received_or_none, received_row};
+ghost use Rattle.iobufs_c.specs.FrameRows.{AreBoth, TakesReceived, TakesWholeReceived, layout_from_c, prefix_from_c, received_or_none, received_row};
 
-use crate::frames::{prefix_of, tell};
+use crate::frames::{tell, tell_whole};
+use crate::layouts::{LayoutInC, layout_of, prefix_of};
 use crate::part::fits;
 use crate::status::Status;
 use crate::view::ViewAt;
@@ -99,6 +100,52 @@ pub extern "C" fn iobufs_received_new(alloc: Global, prefix: u8, out: &mut Recei
     };
     *out.get() = Some(Received::new(alloc, prefix));
     Status::Done.code()
+}
+
+/// Makes an empty receive block of frames whose headers are laid out so, as `iobufs_received_new` does of bare lengths.
+#[unsafe(no_mangle)]
+pub extern "C" fn iobufs_received_with_layout(
+    alloc: Global,
+    layout: &LayoutInC,
+    out: &mut ReceivedAt,
+) -> u8
+    ensures at { out.new.at ≡ out.old.at }
+    ensures status { (result ≡ 0) ⊎ (result ≡ code_of Status.BadKind) }
+    ensures known { IfSome (layout_from_c layout.now) (λ known. (result ≡ 0)
+        × (out.new.value ≡ Some (none_received known))) }
+    ensures unknown { IfNone (layout_from_c layout.now) ((result ≡ code_of Status.BadKind)
+        × (out.new.value ≡ out.old.value)) }
+{
+    let Some(layout) = layout_of(layout) else {
+        return Status::BadKind.code();
+    };
+    *out.get() = Some(Received::with_layout(alloc, layout));
+    Status::Done.code()
+}
+
+/// Lays the headers out so from the next frame on. Returns `Status::BadKind` if the kind of the prefix is unknown, else
+/// `Status::Declined` if there is no receive block.
+#[unsafe(no_mangle)]
+pub extern "C" fn iobufs_received_set_layout(received: &mut ReceivedAt, layout: &LayoutInC) -> u8
+    ensures at { received.new.at ≡ received.old.at }
+    ensures known { IfSome (layout_from_c layout.now) (λ known. AreBoth (λ old new. (result ≡ 0)
+        × (new ≡ record old { layout = known })) received.old.value received.new.value) }
+    ensures none { IfSome (layout_from_c layout.now) (λ known. received.old.value ≡ None
+        → result ≡ code_of Status.Declined) }
+    ensures unknown { IfNone (layout_from_c layout.now) ((result ≡ code_of Status.BadKind)
+        × (received.new.value ≡ received.old.value)) }
+    ensures status { (result ≡ 0) ⊎ (result ≡ code_of Status.BadKind) ⊎ (result ≡ code_of Status.Declined) }
+{
+    let Some(layout) = layout_of(layout) else {
+        return Status::BadKind.code();
+    };
+    match received.get() {
+        Some(received) => {
+            received.set_layout(layout);
+            Status::Done.code()
+        }
+        None => Status::Declined.code(),
+    }
 }
 
 /// Returns how many bytes came and were not taken.
@@ -196,4 +243,40 @@ pub extern "C" fn iobufs_received_next(
 {
     let found = next_of(received.get(), &RangeCfg { lo, hi });
     tell(found, out, wrong)
+}
+
+// Takes the first frame with its header, if there is a receive block.
+fn next_whole_of(
+    received: &mut Option<Received>,
+    range: &RangeCfg,
+) -> Result<Option<(usize, IoBuf)>, Error>
+    ensures next { TakesWhole (λ view. view.bytes) (received_or_none received.old).layout range.now
+        (received_or_none received.old).bytes result (received_or_none received.new).bytes }
+    ensures left { MatchTaken result (λ whole. AreBoth (λ had has. (has.layout ≡ had.layout) × KeepsSpace had has)
+        received.old received.new × (whole.1 ≡ view_of_bytes whole.1.bytes)) (received.new ≡ received.old) }
+{
+    match received {
+        Some(received) => received.next_whole(range),
+        None => Ok(None),
+    }
+}
+
+/// Takes the first frame with its header, as `iobufs_received_next` takes its body, and writes how many bytes the
+/// header has. Unless a frame is taken, both handles and `header` are unchanged.
+#[unsafe(no_mangle)]
+pub extern "C" fn iobufs_received_next_whole(
+    received: &mut ReceivedAt,
+    lo: usize,
+    hi: usize,
+    out: &mut ViewAt,
+    header: &mut usize,
+    wrong: &mut usize,
+) -> u8
+    ensures at { (received.new.at ≡ received.old.at) × (out.new.at ≡ out.old.at) }
+    ensures next { TakesWholeReceived
+        (record { lo = lo; hi = hi }) received.old.value received.new.value
+        result (header.old, out.old.value) (header.new, out.new.value) wrong.old wrong.new }
+{
+    let found = next_whole_of(received.get(), &RangeCfg { lo, hi });
+    tell_whole(found, out, header, wrong)
 }

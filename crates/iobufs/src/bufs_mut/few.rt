@@ -430,6 +430,21 @@ impl Few {
         address_mut(self.third.as_mut())
     }
 
+    /// The address of the bytes of a part.
+    pub(super) fn part_ptr(&mut self, i: usize) -> *mut u8
+        ensures address { result ≡ null_ptr → ⊥ }
+        ensures same { self.new ≡ self.old }
+    {
+        let one = count_of(&self.first);
+        if i < one {
+            return address_mut(self.first.as_mut());
+        }
+        if i < one + count_of(&self.second) {
+            return address_mut(self.second.as_mut());
+        }
+        address_mut(self.third.as_mut())
+    }
+
     pub(super) fn byte_at(&self, i: usize) -> Option<u8>
         ensures { result ≡ slice_get (parts_filled self.now) i }
     {

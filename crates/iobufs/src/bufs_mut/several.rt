@@ -278,6 +278,21 @@ impl Several {
         address_mut(self.row[first].as_mut())
     }
 
+    /// The address of the bytes of a part.
+    pub(super) fn part_ptr(&mut self, i: usize) -> *mut u8
+        requires { i < length self.old }
+        ensures address { result ≡ null_ptr → ⊥ }
+        ensures same { self.new ≡ self.old }
+    {
+        let others = self.row.len() - self.used;
+        let at = if i < self.used {
+            others + i
+        } else {
+            i - self.used
+        };
+        address_mut(self.row[at].as_mut())
+    }
+
     #[tactic(auto, using(crate::proofs::Parts::PartChunks::reading))]
     pub(super) fn byte_at(&self, i: usize) -> Option<u8>
         ensures { result ≡ slice_get (parts_filled self.now) i }

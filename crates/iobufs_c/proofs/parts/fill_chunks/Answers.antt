@@ -13,27 +13,29 @@ loop-count-preserved c =
     let i = c.loop-count.i in
     let n = c.loop-count.count in
     let parts = c.args.parts.now in
-    let at = sym c.part_at.ensures ∙ ap option_copied c.in-Some.is in
+    let at = rw inv.same at (sym c.part_at.ensures ∙ ap option_copied c.in-Some.is) in
     let there = slice_get_within parts i c.in-Some.part.now at in
     elim c.if-not-is_empty.branch [
-      | then-not-is_empty w ↦ rw w.out-is (rw w.count-is (record {
+      | then-not-is_empty w ↦ rw w.out-is (rw w.count-is (rw w.parts-is (record {
+        same = w.chunk_at.ensures.same ∙ inv.same;
         size = grind (arith, common_steps, inv.size);
         within = grind (arith, common_steps);
         parts = omega (arith, there);
         lengths = lengths_more (λ chunk. chunk.len) c.loop-count.out (parts_chunks (take i parts)) (parts_chunks (take
-            (i + 1) parts)) n w.chunk_of.result c.in-Some.part.now.filled c.loop-count-test.true (w.chunk_of.ensures
-            ∙ ap length w.as_ref.ensures) (chunks_more parts i c.in-Some.part.now at
+            (i + 1) parts)) n w.chunk_at.result c.in-Some.part.now.filled c.loop-count-test.true (w.chunk_at.ensures.len
+            ∙ w.len-len.ensures) (chunks_more parts i c.in-Some.part.now at
             (sym c.is_empty.ensures ∙ w.if-not-is_empty.true)) inv.lengths;
-        rest = rest_more c.loop-count.out c.args.out.now n w.chunk_of.result (omega arith) inv.rest;
-      }))
-      | else-not-is_empty w ↦ rw w.out-is (rw w.count-is (record {
+        rest = rest_more c.loop-count.out c.args.out.now n w.chunk_at.result (omega arith) inv.rest;
+      })))
+      | else-not-is_empty w ↦ rw w.out-is (rw w.count-is (rw w.parts-is (record {
+        same = inv.same;
         size = inv.size;
         within = inv.within;
         parts = omega (arith, there);
         lengths = inv.lengths ∙ ap (λ pieces. map length pieces) (sym (chunks_same parts i c.in-Some.part.now at (sym c.is_empty.ensures
             ∙ w.if-not-is_empty.false)));
         rest = inv.rest;
-      }))
+      })))
     ]
 
 pub returns-after-loop-count-clause-count : goal.returns-after-loop-count-clause-count
