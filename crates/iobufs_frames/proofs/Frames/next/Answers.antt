@@ -6,16 +6,9 @@ use Rattle.iobufs_core.specs.View.{static_mark}
 use Rattle.iobufs_frames.specs.Frames.{IsCutFrom, IsAtFront, Parts}
 use Rattle.iobufs_frames.specs.Prefixes.{header_size}
 use Rattle.iobufs_frames.proofs.PrefixFacts.{one_length}
-use Rattle.iobufs_frames.proofs.LayoutFacts.{has_body, seen_within, sized}
+use Rattle.iobufs_frames.proofs.LayoutFacts.{has_body, sized}
 use Rattle.iobufs_frames.proofs.PrefixLaws.{taken-with}
 use Rattle.iobufs_frames.proofs.Frames.next.Goals as goal
-
-pub sizes_of-requires : goal.sizes_of-requires
-sizes_of-requires c =
-    let layout = c.args.self.now.layout in
-    let l = c.in-Some.found in
-    let seen = rw c.in-Some.is at c.in_ok-found.ensures.found in
-    omega (arith, seen_within layout c.args.self.now.rest.bytes l.value l.len seen, c.len.ensures.value)
 
 -- the body that was taken
 taken : (c : goal.In-Ok)

@@ -3,15 +3,8 @@ use Rattle.iobufs_core.proofs.CallerFacts.{bytes-split_front}
 use Rattle.iobufs_core.specs.MarkedText.{MarkedText, text_rest, text_split_front}
 use Rattle.iobufs_core.specs.ReadBytes.{bytes-rest}
 use Rattle.iobufs_frames.specs.Frames.{is_any}
-use Rattle.iobufs_frames.proofs.LayoutFacts.{has_frame, seen_within, sized, whole_taken}
+use Rattle.iobufs_frames.proofs.LayoutFacts.{has_frame, sized, whole_taken}
 use Rattle.iobufs_frames.proofs.Frames.next_whole.Goals as goal
-
-pub sizes_of-requires : goal.sizes_of-requires
-sizes_of-requires c =
-    let layout = c.args.self.now.layout in
-    let l = c.in-Some.length in
-    let seen = rw c.in-Some.is at c.in_ok-length.ensures.found in
-    omega (arith, seen_within layout c.args.self.now.rest.bytes l.value l.len seen, c.len.ensures.value)
 
 pub returns-in-Ok-clause-next : goal.returns-in-Ok-clause-next
 returns-in-Ok-clause-next c =

@@ -3,21 +3,9 @@ use Rattle.std.proofs.lemmas.Bool.{false≢true}
 use Rattle.iobufs_core.proofs.LengthFacts.{less}
 use Rattle.iobufs_core.specs.View.{view_of_bytes}
 use Rattle.iobufs_frames.proofs.BlockLaws.{view_taken}
-use Rattle.iobufs_frames.proofs.LayoutFacts.{has_body, seen_within, sized}
+use Rattle.iobufs_frames.proofs.LayoutFacts.{has_body, sized}
 use Rattle.iobufs_frames.specs.Receiving.{ReceivedBytes}
 use Rattle.iobufs_frames.proofs.block.Received.next.Goals as goal
-
-pub sizes_of-requires : goal.sizes_of-requires
-sizes_of-requires c =
-    let l = c.in-Some.found in
-    let seen = rw c.in-Some.is at c.in_ok-found.ensures.found in
-    omega (
-      arith,
-      seen_within c.args.self.now.layout c.args.self.now.bytes l.value l.len seen,
-      c.len.ensures.value,
-      ap (λ (r : ReceivedBytes). length r.bytes) c.self.view_is,
-      ap (λ (r : ReceivedBytes). r.layout.before) c.self.view_is,
-    )
 
 pub returns-in-Ok-clause-next : goal.returns-in-Ok-clause-next
 returns-in-Ok-clause-next c =

@@ -1,22 +1,10 @@
-use Rattle.std.proofs.Common.{ap, arith, length, drop, take, ◌≡◌, ◌+◌, ◌∙◌, List, ℕ}
+use Rattle.std.proofs.Common.{ap, length, drop, take, ◌≡◌, ◌+◌, ◌∙◌, List, ℕ}
 use Rattle.iobufs_core.specs.View.{View}
 use Rattle.iobufs_core.specs.WireLaws.{view_of_bytes-bytes}
-use Rattle.iobufs_frames.proofs.LayoutFacts.{has_frame, seen_within, sized, whole_taken}
+use Rattle.iobufs_frames.proofs.LayoutFacts.{has_frame, sized, whole_taken}
 use Rattle.iobufs_frames.specs.Frames.{is_any}
 use Rattle.iobufs_frames.specs.Receiving.{ReceivedBytes}
 use Rattle.iobufs_frames.proofs.block.Received.next_whole.Goals as goal
-
-pub sizes_of-requires : goal.sizes_of-requires
-sizes_of-requires c =
-    let l = c.in-Some.length in
-    let seen = rw c.in-Some.is at c.in_ok-length.ensures.found in
-    omega (
-      arith,
-      seen_within c.args.self.now.layout c.args.self.now.bytes l.value l.len seen,
-      c.len.ensures.value,
-      ap (λ (r : ReceivedBytes). length r.bytes) c.self.view_is,
-      ap (λ (r : ReceivedBytes). r.layout.before) c.self.view_is,
-    )
 
 pub returns-in-Ok-clause-next : goal.returns-in-Ok-clause-next
 returns-in-Ok-clause-next c =

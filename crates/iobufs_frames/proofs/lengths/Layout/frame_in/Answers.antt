@@ -1,15 +1,9 @@
-use Rattle.std.proofs.Common.{arith, drop, refl, rules, take, ◌+◌}
-use Rattle.iobufs_frames.proofs.LayoutFacts.{seen_within, sized, whole_taken}
+use Rattle.std.proofs.Common.{drop, refl, rules, take, ◌+◌}
+use Rattle.iobufs_frames.proofs.LayoutFacts.{sized, whole_taken}
 use Rattle.iobufs_frames.proofs.lengths.Layout.frame_in.Goals as goal
 
 pub returns-in_err-length-clause-first : goal.returns-in_err-length-clause-first
 returns-in_err-length-clause-first c = (c.args.bytes.now, search rules)
-
-pub sizes_of-requires : goal.sizes_of-requires
-sizes_of-requires c =
-    let l = c.in-Some.length in
-    let seen = rw c.in-Some.is at c.in_ok-length.ensures.found in
-    omega (arith, seen_within c.args.self c.args.bytes.now l.value l.len seen)
 
 pub returns-in_err-parts-clause-first : goal.returns-in_err-parts-clause-first
 returns-in_err-parts-clause-first c = (c.args.bytes.now, search rules)
