@@ -1,13 +1,13 @@
 -- Frames at the front of received bytes.
-use Rattle.std.proofs.Common.{◌≡◌, inr, ℕ, ◌+◌, ◌-◌, ◌<◌, ◌≤◌, true, Result, Ok, Err, IfOk, OnErr, List, ◌++◌, length, take, drop, ap, sym, subst, ◌∙◌, arith, length-append, length-drop, take-append-drop}
+use Rattle.std.proofs.Common.{◌≡◌, inr, ℕ, ◌+◌, ◌-◌, ◌<◌, true, Result, Ok, Err, IfOk, OnErr, List, ◌++◌, length, take, drop, ap, sym, subst, ◌∙◌, arith, length-append, length-drop, take-append-drop}
 use Rattle.std.proofs.lemmas.List.{drop-take}
 use Rattle.bytes.specs.Filled.{Filled}
 use Rattle.iobufs_core.specs.View.{View, view_of_bytes}
 use Rattle.iobufs_core.specs.WireLaws.{view_of_bytes-bytes}
 use Rattle.iobufs_core.specs.declared.codec.base.RangeCfg.{RangeCfg}
-use Rattle.iobufs_frames.proofs.LayoutFacts.{frame_seen, length-later_in, parts_at, seen_within}
+use Rattle.iobufs_frames.proofs.LayoutFacts.{IsSized, frame_seen, length-later_in, parts_at, seen_within}
 use Rattle.iobufs_frames.specs.Frames.{IsAtFront, LacksFrame, Parts}
-use Rattle.iobufs_frames.specs.Prefixes.{IsLengthIn, IsSeenIn, admits, header_size}
+use Rattle.iobufs_frames.specs.Prefixes.{IsSeenIn, admits}
 use Rattle.iobufs_frames.specs.declared.End.TheVariants.{Open}
 use Rattle.iobufs_frames.specs.declared.lengths.Layout.{Layout}
 
@@ -39,11 +39,10 @@ pub seen_open : (layout : Layout) (range : RangeCfg) (bytes : List ℕ) (n k : �
 seen_open layout range bytes n k (at, long, within) inside few = inr (n, (at, inside), omega (arith, long, few))
 
 -- the view that a body is taken as has its bytes
-pub view_taken : (layout : Layout) (range : RangeCfg) (bytes left : List ℕ) (n h m : ℕ) (body : View) → IsLengthIn layout bytes n
-    → admits layout range n ≡ true → h ≡ header_size layout n → m + layout.counts ≡ n → h + m ≤ length bytes
-    → body ≡ view_of_bytes (drop h (take (h + m) bytes)) → left ≡ drop (h + m) bytes
+pub view_taken : (layout : Layout) (range : RangeCfg) (bytes left : List ℕ) (n h m : ℕ) (body : View)
+    → IsSized layout range bytes n h m → body ≡ view_of_bytes (drop h (take (h + m) bytes)) → left ≡ drop (h + m) bytes
     → (frame : Parts) × IsAtFront layout range bytes left frame × (frame.body ≡ body.bytes)
-view_taken layout range bytes left n h m body at inside front size fits made rest =
+view_taken layout range bytes left n h m body (at, inside, front, size, fits) made rest =
     let frame = parts_at layout bytes n in
     let number : n - layout.counts ≡ m = omega (arith, size) in
     let same : body.bytes ≡ frame.body =
@@ -51,6 +50,6 @@ view_taken layout range bytes left n h m body at inside front size fits made res
     ∙ (λ i. take (sym number i) (drop (front i) bytes)) in (
       frame,
       subst (λ (w : List ℕ). IsAtFront layout range bytes w frame) (sym rest)
-          (frame_seen layout range bytes n h m at inside front size fits),
+          (frame_seen layout range bytes n h m (at, inside, front, size, fits)),
       sym same,
     )

@@ -199,12 +199,23 @@ follows layout range text v at inside fits =
       inside = ap (in_range range) (omega (arith, cut.long)) ∙ ranged;
     }
 
+-- a length in the header at the front, which has h bytes, gives the body m bytes, which are there, and it is admitted
+abbrev pub IsSized : Layout → RangeCfg → List ℕ → ℕ → ℕ → ℕ → Type 0
+IsSized layout range bytes n h m = IsLengthIn layout bytes n × (admits layout range n ≡ true) × (h ≡ header_size layout n)
+    × (m + layout.counts ≡ n) × (h + m ≤ length bytes)
+
+-- so by the numbers of a layout that is this one
+pub sized : (layout same : Layout) (range : RangeCfg) (bytes : List ℕ) (n k h m len : ℕ) → same ≡ layout → IsSeenIn layout bytes n k
+    → admits same range n ≡ true → h ≡ same.before + k + same.after → m + same.counts ≡ n → h + m ≤ len → len ≡ length bytes
+    → IsSized layout range bytes n h m
+sized layout same range bytes n k h m len lay (at, long, there) inside header body within told =
+    let (is, front, size) = subst (λ (x : Layout). (admits x range n ≡ true) × (h ≡ x.before + k + x.after) × (m + x.counts ≡ n)) lay
+    (inside, header, body) in (at, is, omega (arith, front, long), size, omega (arith, within, told))
+
 -- the frame of a length, whose header and body have so many bytes
-pub frame_seen : (layout : Layout) (range : RangeCfg) (bytes : List ℕ) (n h m : ℕ) → IsLengthIn layout bytes n
-    → admits layout range n ≡ true
-    → h ≡ header_size layout n → m + layout.counts ≡ n → h + m ≤ length bytes
+pub frame_seen : (layout : Layout) (range : RangeCfg) (bytes : List ℕ) (n h m : ℕ) → IsSized layout range bytes n h m
     → IsAtFront layout range bytes (drop (h + m) bytes) (parts_at layout bytes n)
-frame_seen layout range bytes n h m at inside front size fits =
+frame_seen layout range bytes n h m (at, inside, front, size, fits) =
     let whole : frame_size layout n ≤ length bytes = omega (arith, front, size, fits) in
     let same : frame_size layout n ≡ h + m = omega (arith, front, size) in
     record {
@@ -214,19 +225,17 @@ frame_seen layout range bytes n h m at inside front size fits =
     }
 
 -- there is one
-pub has_frame : (needs : Parts → Type 0) (layout : Layout) (range : RangeCfg) (bytes : List ℕ) (n h m : ℕ) → IsLengthIn layout bytes n
-    → admits layout range n ≡ true
-    → h ≡ header_size layout n → m + layout.counts ≡ n → h + m ≤ length bytes → needs (parts_at layout bytes n)
-    → HasFrame needs layout range bytes
-has_frame needs layout range bytes n h m at inside front size fits needed =
-    let taken = frame_seen layout range bytes n h m at inside front size fits in
+pub has_frame : (needs : Parts → Type 0) (layout : Layout) (range : RangeCfg) (bytes : List ℕ) (n h m : ℕ)
+    → IsSized layout range bytes n h m → needs (parts_at layout bytes n) → HasFrame needs layout range bytes
+has_frame needs layout range bytes n h m sized needed =
+    let taken = frame_seen layout range bytes n h m sized in
     record { frame = parts_at layout bytes n; more = drop (h + m) bytes; admitted = taken.admitted; whole = taken.whole; needed = needed }
 
 -- one whose body has bytes
-pub has_body : (layout : Layout) (range : RangeCfg) (bytes : List ℕ) (n h m : ℕ) → IsLengthIn layout bytes n → admits layout range n ≡ true
-    → h ≡ header_size layout n → m + layout.counts ≡ n → h + m ≤ length bytes → 0 < m → HasFrame has_bytes layout range bytes
-has_body layout range bytes n h m at inside front size fits some =
-    has_frame has_bytes layout range bytes n h m at inside front size fits (omega (
+pub has_body : (layout : Layout) (range : RangeCfg) (bytes : List ℕ) (n h m : ℕ) → IsSized layout range bytes n h m → 0 < m
+    → HasFrame has_bytes layout range bytes
+has_body layout range bytes n h m (at, inside, front, size, fits) some =
+    has_frame has_bytes layout range bytes n h m (at, inside, front, size, fits) (omega (
       arith,
       some,
       front,
@@ -237,14 +246,13 @@ has_body layout range bytes n h m at inside front size fits some =
     ))
 
 -- its bytes are the first
-pub whole_taken : (layout : Layout) (range : RangeCfg) (bytes left text : List ℕ) (n h m : ℕ) → IsLengthIn layout bytes n
-    → admits layout range n ≡ true → h ≡ header_size layout n → m + layout.counts ≡ n → h + m ≤ length bytes
-    → text ≡ take (h + m) bytes → left ≡ drop (h + m) bytes
+pub whole_taken : (layout : Layout) (range : RangeCfg) (bytes left text : List ℕ) (n h m : ℕ)
+    → IsSized layout range bytes n h m → text ≡ take (h + m) bytes → left ≡ drop (h + m) bytes
     → (frame : Parts) × IsAtFront layout range bytes left frame
     × ((text ≡ frame_written layout frame) × (h ≡ length (header_written layout frame)))
-whole_taken layout range bytes left text n h m at inside front size fits made rest =
+whole_taken layout range bytes left text n h m (at, inside, front, size, fits) made rest =
     let frame = parts_at layout bytes n in
-    let taken = frame_seen layout range bytes n h m at inside front size fits in
+    let taken = frame_seen layout range bytes n h m (at, inside, front, size, fits) in
     let fit = taken.admitted in
     let whole : frame_size layout n ≤ length bytes = omega (arith, front, size, fits) in
     let number = (cut_at layout bytes n at (admitted layout range n inside).0 whole).long in

@@ -1,5 +1,5 @@
 -- Frames that are taken from a text, and written.
-use Rattle.std.proofs.Common.{◌≡◌, ℕ, ◌+◌, ◌-◌, ◌<◌, ◌≤◌, ◌==◌, if◌then◌else◌, true, Result, Ok, Err, IfOk, List, ◌++◌, length, drop, ap, sym, subst, ◌∙◌, arith}
+use Rattle.std.proofs.Common.{◌≡◌, ℕ, ◌+◌, ◌-◌, ◌<◌, ◌≤◌, ◌==◌, if◌then◌else◌, Result, Ok, Err, IfOk, List, ◌++◌, length, drop, ap, sym, subst, ◌∙◌, arith}
 use Rattle.std.proofs.lemmas.Bool.Decides.{nat_tests}
 use Rattle.std.proofs.lemmas.Grind.{common_steps}
 use Rattle.std.proofs.lemmas.List.{append-nil, nil_from_length}
@@ -8,17 +8,16 @@ use Rattle.iobufs_core.specs.ReadBytes.{bytes-rest, bytes-taken_view}
 use Rattle.iobufs_core.specs.View.{View, default_view, native_mark}
 use Rattle.iobufs_core.specs.declared.codec.base.BufError.{BufError}
 use Rattle.iobufs_core.specs.declared.codec.base.RangeCfg.{RangeCfg}
-use Rattle.iobufs_frames.proofs.LayoutFacts.{admitted, cut_at, follows, parts_at}
+use Rattle.iobufs_frames.proofs.LayoutFacts.{IsSized, admitted, cut_at, follows, parts_at}
 use Rattle.iobufs_frames.specs.Frames.{IsCutFrom, IsAtFront, Parts, frame_written}
-use Rattle.iobufs_frames.specs.Prefixes.{IsLengthIn, admits, frame_size, header_size, own_view}
+use Rattle.iobufs_frames.specs.Prefixes.{frame_size, header_size, own_view}
 use Rattle.iobufs_frames.specs.declared.lengths.Layout.{Layout}
 
 -- the view of a body that is taken from after its header is a frame's, and leaves what is after it
-pub taken-with : (layout : Layout) (range : RangeCfg) (old new : MarkedText) (v h m : ℕ) (view : View) → IsLengthIn layout old.bytes v
-    → admits layout range v ≡ true → h ≡ header_size layout v → m + layout.counts ≡ v → h + m ≤ text_len old
-    → view ≡ taken_view old h m → new ≡ text_rest old (h + m)
+pub taken-with : (layout : Layout) (range : RangeCfg) (old new : MarkedText) (v h m : ℕ) (view : View)
+    → IsSized layout range old.bytes v h m → view ≡ taken_view old h m → new ≡ text_rest old (h + m)
     → ((frame : Parts) × IsAtFront layout range old.bytes new.bytes frame × (frame.body ≡ view.bytes)) × IsCutFrom layout old new view
-taken-with layout range old new v h m view at inside front size within is left =
+taken-with layout range old new v h m view (at, inside, front, size, within) is left =
     let c = layout.counts in
     let number : m ≡ v - c = omega (arith, size) in
     let fits : frame_size layout v ≤ text_len old = omega (arith, front, number, within) in

@@ -180,7 +180,6 @@ pub(crate) fn sizes_of(
     len: usize,
     range: &RangeCfg,
 ) -> Result<Option<Sizes>, Error>
-    requires { layout.before + found.len ≤ len }
     ensures inside { OnOk result (admits layout range.now found.value ≡ true) }
     ensures header { IfOk result (λ sizes. IfSome sizes (λ s. s.header ≡ layout.before + found.len + layout.after)) }
     ensures body { IfOk result (λ sizes. IfSome sizes (λ s. s.body + layout.counts ≡ found.value)) }
@@ -195,12 +194,12 @@ pub(crate) fn sizes_of(
         return Err(Error::InvalidLength(found.value));
     }
     let body = found.value - counts;
-    let front = layout.before as usize + found.len;
-    if len - front < after || len - front - after < body {
+    let around = layout.before as usize + after;
+    if len < around || len - around < found.len || len - around - found.len < body {
         return Ok(None);
     }
     Ok(Some(Sizes {
-        header: front + after,
+        header: around + found.len,
         body,
     }))
 }

@@ -1,22 +1,14 @@
-use Rattle.std.proofs.Common.{ap, arith, inl, inr, ◌∙◌, ◌≤◌, ◌≡◌, ◌+◌, ◌-◌, drop, length, refl}
+use Rattle.std.proofs.Common.{ap, arith, inl, inr, ◌∙◌, ◌≡◌, ◌-◌, drop, refl}
 use Rattle.std.proofs.lemmas.Bool.{false≢true}
 use Rattle.iobufs_core.proofs.LengthFacts.{less}
 use Rattle.iobufs_core.specs.MarkedText.{MarkedText, taken_view}
 use Rattle.iobufs_core.specs.View.{static_mark}
 use Rattle.iobufs_frames.specs.Frames.{IsCutFrom, IsAtFront, Parts}
 use Rattle.iobufs_frames.specs.Prefixes.{header_size}
-use Rattle.iobufs_frames.proofs.LayoutFacts.{seen_within}
 use Rattle.iobufs_frames.proofs.PrefixFacts.{one_length}
-use Rattle.iobufs_frames.proofs.LayoutFacts.{has_body}
+use Rattle.iobufs_frames.proofs.LayoutFacts.{has_body, sized}
 use Rattle.iobufs_frames.proofs.PrefixLaws.{taken-with}
 use Rattle.iobufs_frames.proofs.Frames.next.Goals as goal
-
-pub sizes_of-requires : goal.sizes_of-requires
-sizes_of-requires c =
-    let layout = c.args.self.now.layout in
-    let l = c.in-Some.found in
-    let seen = rw c.in-Some.is at c.in_ok-found.ensures.found in
-    omega (arith, seen_within layout c.args.self.now.rest.bytes l.value l.len seen, c.len.ensures.value)
 
 -- the body that was taken
 taken : (c : goal.In-Ok)
@@ -28,14 +20,11 @@ taken c =
     let layout = c.args.self.now.layout in
     let l = c.in-Some.found in
     let s = c.in-Some-2.sizes in
-    let (at, long, there) = rw c.in-Some.is at c.in_ok-found.ensures.found in
-    let header = rw c.in-Some-2.is at c.in_ok-sizes.ensures.header in
-    let body = rw c.in-Some-2.is at c.in_ok-sizes.ensures.body in
-    let within = rw c.in-Some-2.is at c.in_ok-sizes.ensures.whole in
-    let front : s.header ≡ header_size layout l.value = omega (arith, header, long) in
-    let fits : s.header + s.body ≤ length c.args.self.now.rest.bytes = omega (arith, within, c.len.ensures.value) in
-    taken-with layout c.args.range.now c.args.self.now.rest c.take_owned_after.new.self l.value s.header s.body c.in-Ok.body at
-    c.in_ok-sizes.ensures.inside front body fits c.in-Ok.ensures.ok c.in-Ok.ensures.rest
+    let is = sized layout layout c.args.range.now c.args.self.now.rest.bytes l.value l.len s.header s.body _ refl
+    (rw c.in-Some.is at c.in_ok-found.ensures.found) c.in_ok-sizes.ensures.inside (rw c.in-Some-2.is at c.in_ok-sizes.ensures.header)
+    (rw c.in-Some-2.is at c.in_ok-sizes.ensures.body) (rw c.in-Some-2.is at c.in_ok-sizes.ensures.whole) c.len.ensures.value in
+    taken-with layout c.args.range.now c.args.self.now.rest c.take_owned_after.new.self l.value s.header s.body c.in-Ok.body is
+    c.in-Ok.ensures.ok c.in-Ok.ensures.rest
 
 pub returns-in-Ok-clause-next : goal.returns-in-Ok-clause-next
 returns-in-Ok-clause-next c = (taken c).0
@@ -48,16 +37,12 @@ returns-in-Err-clause-next c =
     let layout = c.args.self.now.layout in
     let l = c.in-Some.found in
     let s = c.in-Some-2.sizes in
-    let (at, long, there) = rw c.in-Some.is at c.in_ok-found.ensures.found in
-    let header = rw c.in-Some-2.is at c.in_ok-sizes.ensures.header in
-    let body = rw c.in-Some-2.is at c.in_ok-sizes.ensures.body in
-    let within = rw c.in-Some-2.is at c.in_ok-sizes.ensures.whole in
-    let front : s.header ≡ header_size layout l.value = omega (arith, header, long) in
-    let fits : s.header + s.body ≤ length c.args.self.now.rest.bytes = omega (arith, within, c.len.ensures.value) in
+    let is = sized layout layout c.args.range.now c.args.self.now.rest.bytes l.value l.len s.header s.body _ refl
+    (rw c.in-Some.is at c.in_ok-found.ensures.found) c.in_ok-sizes.ensures.inside (rw c.in-Some-2.is at c.in_ok-sizes.ensures.header)
+    (rw c.in-Some-2.is at c.in_ok-sizes.ensures.body) (rw c.in-Some-2.is at c.in_ok-sizes.ensures.whole) c.len.ensures.value in
     elim (less 0 s.body) [
       | inl some ↦ (
-        has_body layout c.args.range.now c.args.self.now.rest.bytes l.value s.header s.body at c.in_ok-sizes.ensures.inside front body
-            fits some,
+        has_body layout c.args.range.now c.args.self.now.rest.bytes l.value s.header s.body is some,
         ap (λ (t : MarkedText). t.bytes) c.in-Err.ensures.unchanged,
       )
       | inr none ↦ absurd (false≢true (c.in-Err.ensures.nothing (omega (arith, none))))

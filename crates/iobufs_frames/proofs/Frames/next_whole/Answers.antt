@@ -3,16 +3,8 @@ use Rattle.iobufs_core.proofs.CallerFacts.{bytes-split_front}
 use Rattle.iobufs_core.specs.MarkedText.{MarkedText, text_rest, text_split_front}
 use Rattle.iobufs_core.specs.ReadBytes.{bytes-rest}
 use Rattle.iobufs_frames.specs.Frames.{is_any}
-use Rattle.iobufs_frames.specs.Prefixes.{header_size}
-use Rattle.iobufs_frames.proofs.LayoutFacts.{has_frame, seen_within, whole_taken}
+use Rattle.iobufs_frames.proofs.LayoutFacts.{has_frame, sized, whole_taken}
 use Rattle.iobufs_frames.proofs.Frames.next_whole.Goals as goal
-
-pub sizes_of-requires : goal.sizes_of-requires
-sizes_of-requires c =
-    let layout = c.args.self.now.layout in
-    let l = c.in-Some.length in
-    let seen = rw c.in-Some.is at c.in_ok-length.ensures.found in
-    omega (arith, seen_within layout c.args.self.now.rest.bytes l.value l.len seen, c.len.ensures.value)
 
 pub returns-in-Ok-clause-next : goal.returns-in-Ok-clause-next
 returns-in-Ok-clause-next c =
@@ -20,14 +12,11 @@ returns-in-Ok-clause-next c =
     let text = c.args.self.now.rest in
     let l = c.in-Some.length in
     let s = c.in-Some-2.parts in
-    let (at, long, there) = rw c.in-Some.is at c.in_ok-length.ensures.found in
-    let header = rw c.in-Some-2.is at c.in_ok-parts.ensures.header in
-    let body = rw c.in-Some-2.is at c.in_ok-parts.ensures.body in
-    let within = rw c.in-Some-2.is at c.in_ok-parts.ensures.whole in
-    let front : s.header ≡ header_size layout l.value = omega (arith, header, long) in
-    let fits : s.header + s.body ≤ length text.bytes = omega (arith, within, c.len.ensures.value) in
-    whole_taken layout c.args.range.now text.bytes c.split_to.new.self.bytes c.in-Ok.frame.bytes l.value s.header s.body at
-    c.in_ok-parts.ensures.inside front body fits
+    let is = sized layout layout c.args.range.now c.args.self.now.rest.bytes l.value l.len s.header s.body _ refl
+    (rw c.in-Some.is at c.in_ok-length.ensures.found) c.in_ok-parts.ensures.inside (rw c.in-Some-2.is at c.in_ok-parts.ensures.header)
+    (rw c.in-Some-2.is at c.in_ok-parts.ensures.body) (rw c.in-Some-2.is at c.in_ok-parts.ensures.whole) c.len.ensures.value in
+    let fits = is.4 in
+    whole_taken layout c.args.range.now text.bytes c.split_to.new.self.bytes c.in-Ok.frame.bytes l.value s.header s.body is
     (ap (λ (t : MarkedText). t.bytes) c.in-Ok.ensures.front ∙ bytes-split_front text (s.header + s.body) fits)
     (ap (λ (t : MarkedText). t.bytes) c.in-Ok.ensures.rest ∙ bytes-rest text (s.header + s.body) fits)
 
@@ -36,14 +25,10 @@ returns-in-Err-clause-next c =
     let layout = c.args.self.now.layout in
     let l = c.in-Some.length in
     let s = c.in-Some-2.parts in
-    let (at, long, there) = rw c.in-Some.is at c.in_ok-length.ensures.found in
-    let header = rw c.in-Some-2.is at c.in_ok-parts.ensures.header in
-    let body = rw c.in-Some-2.is at c.in_ok-parts.ensures.body in
-    let within = rw c.in-Some-2.is at c.in_ok-parts.ensures.whole in
-    let front : s.header ≡ header_size layout l.value = omega (arith, header, long) in
-    let fits : s.header + s.body ≤ length c.args.self.now.rest.bytes = omega (arith, within, c.len.ensures.value) in (
-      has_frame is_any layout c.args.range.now c.args.self.now.rest.bytes l.value s.header s.body at
-          c.in_ok-parts.ensures.inside front body fits tt,
+    let is = sized layout layout c.args.range.now c.args.self.now.rest.bytes l.value l.len s.header s.body _ refl
+    (rw c.in-Some.is at c.in_ok-length.ensures.found) c.in_ok-parts.ensures.inside (rw c.in-Some-2.is at c.in_ok-parts.ensures.header)
+    (rw c.in-Some-2.is at c.in_ok-parts.ensures.body) (rw c.in-Some-2.is at c.in_ok-parts.ensures.whole) c.len.ensures.value in (
+      has_frame is_any layout c.args.range.now c.args.self.now.rest.bytes l.value s.header s.body is tt,
       ap (λ (t : MarkedText). t.bytes) c.in-Err.ensures.unchanged,
     )
 

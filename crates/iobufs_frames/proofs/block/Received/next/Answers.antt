@@ -1,43 +1,24 @@
-use Rattle.std.proofs.Common.{ap, arith, subst, true, inl, inr, length, drop, take, ◌≡◌, ◌≤◌, ◌+◌, ◌∙◌, List, ℕ}
+use Rattle.std.proofs.Common.{ap, arith, inl, inr, length, drop, take, ◌≡◌, ◌+◌, ◌∙◌, List, ℕ}
 use Rattle.std.proofs.lemmas.Bool.{false≢true}
 use Rattle.iobufs_core.proofs.LengthFacts.{less}
 use Rattle.iobufs_core.specs.View.{view_of_bytes}
 use Rattle.iobufs_frames.proofs.BlockLaws.{view_taken}
-use Rattle.iobufs_frames.proofs.LayoutFacts.{has_body, seen_within}
-use Rattle.iobufs_frames.specs.Prefixes.{admits, header_size}
+use Rattle.iobufs_frames.proofs.LayoutFacts.{has_body, sized}
 use Rattle.iobufs_frames.specs.Receiving.{ReceivedBytes}
-use Rattle.iobufs_frames.specs.declared.lengths.Layout.{Layout}
 use Rattle.iobufs_frames.proofs.block.Received.next.Goals as goal
-
-pub sizes_of-requires : goal.sizes_of-requires
-sizes_of-requires c =
-    let l = c.in-Some.found in
-    let seen = rw c.in-Some.is at c.in_ok-found.ensures.found in
-    omega (
-      arith,
-      seen_within c.args.self.now.layout c.args.self.now.bytes l.value l.len seen,
-      c.len.ensures.value,
-      ap (λ (r : ReceivedBytes). length r.bytes) c.self.view_is,
-      ap (λ (r : ReceivedBytes). r.layout.before) c.self.view_is,
-    )
 
 pub returns-in-Ok-clause-next : goal.returns-in-Ok-clause-next
 returns-in-Ok-clause-next c =
     let l = c.in-Some.found in
     let s = c.in-Some-2.sizes in
     let layout = c.args.self.now.layout in
-    let (at, long, there) = rw c.in-Some.is at c.in_ok-found.ensures.found in
-    let lay : c.self.inside.layout ≡ layout = ap (λ (r : ReceivedBytes). r.layout) c.self.view_is in
-    let inside = subst (λ (x : Layout). admits x c.args.range.now l.value ≡ true) lay c.in_ok-sizes.ensures.inside in
-    let header = subst (λ (x : Layout). s.header ≡ x.before + l.len + x.after) lay (rw c.in-Some-2.is at c.in_ok-sizes.ensures.header) in
-    let body = subst (λ (x : Layout). s.body + x.counts ≡ l.value) lay (rw c.in-Some-2.is at c.in_ok-sizes.ensures.body) in
-    let within = rw c.in-Some-2.is at c.in_ok-sizes.ensures.whole in
-    let same : c.self.inside.block.items ≡ c.args.self.now.bytes = ap (λ (r : ReceivedBytes). r.bytes) c.self.view_is in
-    let front : s.header ≡ header_size layout l.value = omega (arith, header, long) in
-    let fits : s.header + s.body ≤ length c.args.self.now.bytes =
-    omega (arith, within, c.len.ensures.value, ap (λ (w : List ℕ). length w) same) in
-    view_taken layout c.args.range.now c.args.self.now.bytes c.take.new.self.bytes l.value s.header s.body c.in-Ok.body at
-    inside front body fits
+    let bytes = c.args.self.now.bytes in
+    let same : c.self.inside.block.items ≡ bytes = ap (λ (r : ReceivedBytes). r.bytes) c.self.view_is in
+    let is = sized layout c.self.inside.layout c.args.range.now bytes l.value l.len s.header s.body _
+    (ap (λ (r : ReceivedBytes). r.layout) c.self.view_is) (rw c.in-Some.is at c.in_ok-found.ensures.found)
+    c.in_ok-sizes.ensures.inside (rw c.in-Some-2.is at c.in_ok-sizes.ensures.header) (rw c.in-Some-2.is at c.in_ok-sizes.ensures.body)
+    (rw c.in-Some-2.is at c.in_ok-sizes.ensures.whole) (c.len.ensures.value ∙ ap (λ (w : List ℕ). length w) same) in
+    view_taken layout c.args.range.now bytes c.take.new.self.bytes l.value s.header s.body c.in-Ok.body is
     (c.in-Ok.ensures.body ∙ ap (λ w. view_of_bytes (drop s.header (take (s.header + s.body) w))) same)
     (c.in-Ok.ensures.rest ∙ ap (drop (s.header + s.body)) same)
 
@@ -46,18 +27,14 @@ returns-in-Err-clause-next c =
     let l = c.in-Some.found in
     let s = c.in-Some-2.sizes in
     let layout = c.args.self.now.layout in
-    let (at, long, there) = rw c.in-Some.is at c.in_ok-found.ensures.found in
-    let lay : c.self.inside.layout ≡ layout = ap (λ (r : ReceivedBytes). r.layout) c.self.view_is in
-    let inside = subst (λ (x : Layout). admits x c.args.range.now l.value ≡ true) lay c.in_ok-sizes.ensures.inside in
-    let header = subst (λ (x : Layout). s.header ≡ x.before + l.len + x.after) lay (rw c.in-Some-2.is at c.in_ok-sizes.ensures.header) in
-    let body = subst (λ (x : Layout). s.body + x.counts ≡ l.value) lay (rw c.in-Some-2.is at c.in_ok-sizes.ensures.body) in
-    let within = rw c.in-Some-2.is at c.in_ok-sizes.ensures.whole in
-    let front : s.header ≡ header_size layout l.value = omega (arith, header, long) in
-    let fits : s.header + s.body ≤ length c.args.self.now.bytes =
-    omega (arith, within, c.len.ensures.value, ap (λ (r : ReceivedBytes). length r.bytes) c.self.view_is) in
+    let bytes = c.args.self.now.bytes in
+    let is = sized layout c.self.inside.layout c.args.range.now bytes l.value l.len s.header s.body _
+    (ap (λ (r : ReceivedBytes). r.layout) c.self.view_is) (rw c.in-Some.is at c.in_ok-found.ensures.found)
+    c.in_ok-sizes.ensures.inside (rw c.in-Some-2.is at c.in_ok-sizes.ensures.header) (rw c.in-Some-2.is at c.in_ok-sizes.ensures.body)
+    (rw c.in-Some-2.is at c.in_ok-sizes.ensures.whole) (c.len.ensures.value ∙ ap (λ (r : ReceivedBytes). length r.bytes) c.self.view_is) in
     elim (less 0 s.body) [
       | inl some ↦ (
-        has_body layout c.args.range.now c.args.self.now.bytes l.value s.header s.body at inside front body fits some,
+        has_body layout c.args.range.now bytes l.value s.header s.body is some,
         ap (λ (r : ReceivedBytes). r.bytes) (c.in-Err.ensures.unchanged ∙ c.self.view_is),
       )
       | inr none ↦ absurd (false≢true (c.in-Err.ensures.nothing (omega (arith, none))))
