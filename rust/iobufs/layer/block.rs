@@ -49,6 +49,12 @@ pub fn new_storage(alloc: Global, n: usize, shell: Shell) -> Result<(Vec<u8>, Sh
     Ok((Vec::with_capacity(alloc, n.saturating_add(ROOM))?, shell))
 }
 
+/// Appends bytes that fit into the capacity. Panics if they don't.
+#[inline]
+pub fn put_reserved(storage: &mut Vec<u8>, src: &[u8]) {
+    storage.extend_reserved(src);
+}
+
 /// A handle of shared storage.
 // The address of a head that `of` wrote. It stays there, unchanged but for its count, as long as a handle.
 pub struct Block(NonNull<Head>);

@@ -21,6 +21,7 @@ mod names;
 #[allow(unsafe_code)]
 #[path = "spare/block.rs"]
 mod spare;
+#[allow(unsafe_code)]
 #[path = "../layer/vec.rs"]
 mod vec;
 

@@ -3,7 +3,7 @@
 //! words.
 //!
 //! No file names the crate's root, so that another crate can have these files as modules of a module `kit`, with a
-//! `bytes.rs` of its own. `unsafe` code is in `arc`, in `block`, in `held`, and in one module of `bytes`.
+//! `bytes.rs` of its own. `unsafe` code is in `arc`, `block`, `held` and `vec`, and in one module of `bytes`.
 #![deny(unsafe_code)]
 
 #[allow(unsafe_code)]
@@ -33,6 +33,7 @@ mod names;
 mod program;
 pub mod test;
 pub mod text;
+#[allow(unsafe_code)]
 #[path = "../../iobufs/layer/vec.rs"]
 mod vec;
 

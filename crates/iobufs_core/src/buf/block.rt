@@ -1,6 +1,6 @@
 // Storage that is filled and then shared. In the Rust crate `rust/iobufs/layer/block.rs` takes the place of this file,
 // and keeps the count of the handles behind the bytes.
-ghost use Rattle.std.specs.Prelude.{◌≡◌, ◌≤◌, [], vec_len, vec_capacity, IfOk, MatchResult};
+ghost use Rattle.std.specs.Prelude.{◌≡◌, ◌≤◌, ◌+◌, ◌++◌, [], length, vec_len, vec_capacity, IfOk, MatchResult};
 
 use bytes::Bytes;
 use std::alloc::{AllocError, Global};
@@ -35,6 +35,17 @@ pub(super) fn new_storage(
     }
     let block = Arc::new(alloc, Vec::new(alloc))?;
     Ok((storage, Shell { block: Some(block) }))
+}
+
+/// Appends bytes that fit into the capacity.
+#[inline(always)]
+pub(super) fn put_reserved(storage: &mut Vec<u8>, src: &[u8])
+    requires { vec_len storage.old + length src.now ≤ vec_capacity storage.old }
+    ensures items { storage.new.items ≡ storage.old.items ++ src.now }
+    ensures len { vec_len storage.new ≡ vec_len storage.old + length src.now }
+    ensures capacity { vec_capacity storage.old ≤ vec_capacity storage.new }
+{
+    storage.extend_from_slice(src).unwrap();
 }
 
 /// A handle of shared storage. A clause sees the storage.

@@ -10,7 +10,7 @@ ghost use Rattle.iobufs_core.specs.PartLaws.{part_copied-filled, put_nothing, pu
 ghost use Rattle.std.proofs.Common.{rules};
 ghost use Rattle.std.specs.Fmt.{decimal};
 
-use super::block::{Shell, new_storage};
+use super::block::{Shell, new_storage, put_reserved};
 use crate::codec::{Buf, BufError, BufMut};
 use bytes::{Bytes, BytesMut};
 use std::alloc::{Global, Layout};
@@ -158,7 +158,7 @@ impl IoBufMut {
             return Ok(IoBufMut::default(alloc));
         }
         let (mut storage, shell) = new_storage(alloc, src.len(), Shell::none())?;
-        storage.extend_from_slice(src).unwrap();
+        put_reserved(&mut storage, src);
         Ok(IoBufMut::from_shell(shell, storage, 0, src.len()))
     }
 
@@ -398,7 +398,7 @@ impl IoBufMut {
         requires { length src.now ≤ self.old.spare }
         ensures { self.new ≡ part_put self.old src.now }
     {
-        self.storage.extend_from_slice(src).unwrap();
+        put_reserved(&mut self.storage, src);
     }
 
     /// Keeps at most the first `n` bytes, and the capacity (`IoBufMut::truncate`).
