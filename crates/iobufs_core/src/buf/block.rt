@@ -98,7 +98,6 @@ impl Block {
     }
 
     /// Takes the storage back, if this is the only handle.
-    #[inline(always)]
     pub(super) fn take(self) -> Result<(Vec<u8>, Shell), Block>
         ensures { MatchResult result (λ taken. taken.0 ≡ self) (λ block. block ≡ self) }
     {
