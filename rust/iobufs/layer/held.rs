@@ -3,15 +3,14 @@
 //!
 //! It is sound for any safe caller, whatever the proof says of the callers: a range is tested against the storage as the
 //! address is made, and until the storage is given back nothing of it is lent but these bytes, to be read.
-use super::arc::Arc;
 use super::base::AllocError;
+use super::block::Block;
 use super::bytes::Bytes;
-use super::vec::Vec;
 use std::ptr::NonNull;
 
 /// A range of a block, whose capacity beyond `limit` is never used.
 pub struct Native {
-    pub block: Arc<Vec<u8>>,
+    pub block: Block,
     pub len: usize,
     pub start: usize,
     pub limit: usize,
@@ -34,7 +33,7 @@ enum Storage {
 
 enum Own {
     // A block, and its limit.
-    Native(Arc<Vec<u8>>, usize),
+    Native(Block, usize),
     Static(&'static [u8]),
 }
 
@@ -110,7 +109,7 @@ impl Held {
         // Each arm makes a whole `Held`: a storage that is moved into one is copied piece by piece.
         Ok(match &self.storage {
             Storage::Own(Own::Native(block, limit)) => {
-                Held { bytes, storage: Storage::Own(Own::Native(Arc::try_clone(block)?, *limit)) }
+                Held { bytes, storage: Storage::Own(Own::Native(block.share()?, *limit)) }
             }
             Storage::Own(Own::Static(text)) => Held { bytes, storage: Storage::Own(Own::Static(text)) },
             // No bytes have no place in a `Bytes`.

@@ -25,8 +25,4 @@ pub mod std {
         /// What a type has whose clauses see another value. Nothing is left of its impls.
         pub trait Model {}
     }
-
-    pub mod sync {
-        pub use super::super::super::arc::Arc;
-    }
 }

@@ -1,9 +1,13 @@
 //! A vector. Std promises at least the capacity that is asked for, where the kit promises exactly that; an item is put
 //! without an allocation into either.
-#![forbid(unsafe_code)]
+//!
+//! It is sound for any safe caller: what puts without an allocation tests the capacity itself, once.
 use super::base::{AllocError, AllocFailed, Global};
+use std::alloc::{Layout, alloc};
 use std::ops::{Deref, DerefMut, RangeFrom};
-use std::{fmt, io, vec};
+use std::{fmt, io, ptr, vec};
+
+const FULL: &str = "the capacity has no space for it";
 
 /// A vector, whose capacity never shrinks.
 #[derive(PartialEq, Eq)]
@@ -19,9 +23,17 @@ impl<T> Vec<T> {
     /// Returns no items, and a capacity of `n`.
     #[inline]
     pub fn with_capacity(_: Global, n: usize) -> Result<Vec<T>, AllocError> {
-        let mut items = vec::Vec::new();
-        items.try_reserve_exact(n).map_err(|_| AllocError)?;
-        Ok(Vec(items))
+        let layout = Layout::array::<T>(n).map_err(|_| AllocError)?;
+        if layout.size() == 0 {
+            return Ok(Vec(vec::Vec::new()));
+        }
+        // SAFETY: the layout isn't empty.
+        let at = unsafe { alloc(layout) };
+        if at.is_null() {
+            return Err(AllocError);
+        }
+        // SAFETY: it was allocated with the layout of a `Vec` of this capacity.
+        Ok(Vec(unsafe { vec::Vec::from_raw_parts(at.cast(), 0, n) }))
     }
 
     /// Returns the items of an array.
@@ -79,11 +91,16 @@ impl<T> Vec<T> {
         Ok(())
     }
 
-    /// Appends an item to a vector that isn't full.
+    /// Appends an item to a vector that isn't full. Panics if it is.
     #[inline]
     pub fn push_reserved(&mut self, item: T) {
-        debug_assert!(self.0.len() < self.0.capacity());
-        self.0.push(item);
+        let len = self.0.len();
+        assert!(len < self.0.capacity(), "{FULL}");
+        // SAFETY: the capacity has space for an item after the others.
+        unsafe {
+            self.0.as_mut_ptr().add(len).write(item);
+            self.0.set_len(len + 1);
+        }
     }
 
     /// Drops all items.
@@ -133,6 +150,21 @@ impl<T: Clone> Vec<T> {
         self.0.try_reserve(items.len()).map_err(|_| AllocError)?;
         self.0.extend_from_slice(items);
         Ok(())
+    }
+
+    /// Appends copies of items that fit into the capacity. Panics if they don't.
+    #[inline]
+    pub fn extend_reserved(&mut self, items: &[T])
+    where
+        T: Copy,
+    {
+        let len = self.0.len();
+        assert!(items.len() <= self.0.capacity() - len, "{FULL}");
+        // SAFETY: the capacity has space for these items after the others, which `items` can't overlap: it is borrowed.
+        unsafe {
+            ptr::copy_nonoverlapping(items.as_ptr(), self.0.as_mut_ptr().add(len), items.len());
+            self.0.set_len(len + items.len());
+        }
     }
 
     /// Drops the items after the first `n`, or appends copies of `item` up to a length of `n`. If it fails, nothing

@@ -1,15 +1,14 @@
 //! The calls of the kit's std and `bytes` that the proved sources make: those that the program and the C library have,
 //! but `bytes` over the crate of that name.
-#[allow(unsafe_code)]
-#[path = "../layer/arc.rs"]
-mod arc;
 #[path = "../layer/base.rs"]
 mod base;
 #[allow(unsafe_code)]
-#[path = "spare/block.rs"]
-mod block;
+#[path = "../layer/block.rs"]
+pub mod block;
 #[path = "kit/bytes.rs"]
 pub mod bytes;
+#[path = "../layer/count.rs"]
+mod count;
 #[path = "../layer/deque.rs"]
 mod deque;
 #[allow(unsafe_code)]
@@ -19,6 +18,10 @@ pub mod held;
 pub mod io;
 #[path = "../layer/names.rs"]
 mod names;
+#[allow(unsafe_code)]
+#[path = "spare/block.rs"]
+mod spare;
+#[allow(unsafe_code)]
 #[path = "../layer/vec.rs"]
 mod vec;
 

@@ -197,7 +197,6 @@ impl IoBufsMut {
     ///
     /// # Errors
     /// Returns the buffers themselves if there isn't just one.
-    #[expect(clippy::result_large_err, reason = "the original hands the buffers back")]
     pub fn try_into_single(self) -> Result<IoBufMut, Self> {
         self.0.try_into_single().map(IoBufMut).map_err(IoBufsMut)
     }

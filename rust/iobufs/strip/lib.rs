@@ -30,7 +30,7 @@ use std::path::{Path, PathBuf};
 use std::{fs, io};
 
 /// Proved files in whose place a module of `crate::kit` is, which has the same calls.
-pub const BY_HAND: [(&str, &str); 1] = [("iobufs_core/buf/held.rt", "held")];
+pub const BY_HAND: [(&str, &str); 2] = [("iobufs_core/buf/block.rt", "block"), ("iobufs_core/buf/held.rt", "held")];
 
 const IMPORT: &str = "use crate::kit::prelude::*;";
 

@@ -232,3 +232,24 @@ fn lengths_of_each_prefix() {
         assert_eq!(prefix.written(n).as_ref().map(|it| it.as_ref()), wanted, "{n} as {prefix:?}");
     }
 }
+
+/// The capacity of the first of two buffers, how many bytes both have, and whether they are put together in the first.
+const COALESCED: [(usize, [usize; 2], bool); 5] = [
+    (4096, [3, 4], true),
+    (5000, [3, 4], false),
+    (5000, [2000, 500], true),
+    (5000, [2000, 400], false),
+    (6, [3, 4], false),
+];
+
+#[test]
+fn a_large_first_buffer_is_left() {
+    for (capacity, [n, more], is_kept) in COALESCED {
+        let mut first = IoBufMut::with_capacity(capacity);
+        first.put_bytes(1, n);
+        let at = first.as_ptr();
+        let parts = IoBufsMut::from([first, IoBufMut::from(vec![2; more])]);
+        let whole = parts.coalesce();
+        assert_eq!((whole.as_ptr() == at, whole.len(), whole.capacity()), (is_kept, n + more, n + more), "{capacity}");
+    }
+}

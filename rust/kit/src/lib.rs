@@ -3,15 +3,19 @@
 //! words.
 //!
 //! No file names the crate's root, so that another crate can have these files as modules of a module `kit`, with a
-//! `bytes.rs` of its own. `unsafe` code is in `arc`, in `held`, and in one module of `bytes`.
+//! `bytes.rs` of its own. `unsafe` code is in `arc`, `block`, `held` and `vec`, and in one module of `bytes`.
 #![deny(unsafe_code)]
 
 #[allow(unsafe_code)]
-#[path = "../../iobufs/layer/arc.rs"]
 mod arc;
 #[path = "../../iobufs/layer/base.rs"]
 mod base;
+#[allow(unsafe_code)]
+#[path = "../../iobufs/layer/block.rs"]
+pub mod block;
 pub mod bytes;
+#[path = "../../iobufs/layer/count.rs"]
+mod count;
 #[path = "../../iobufs/layer/deque.rs"]
 mod deque;
 pub mod fs;
@@ -29,6 +33,7 @@ mod names;
 mod program;
 pub mod test;
 pub mod text;
+#[allow(unsafe_code)]
 #[path = "../../iobufs/layer/vec.rs"]
 mod vec;
 

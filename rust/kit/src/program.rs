@@ -29,4 +29,8 @@ pub mod std {
         pub use super::super::super::test::Abort;
         pub use ::std::process::*;
     }
+
+    pub mod sync {
+        pub use super::super::super::arc::Arc;
+    }
 }

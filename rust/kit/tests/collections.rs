@@ -1,12 +1,13 @@
 //! The collections, strings, digits, readers and writers of the layer against std's, by random calls.
 use kit::bytes::Bytes;
 use kit::prelude::{Clone as _, Vec as KitVec};
-use kit::std::alloc::Global;
+use kit::std::alloc::{AllocError, Global};
 use kit::std::collections::VecDeque as KitDeque;
 use kit::std::io::{self, BufRead as _, BufReader, BufWriter, ErrorKind, Read as _, Write as _};
 use kit::std::sync::Arc;
 use kit::{hex, memchr};
 use std::collections::VecDeque;
+use std::panic::{AssertUnwindSafe, catch_unwind};
 use std::{str, thread};
 
 fn random(seed: &mut u64, n: usize) -> usize {
@@ -48,6 +49,42 @@ fn vectors() {
         assert!(items.into_iter().eq(model));
     }
     assert_eq!(KitVec::from_elem(Global, 7u8, 3).unwrap().as_slice(), [7, 7, 7]);
+}
+
+/// Puts that don't allocate panic if and only if there is no space, and then change nothing.
+#[test]
+fn puts_beyond_the_capacity() {
+    for (len, more) in (0..9).flat_map(|len| (0..12).map(move |more| (len, more))) {
+        let mut items = KitVec::with_capacity(Global, 8).unwrap();
+        items.resize(len, 7).unwrap();
+        let space = items.capacity() - len;
+        let mut model = vec![7; len];
+        let is_done = catch_unwind(AssertUnwindSafe(|| items.extend_reserved(&[9; 12][..more]))).is_ok();
+        assert_eq!(is_done, more <= space);
+        model.extend(vec![9; if is_done { more } else { 0 }]);
+        assert_eq!(items.as_slice(), model);
+        let is_done = catch_unwind(AssertUnwindSafe(|| items.push_reserved(1))).is_ok();
+        assert_eq!(is_done, model.len() < len + space);
+        model.extend(vec![1; is_done.into()]);
+        assert_eq!((items.as_slice(), items.capacity()), (&model[..], len + space));
+    }
+    let mut words = KitVec::with_capacity(Global, 2).unwrap();
+    ["a", "bc"].into_iter().for_each(|it| words.push_reserved(it.to_owned()));
+    assert_eq!(words.into_iter().collect::<Vec<_>>(), ["a", "bc"]);
+}
+
+#[test]
+fn capacities() {
+    for n in [0, 1, 9] {
+        let items = KitVec::<u64>::with_capacity(Global, n).unwrap();
+        assert_eq!((items.as_slice(), items.capacity()), (&[][..], n));
+    }
+    for n in [usize::MAX, usize::MAX / 8 + 2, isize::MAX as usize / 8 + 1, isize::MAX as usize / 8] {
+        assert_eq!(KitVec::<u64>::with_capacity(Global, n).map(|_| ()), Err(AllocError), "{n}");
+    }
+    let mut empty = KitVec::with_capacity(Global, 3).unwrap();
+    (0..3).for_each(|_| empty.push_reserved(()));
+    assert_eq!(empty.as_slice(), [(); 3]);
 }
 
 /// Deques of bytes, which the layer's trait clones.

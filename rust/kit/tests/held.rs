@@ -1,9 +1,9 @@
 //! `held` compared with an index and a length, which the proved file has, and what it does if it is misused.
+use kit::block::{Block, Shell};
 use kit::bytes::Bytes;
 use kit::held::{Held, Native};
 use kit::prelude::Vec;
 use kit::std::alloc::Global;
-use kit::std::sync::Arc;
 use std::panic::{AssertUnwindSafe, catch_unwind};
 use std::thread;
 
@@ -39,7 +39,7 @@ struct Seen {
 }
 
 fn native(bytes: &[u8], start: usize, len: usize) -> Native {
-    let block = Arc::new(Global, Vec::from_slice(Global, bytes).unwrap()).ok().unwrap();
+    let block = Block::new(Global, Shell::none(), Vec::from_slice(Global, bytes).unwrap()).unwrap();
     Native { block, start, len, limit: bytes.len() }
 }
 
@@ -93,10 +93,10 @@ fn split(seen: &mut Seen, n: usize) -> Option<Seen> {
 // Takes a view apart, and writes its block where nothing shares it.
 fn end(seen: Seen) {
     match seen.held.into_native() {
-        Ok(mut native) => {
+        Ok(native) => {
             assert_eq!(seen.kind, Kind::Native);
             assert_eq!((native.start, native.as_slice()), (seen.start, &*seen.bytes));
-            if let Some(block) = Arc::get_mut(&mut native.block) {
+            if let Ok((mut block, _)) = native.block.take() {
                 block.as_mut_slice().fill(0);
                 block.clear();
             }
@@ -159,12 +159,12 @@ fn compared_with_an_index() {
 #[test]
 fn a_share_is_a_handle() {
     let block = native(&[1, 2, 3, 4], 1, 3);
-    let mut other = Arc::try_clone(&block.block).ok().unwrap();
+    let other = block.block.share().unwrap();
     let held = Held::of_native(block);
-    assert!(Arc::get_mut(&mut other).is_none());
+    let other = other.take().err().unwrap();
     let part = held.share(1, 3).unwrap();
     drop(held);
-    assert!(Arc::get_mut(&mut other).is_none());
+    let other = other.take().err().unwrap();
     let moved = Box::new(part);
     drop(other);
     assert_eq!(moved.as_slice(), [3, 4]);
@@ -196,8 +196,7 @@ fn in_threads() {
                 let part = held.share(i, 64 - i).unwrap();
                 scope.spawn(move || {
                     assert!(part.as_slice().iter().all(|it| *it == round as u8));
-                    let mut range = part.into_native().ok().unwrap();
-                    if let Some(block) = Arc::get_mut(&mut range.block) {
+                    if let Ok((mut block, _)) = part.into_native().ok().unwrap().block.take() {
                         block.as_mut_slice().fill(0);
                     }
                 });

@@ -1,4 +1,5 @@
 //! Each allocation of each call refused: the call returns an error, and nothing changes.
+use kit::block::{Block, Shell, new_storage};
 use kit::bytes::{Bytes, BytesMut};
 use kit::hex;
 use kit::prelude::{Clone as _, Vec as KitVec};
@@ -117,6 +118,29 @@ fn deques() {
 #[test]
 fn shared() {
     refuse("Arc::new", 1, || (), |()| Arc::new(Global, 7).map_err(|it| assert_eq!(it.value, 7)).is_ok(), |()| true);
+    refuse("new_storage", 1, || (), |()| new_storage(Global, 9, Shell::none()).is_ok(), |()| true);
+    let exact = || Some(bytes());
+    let block = |it: &mut Option<KitVec<u8>>| Block::new(Global, Shell::none(), it.take().unwrap()).is_ok();
+    refuse("Block::new", 1, exact, block, |_| true);
+    let made = || {
+        let (mut storage, _) = new_storage(Global, 5, Shell::none()).unwrap();
+        storage.extend_from_slice(b"hello").unwrap();
+        Some(storage)
+    };
+    refuse("Block::new of new storage", 0, made, block, |_| false);
+    let convert = |it: &mut Option<Block>| match it.take().unwrap().into_bytes(Global).ok().unwrap() {
+        Ok(_) => true,
+        Err(same) => (*it = Some(same), false).1,
+    };
+    for spare in [0, 50] {
+        let make = || {
+            let mut storage = KitVec::with_capacity(Global, 5 + spare).unwrap();
+            storage.extend_from_slice(b"hello").unwrap();
+            Block::new(Global, Shell::none(), storage).ok()
+        };
+        let is_same = |it: &Option<Block>| it.as_ref().unwrap().as_slice() == b"hello";
+        refuse("Block::into_bytes", 1, make, convert, is_same);
+    }
     let is_same = |it: &Option<KitVec<u8>>| it.as_ref().unwrap().as_slice() == b"hello";
     let share = |it: &mut Option<KitVec<u8>>| match Bytes::from_vec(it.take().unwrap()) {
         Ok(_) => true,

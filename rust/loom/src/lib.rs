@@ -1,7 +1,10 @@
-//! The layer's `Arc` over loom's atomics: its tests run each interleaving of a few threads that the memory model admits.
+//! The layer's count of handles over loom's atomics, in an `Arc` of it: the tests run each interleaving of a few threads
+//! that the memory model admits.
 #![cfg(test)]
-#[path = "../../iobufs/layer/arc.rs"]
+#[path = "../../kit/src/arc.rs"]
 mod arc;
+#[path = "../../iobufs/layer/count.rs"]
+mod count;
 
 #[allow(dead_code, unused_imports)]
 #[path = "../../iobufs/layer/base.rs"]

@@ -4,18 +4,22 @@
 #![allow(dead_code, clippy::new_without_default)]
 extern crate self as kit;
 
-#[path = "../../iobufs/layer/arc.rs"]
+#[path = "../../kit/src/arc.rs"]
 mod arc;
 #[path = "../../iobufs/layer/base.rs"]
 mod base;
-#[path = "../../iobufs/src/spare/block.rs"]
-mod block;
+#[path = "../../iobufs/layer/block.rs"]
+pub mod block;
+#[path = "../../kit/tests/block.rs"]
+mod block_tests;
 #[path = "../../iobufs/src/kit/bytes.rs"]
 pub mod bytes;
 #[path = "../../kit/tests/bytes.rs"]
 mod bytes_tests;
 #[path = "../../kit/tests/collections.rs"]
 mod collections_tests;
+#[path = "../../iobufs/layer/count.rs"]
+mod count;
 #[path = "../../iobufs/layer/deque.rs"]
 mod deque;
 #[path = "../../kit/src/fs.rs"]
@@ -38,6 +42,8 @@ pub mod memchr;
 mod names;
 #[path = "../../kit/src/program.rs"]
 mod program;
+#[path = "../../iobufs/src/spare/block.rs"]
+mod spare;
 #[path = "../../kit/src/test.rs"]
 pub mod test;
 #[path = "../../kit/src/text.rs"]

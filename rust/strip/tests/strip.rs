@@ -207,11 +207,16 @@ fn what_is_refused() {
 /// What a file offers: each public function, type and field, in one line without its body.
 fn offered(rust: &str) -> Vec<String> {
     let lines: Vec<&str> = rust.lines().filter_map(|line| line.split("//").next()).collect();
-    let code = lines.join(" ").replace("pub(super) ", "pub ");
-    let is_item = |it: &str| ["fn ", "struct ", "enum "].iter().any(|word| it.starts_with(word));
-    let until_end = |it: &str| it.split(if is_item(it) { '{' } else { ',' }).next().unwrap_or_default().to_owned();
+    let code = lines.join(" ").replace("pub(super) ", "pub ").replace("(mut self", "(self");
+    let ends = |it: &str| match it.split_whitespace().next() {
+        Some("fn") => it.find('{'),
+        Some("struct" | "enum") => it.find(['{', '(', ';']),
+        _ => it.find(','),
+    };
+    let until_end = |it: &str| it[..ends(it).unwrap_or(it.len())].split_whitespace().collect::<Vec<_>>().join(" ");
     let mut found: Vec<String> = code.split("pub ").skip(1).map(until_end).collect();
-    found.iter_mut().for_each(|it| *it = it.split_whitespace().collect::<Vec<_>>().join(" "));
+    // A long list of arguments has a line for each.
+    found.iter_mut().for_each(|it| *it = it.replace("( ", "(").replace(", )", ")"));
     found.sort();
     found
 }
@@ -225,7 +230,8 @@ fn a_file_by_hand_offers_what_the_proved_one_does() {
         let by_hand = fs::read_to_string(rust.join(format!("iobufs/layer/{module}.rs"))).unwrap();
         let proved = offered(&rust_of(&source, name, &[name], false).unwrap());
         assert_eq!(offered(&by_hand), proved);
-        assert_ne!(offered(&by_hand.replacen(": usize", ": u32", 1)), proved);
-        assert_ne!(offered(&by_hand.replacen("&mut self", "&self", 1)), proved);
+        for (old, new) in [(", n: usize", ", n: u32"), ("(self)", "(&self)"), ("pub struct", "struct")] {
+            assert_ne!(offered(&by_hand.replacen(old, new, 1)), proved, "{of}: {new}");
+        }
     }
 }

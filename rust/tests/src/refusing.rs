@@ -75,7 +75,7 @@ const MANY: usize = 4097;
 const TESTS: &str = env!("ALLOCATION_TESTS");
 static ENDED: AtomicU64 = AtomicU64::new(0);
 static FAILED: AtomicU64 = AtomicU64::new(0);
-const LEAST: u64 = 500;
+const LEAST: u64 = 400;
 
 /// Why a run ends early.
 struct TooLarge;

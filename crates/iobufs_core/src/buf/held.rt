@@ -4,16 +4,16 @@ ghost use Rattle.std.specs.Prelude.{ℕ, ◌↔◌, ◌≡◌, ◌≤◌, length
 ghost use Rattle.iobufs_core.specs.Native.{native_advanced, native_cut};
 ghost use Rattle.iobufs_core.specs.View.{IsFreelyShared, IsView, bytes_mark, native_mark, static_mark, view_advanced, view_front};
 
+use super::block::Block;
 use bytes::Bytes;
 use std::alloc::AllocError;
 use std::marker::Model;
-use std::sync::Arc;
 
 /// A range of a block, which lives as long as a range of it does. The block may have more capacity than `limit`,
 /// which is never used. A clause sees the bytes and their capacity (`NativeText`).
 #[derive(Drop)]
 pub(super) struct Native {
-    pub(super) block: Arc<Vec<u8>>,
+    pub(super) block: Block,
     pub(super) len: usize,
     pub(super) start: usize,
     pub(super) limit: usize,
@@ -21,19 +21,18 @@ pub(super) struct Native {
 
 impl Model for Native {
     ghost use Rattle.std.specs.Prelude.{◌+◌, ◌-◌, ◌≤◌, vec_len, vec_capacity, take, drop};
-    ghost use Rattle.std.specs.Arc.{arc_value};
     ghost use Rattle.iobufs_core.specs.Native.{NativeText};
 
     ghost Value = { NativeText };
 
     ghost view = { λ n. record {
       bytes = take n.len
-          (drop n.start (arc_value n.block).items);
+          (drop n.start n.block.items);
       room = n.limit - n.start;
     } };
 
-    ghost invariant = { λ n. (n.start + n.len ≤ vec_len (arc_value n.block)) × (vec_len (arc_value n.block) ≤ n.limit)
-        × (n.limit ≤ vec_capacity (arc_value n.block)) };
+    ghost invariant = { λ n. (n.start + n.len ≤ vec_len n.block) × (vec_len n.block ≤ n.limit)
+        × (n.limit ≤ vec_capacity n.block) };
 }
 
 impl Native {
@@ -47,8 +46,7 @@ impl Native {
     pub(super) fn as_slice(&self) -> &[u8]
         ensures { result.now ≡ self.now.bytes }
     {
-        let block: &Vec<u8> = &self.block;
-        &block.as_slice()[self.start..self.start + self.len]
+        &self.block.as_slice()[self.start..self.start + self.len]
     }
 
     fn advance(&mut self, n: usize)
@@ -65,7 +63,7 @@ impl Native {
         ensures { IfOk result (λ f. f ≡ native_cut self.now n) }
     {
         Ok(Native {
-            block: Arc::try_clone(&self.block)?,
+            block: self.block.share()?,
             start: self.start,
             len: n,
             limit: self.limit,

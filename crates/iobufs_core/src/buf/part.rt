@@ -10,11 +10,11 @@ ghost use Rattle.iobufs_core.specs.PartLaws.{part_copied-filled, put_nothing, pu
 ghost use Rattle.std.proofs.Common.{rules};
 ghost use Rattle.std.specs.Fmt.{decimal};
 
+use super::block::{Shell, new_storage, put_reserved};
 use crate::codec::{Buf, BufError, BufMut};
 use bytes::{Bytes, BytesMut};
 use std::alloc::{Global, Layout};
 use std::marker::Model;
-use std::sync::Arc;
 use std::{fmt, mem};
 
 /// A writable buffer of one block (`IoBufMut`): filled bytes, then spare capacity. The capacity is fixed when the
@@ -32,8 +32,7 @@ pub struct IoBufMut {
     storage: Vec<u8>,
     start: usize,
     limit: usize,
-    // An empty block that `freeze` fills: made with the storage, or left by the view that this was recovered from.
-    shell: Option<Arc<Vec<u8>>>,
+    shell: Shell,
 }
 
 // By hand, so that what is kept privately is none of a caller's business.
@@ -68,11 +67,12 @@ fn is_bad_layout(n: usize, align: usize) -> bool
     n != 0 && Layout::from_size_align(n, align).is_err()
 }
 
-// Whether `n` bytes fit into a capacity, and fill half of their storage, or it has at most 4 KiB.
+// Whether `n` bytes fit into a capacity, and fill half of their storage, or it has at most 4 KiB. The Rust crate's storage
+// has 39 bytes more than it was made for.
 fn suits(n: usize, capacity: usize, stored: usize) -> bool
-    ensures { IsTrue result ↔ ((n ≤ capacity) × ((stored / 2 ≤ n) ⊎ (stored / 2 ≤ 2 ^ 11))) }
+    ensures { IsTrue result ↔ ((n ≤ capacity) × ((stored / 2 - 20 ≤ n) ⊎ (stored / 2 - 20 ≤ 2 ^ 11))) }
 {
-    n <= capacity && stored / 2 <= n.max(1 << 11)
+    n <= capacity && (stored / 2).saturating_sub(20) <= n.max(1 << 11)
 }
 
 impl IoBufMut {
@@ -117,8 +117,8 @@ impl IoBufMut {
         if is_bad_layout(n, align) {
             return Err(BufError::BadLayout);
         }
-        let storage = Vec::with_capacity(alloc, n)?;
-        IoBufMut::with_shell(storage, n)
+        let (storage, shell) = new_storage(alloc, n, Shell::none())?;
+        Ok(IoBufMut::from_shell(shell, storage, 0, n))
     }
 
     /// Allocates a buffer of exactly this capacity, filled with zeros (`IoBufMut::zeroed`).
@@ -150,9 +150,9 @@ impl IoBufMut {
         if is_bad_layout(n, align) {
             return Err(BufError::BadLayout);
         }
-        let mut storage = Vec::with_capacity(alloc, n)?;
+        let (mut storage, shell) = new_storage(alloc, n, Shell::none())?;
         storage.resize(n, 0).unwrap();
-        IoBufMut::with_shell(storage, n)
+        Ok(IoBufMut::from_shell(shell, storage, 0, n))
     }
 
     /// Copies the bytes, without spare capacity (`From<&[u8]>`).
@@ -165,9 +165,9 @@ impl IoBufMut {
         if src.is_empty() {
             return Ok(IoBufMut::default(alloc));
         }
-        let storage = Vec::from_slice(alloc, src)?;
-        let limit = storage.len();
-        IoBufMut::with_shell(storage, limit)
+        let (mut storage, shell) = new_storage(alloc, src.len(), Shell::none())?;
+        put_reserved(&mut storage, src);
+        Ok(IoBufMut::from_shell(shell, storage, 0, src.len()))
     }
 
     /// Takes a `Bytes` over, and copies it if it is shared (`From<Bytes>`).
@@ -198,9 +198,9 @@ impl IoBufMut {
         }
     }
 
-    /// The storage, where the bytes begin in it, where their capacity ends, and the empty block, if there is one.
+    /// The storage, where the bytes begin in it, where their capacity ends, and its shell.
     #[inline(always)]
-    pub(super) fn into_storage(self) -> (Vec<u8>, usize, usize, Option<Arc<Vec<u8>>>)
+    pub(super) fn into_storage(self) -> (Vec<u8>, usize, usize, Shell)
         ensures filled { drop result.1 result.0.items ≡ self.filled }
         ensures spare { result.2 - vec_len result.0 ≡ self.spare }
         ensures inside { (result.1 ≤ vec_len result.0) × (vec_len result.0 ≤ result.2)
@@ -219,7 +219,7 @@ impl IoBufMut {
         requires { (start ≤ vec_len storage) × (vec_len storage ≤ limit) × (limit ≤ vec_capacity storage) }
         ensures { result ≡ record { filled = drop start storage.items; spare = limit - vec_len storage } }
     {
-        IoBufMut::from_shell(None, storage, start, limit)
+        IoBufMut::from_shell(Shell::none(), storage, start, limit)
     }
 
     /// Makes an empty buffer of `n` bytes of capacity after the bytes of a block, which are dropped with it (own, for
@@ -259,17 +259,6 @@ impl IoBufMut {
         }
     }
 
-    // Makes the shell too, so that freezing takes no memory.
-    fn with_shell(storage: Vec<u8>, limit: usize) -> Result<IoBufMut, BufError>
-        requires { (vec_len storage ≤ limit) × (limit ≤ vec_capacity storage) }
-        ensures ok { IfOk result (λ b. b ≡ record { filled = storage.items; spare = limit - vec_len storage }) }
-        ensures memory { IsOkUnless result BufError.Memory }
-    {
-        let alloc = *storage.allocator();
-        let shell = Arc::new(alloc, Vec::new(alloc))?;
-        Ok(IoBufMut::from_shell(Some(shell), storage, 0, limit))
-    }
-
     // Acts as `with_capacity`, and takes over the shell of a buffer that is freed later.
     fn with_capacity_from(
         alloc: Global,
@@ -288,11 +277,9 @@ impl IoBufMut {
         if is_bad_layout(n, 1) {
             return Err(BufError::BadLayout);
         }
-        let block = Vec::with_capacity(alloc, n)?;
-        match spent.shell.take() {
-            Some(shell) => Ok(IoBufMut::from_shell(Some(shell), block, 0, n)),
-            None => IoBufMut::with_shell(block, n),
-        }
+        let spent = mem::replace(&mut spent.shell, Shell::none());
+        let (storage, shell) = new_storage(alloc, n, spent)?;
+        Ok(IoBufMut::from_shell(shell, storage, 0, n))
     }
 
     /// Returns the bytes of three buffers in one, without spare capacity (own, for layers). They go to the storage of
@@ -334,12 +321,7 @@ impl IoBufMut {
         Ok(whole)
     }
 
-    pub(super) fn from_shell(
-        shell: Option<Arc<Vec<u8>>>,
-        storage: Vec<u8>,
-        start: usize,
-        limit: usize,
-    ) -> IoBufMut
+    pub(super) fn from_shell(shell: Shell, storage: Vec<u8>, start: usize, limit: usize) -> IoBufMut
         requires { (start ≤ vec_len storage) × (vec_len storage ≤ limit) × (limit ≤ vec_capacity storage) }
         ensures { result ≡ record { filled = drop start storage.items; spare = limit - vec_len storage } }
     {
@@ -416,7 +398,7 @@ impl IoBufMut {
         requires { length src.now ≤ self.old.spare }
         ensures { self.new ≡ part_put self.old src.now }
     {
-        self.storage.extend_from_slice(src).unwrap();
+        put_reserved(&mut self.storage, src);
     }
 
     /// Keeps at most the first `n` bytes, and the capacity (`IoBufMut::truncate`).

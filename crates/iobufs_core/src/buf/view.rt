@@ -225,6 +225,7 @@ impl IoBuf {
 
     /// Recovers the storage for writing, or returns the view (`IoBuf::try_into_mut`). It recovers native storage that
     /// no other buffer shares: tested, not proved.
+    #[inline(always)]
     pub fn try_into_mut(self, alloc: Global) -> Result<IoBufMut, IoBuf>
         ensures { IsRecovery self result }
     {

@@ -2,7 +2,7 @@
 //! error.
 #![forbid(unsafe_code)]
 use super::base::{self, AllocError, AllocFailed, Global};
-use super::block::show_again;
+use super::spare::show_again;
 use super::vec::Vec;
 use bytes::Buf as _;
 use std::io;

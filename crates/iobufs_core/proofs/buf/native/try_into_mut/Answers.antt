@@ -1,15 +1,14 @@
 use Rattle.std.proofs.Common.{ℕ, ◌≡◌, ◌-◌, length, drop, take, arith, ap, vec_len, Vec, Global}
 use Rattle.std.proofs.lemmas.List.{drop-take}
-use Rattle.std.specs.Arc.{arc_value}
 use Rattle.iobufs_core.proofs.Windows.{length_window}
 use Rattle.iobufs_core.proofs.buf.native.try_into_mut.Goals as goal
 
-pub returns-in-Some : goal.returns-in-Some
-returns-in-Some c =
+pub returns-in-Ok : goal.returns-in-Ok
+returns-in-Ok c =
     let s = c.native.inside in
-    let block = arc_value s.block in
+    let block = s.block in
     let cut = c.truncate.new.self in
-    let same = c.in-Some.ensures in
+    let same = c.in-Ok.ensures in
     let bytes = length_window s.start s.len block.items (omega (arith, block.ok.0)) in
     let same_len = ap (λ (v : Vec ℕ Global). vec_len v) same in
     let filled : drop s.start cut.items ≡ take s.len (drop s.start block.items) =

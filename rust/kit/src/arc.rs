@@ -1,15 +1,14 @@
 //! A shared value whose allocation may fail: `Arc::try_new` of std isn't stable.
 //!
 //! A handle points to a block with the number of handles and the value. The last one to be dropped frees the block.
-use super::base::atomic::{AtomicUsize, Ordering};
 use super::base::{AllocError, AllocFailed, Global};
+use super::count::Count;
 use std::alloc::{Layout, alloc};
 use std::ops::Deref;
-use std::process;
 use std::ptr::NonNull;
 
 struct Shared<T> {
-    handles: AtomicUsize,
+    handles: Count,
     value: T,
 }
 
@@ -30,30 +29,24 @@ impl<T> Arc<T> {
             return Err(AllocFailed { value });
         };
         // SAFETY: the block is new, and has the layout of what is written.
-        unsafe { block.write(Shared { handles: AtomicUsize::new(1), value }) };
+        unsafe { block.write(Shared { handles: Count::new(), value }) };
         Ok(Arc(block))
     }
 
-    /// Returns one more handle. Ends the process if there are more than `isize::MAX`, as std's does: an error would
-    /// cost each clone more.
+    /// Returns one more handle.
     #[inline]
     pub fn try_clone(this: &Arc<T>) -> Result<Arc<T>, AllocError> {
-        let handles = &this.shared().handles;
-        // As std's, this doesn't order other reads and writes: a thread that has one handle can make another.
-        if handles.fetch_add(1, Ordering::Relaxed) > isize::MAX as usize {
-            process::abort();
-        }
+        this.shared().handles.add();
         Ok(Arc(this.0))
     }
 
     /// Returns the value if there is no other handle.
     #[inline]
     pub fn get_mut(this: &mut Arc<T>) -> Option<&mut T> {
-        if this.shared().handles.load(Ordering::Acquire) != 1 {
+        if !this.shared().handles.is_one() {
             return None;
         }
-        // SAFETY: this is the only handle, it is borrowed by the result, and the load happens after all that others
-        // did.
+        // SAFETY: this is the only handle, it is borrowed by the result, and `is_one` is after all that others did.
         Some(unsafe { &mut this.0.as_mut().value })
     }
 
@@ -67,10 +60,9 @@ impl<T> Arc<T> {
     #[cold]
     #[inline(never)]
     fn free(block: NonNull<Shared<T>>) {
-        // All that other handles did happened before their drops. A load says so, since sanitizers don't see a fence.
         // SAFETY: no handle is left, and `new` allocated the block as a `Box` does.
         unsafe {
-            block.as_ref().handles.load(Ordering::Acquire);
+            block.as_ref().handles.acquire();
             drop(Box::from_raw(block.as_ptr()));
         }
     }
@@ -79,7 +71,7 @@ impl<T> Arc<T> {
 impl<T> Drop for Arc<T> {
     #[inline]
     fn drop(&mut self) {
-        if self.shared().handles.fetch_sub(1, Ordering::Release) == 1 {
+        if self.shared().handles.remove() {
             Arc::free(self.0);
         }
     }
