@@ -8,6 +8,7 @@
 --     seen_within                  a length that is there has the bytes before it there
 --     closed_stays_in,             where no length stands in it nor can, more bytes make none; before the first byte one can
 --     nothing_open_in
+--     IsSized, sized               a length, its header and its body have so many bytes, which are there
 --     frame_seen, has_frame,       so where it is told how many bytes its header and its body have; and all of its bytes
 --     whole_taken
 --     parts_at, cut_at, follows    the frame of a length at the front, where its bytes are there

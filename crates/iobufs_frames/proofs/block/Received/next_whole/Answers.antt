@@ -32,7 +32,8 @@ returns-in-Err-clause-next c =
     let is = sized layout c.self.inside.layout c.args.range.now bytes l.value l.len s.header s.body _
     (ap (λ (r : ReceivedBytes). r.layout) c.self.view_is) (rw c.in-Some.is at c.in_ok-length.ensures.found)
     c.in_ok-parts.ensures.inside (rw c.in-Some-2.is at c.in_ok-parts.ensures.header) (rw c.in-Some-2.is at c.in_ok-parts.ensures.body)
-    (rw c.in-Some-2.is at c.in_ok-parts.ensures.whole) (c.len.ensures.value ∙ ap (λ (r : ReceivedBytes). length r.bytes) c.self.view_is) in (
+    (rw c.in-Some-2.is at c.in_ok-parts.ensures.whole)
+    (c.len.ensures.value ∙ ap (λ (r : ReceivedBytes). length r.bytes) c.self.view_is) in (
       has_frame is_any layout c.args.range.now bytes l.value s.header s.body is tt,
       ap (λ (r : ReceivedBytes). r.bytes) (c.in-Err.ensures.unchanged ∙ c.self.view_is),
     )

@@ -17,4 +17,5 @@ returns-clause-first c =
     (rw c.in-Some.is at c.in_ok-length.ensures.found) c.in_ok-parts.ensures.inside (rw c.in-Some-2.is at c.in_ok-parts.ensures.header)
     (rw c.in-Some-2.is at c.in_ok-parts.ensures.body) (rw c.in-Some-2.is at c.in_ok-parts.ensures.whole) refl in
     let size = s.header + s.body in
-    (drop size bytes, whole_taken c.args.self c.args.range.now bytes (drop size bytes) (take size bytes) l.value s.header s.body is refl refl)
+    let left = drop size bytes in
+    (left, whole_taken c.args.self c.args.range.now bytes left (take size bytes) l.value s.header s.body is refl refl)
