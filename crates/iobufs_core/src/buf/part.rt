@@ -67,8 +67,8 @@ fn is_bad_layout(n: usize, align: usize) -> bool
     n != 0 && Layout::from_size_align(n, align).is_err()
 }
 
-// Whether `n` bytes fit into a capacity, and fill half of their storage, or it has at most 4 KiB. The Rust crate's storage
-// has 39 bytes more than it was made for.
+// Whether `n` bytes fit into a capacity, and fill half of their storage, or it has at most 4 KiB. The Rust crate's
+// storage has 39 bytes more than it was made for.
 fn suits(n: usize, capacity: usize, stored: usize) -> bool
     ensures { IsTrue result ↔ ((n ≤ capacity) × ((stored / 2 - 20 ≤ n) ⊎ (stored / 2 - 20 ≤ 2 ^ 11))) }
 {

@@ -5,7 +5,8 @@ pub invariant_of-self-2 : goal.invariant_of-self-2
 invariant_of-self-2 c = subst AreViews (sym c.in_default.ensures.done) (c.len-ahead.ensures.room, c.self.invariant)
 
 pub returns-clause-added : goal.returns-clause-added
-returns-clause-added c = (ap of_pieces c.in_default.ensures.done ∙ prepend-pieces _ _ _ c.self.view_is (omega arith) (omega arith), omega arith)
+returns-clause-added c =
+    (ap of_pieces c.in_default.ensures.done ∙ prepend-pieces _ _ _ c.self.view_is (omega arith) (omega arith), omega arith)
 
 pub push_front-requires-clause-fits : goal.push_front-requires-clause-fits
 push_front-requires-clause-fits c = omega (arith, length-kept c.self.inside _ c.self.view_is)
