@@ -1,12 +1,12 @@
 // Frames that are written.
-use crate::callers::streams::counts::long;
-use crate::callers::streams::fakes::FakeWriter;
-use crate::callers::streams::{
+use crate::frames::{BIG_16, BIG_24, BIG_32, BYTE, LITTLE_16, LITTLE_24, LITTLE_32, VARINT};
+use crate::same::assert_same;
+use crate::streams::counts::long;
+use crate::streams::fakes::FakeWriter;
+use crate::streams::{
     FRAMES, FRAMES_BIG_16, FRAMES_BIG_24, FRAMES_BIG_32, FRAMES_LITTLE_16, FRAMES_LITTLE_24,
     FRAMES_LITTLE_32, LONG, SHORT, frame_writer,
 };
-use crate::frames::{BIG_16, BIG_24, BIG_32, BYTE, LITTLE_16, LITTLE_24, LITTLE_32, VARINT};
-use crate::same::assert_same;
 use iobufs_core::codec::BufError;
 use iobufs_frames::{FrameWriter, Prefix, framed_with};
 use iobufs_made::text;

@@ -1,8 +1,8 @@
 // How many reads and writes a frame takes, and long frames.
-use crate::callers::streams::LONG;
-use crate::callers::streams::fakes::{FakeReader, FakeWriter, Interruptions};
 use crate::frames::VARINT;
 use crate::same::assert_same;
+use crate::streams::LONG;
+use crate::streams::fakes::{FakeReader, FakeWriter, Interruptions};
 use iobufs::bufs::IoBufs;
 use iobufs_core::codec::BufError;
 use iobufs_frames::{FrameReader, FrameWriter, framed_with};

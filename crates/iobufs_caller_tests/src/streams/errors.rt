@@ -1,8 +1,8 @@
 // Errors of readers and writers: each kind but `Interrupted` is returned at once, and the next call goes on.
-use crate::callers::streams::fakes::{FakeReader, FakeWriter, Interruptions};
-use crate::callers::streams::{Ending, FRAMES, SHORT, frame_reader, take_bodies};
 use crate::frames::VARINT;
 use crate::same::assert_same;
+use crate::streams::fakes::{FakeReader, FakeWriter, Interruptions};
+use crate::streams::{Ending, FRAMES, SHORT, frame_reader, take_bodies};
 use iobufs_frames::FrameWriter;
 use iobufs_made::text;
 use std::alloc::Global;
