@@ -1,7 +1,3 @@
-// The crates over the buffers: lists of commands, streams of frames, the worked callers.
-mod calls;
+// The crates over the buffers: lists of commands, printed text.
 mod many;
-mod pool;
 mod printed;
-mod scale;
-mod streams;

@@ -56,28 +56,41 @@ fn assert_split(rt: &(impl Abort + AllocGlobal), whole: &IoBufs, at: usize) -> R
     let mut rest = whole.clone()?;
     let front = rest.try_split_to(rt.alloc(), at).ok_or("too short")??;
     assert_shows(rt, &front, 0, at)?;
-    assert_shows(rt, &rest, at, whole.len())?;
+    assert_shows(rt, &rest, at, whole.len())
+}
+
+fn assert_truncated(
+    rt: &(impl Abort + AllocGlobal),
+    whole: &IoBufs,
+    at: usize,
+) -> Result<(), Fail> {
     let mut kept = whole.clone()?;
     kept.truncate(rt.alloc(), at)?;
     assert_shows(rt, &kept, 0, at)
 }
 
-// The bytes before a place are skipped, copied out, and taken as one buffer.
-fn assert_read(rt: &(impl Abort + AllocGlobal), whole: &IoBufs, at: usize) -> Result<(), Fail> {
-    let (alloc, len) = (rt.alloc(), whole.len());
+// The bytes before a place are skipped.
+fn assert_advanced(rt: &(impl Abort + AllocGlobal), whole: &IoBufs, at: usize) -> Result<(), Fail> {
     let mut advanced = whole.clone()?;
     assert!(rt; at <= advanced.remaining());
     advanced.advance(at);
-    assert_shows(rt, &advanced, at, len)?;
-    let (mut copied, mut copy) = (whole.clone()?, vec![in alloc; 0u8; at]?);
+    assert_shows(rt, &advanced, at, whole.len())
+}
+
+// The bytes before a place are copied out.
+fn assert_copied(rt: &(impl Abort + AllocGlobal), whole: &IoBufs, at: usize) -> Result<(), Fail> {
+    let (mut copied, mut copy) = (whole.clone()?, vec![in rt.alloc(); 0u8; at]?);
     copied.try_copy_to_slice(copy.as_mut_slice())?;
-    assert_shows(rt, &copied, at, len)?;
+    assert_same!(rt; copy.as_slice(), BYTES.get(..at).unwrap_or_default());
+    assert_shows(rt, &copied, at, whole.len())
+}
+
+// The bytes before a place are taken as one buffer.
+fn assert_taken(rt: &(impl Abort + AllocGlobal), whole: &IoBufs, at: usize) -> Result<(), Fail> {
     let mut taken = whole.clone()?;
-    let view = taken.try_take_owned::<IoBuf>(alloc, at)?;
-    assert_shows(rt, &taken, at, len)?;
-    let wanted = BYTES.get(..at).unwrap_or_default();
-    assert_same!(rt; (view.as_ref(), copy.as_slice()), (wanted, wanted));
-    Ok(())
+    let view = taken.try_take_owned::<IoBuf>(rt.alloc(), at)?;
+    assert_same!(rt; view.as_ref(), BYTES.get(..at).unwrap_or_default());
+    assert_shows(rt, &taken, at, whole.len())
 }
 
 #[test]
@@ -87,7 +100,10 @@ fn texts_are_cut_at_each_place(rt: HostRuntime) -> Result<(), Fail> {
             let whole = text_of(rt.alloc(), count, prepended)?;
             for at in 0..=whole.len() {
                 assert_split(&rt, &whole, at)?;
-                assert_read(&rt, &whole, at)?;
+                assert_truncated(&rt, &whole, at)?;
+                assert_advanced(&rt, &whole, at)?;
+                assert_copied(&rt, &whole, at)?;
+                assert_taken(&rt, &whole, at)?;
             }
         }
     }

@@ -52,7 +52,8 @@ const RANGES: [(&'static [u8], Bound<usize>, Bound<usize>, bool); 10] = [
 
 #[test]
 fn ranges_fit(rt: HostRuntime) {
-    for (bytes, lo, hi, wanted) in RANGES {
+    for case in &RANGES {
+        let (bytes, lo, hi, wanted) = *case;
         assert_same!(rt; IoBuf::from(bytes).fits_range(lo, hi), wanted);
     }
 }

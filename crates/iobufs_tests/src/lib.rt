@@ -16,8 +16,6 @@ mod cuts;
 #[cfg(test)]
 mod examples;
 #[cfg(test)]
-mod frames;
-#[cfg(test)]
 mod generic;
 #[cfg(test)]
 mod located;

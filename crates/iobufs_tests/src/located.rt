@@ -52,7 +52,8 @@ fn chunked(
 
 #[test]
 fn places_are_found(rt: HostRuntime) -> Result<(), Fail> {
-    for (name, first, chunks, times, at, index, offset, probes) in CASES {
+    for case in &CASES {
+        let (name, first, chunks, times, at, index, offset, probes) = *case;
         let text = chunked(rt.alloc(), first, chunks, times)?;
         assert!(rt; at < text.len(), "{name}");
         let found = text.locate(at);

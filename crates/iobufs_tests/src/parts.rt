@@ -151,7 +151,8 @@ fn adopt(alloc: Global, what: Adopted, bytes: &'static [u8]) -> Result<IoBufMut,
 
 #[test]
 fn adopted_capacities(rt: HostRuntime) -> Result<(), Fail> {
-    for (what, bytes, left, capacity) in ADOPTED {
+    for case in &ADOPTED {
+        let (what, bytes, left, capacity) = *case;
         let part = adopt(rt.alloc(), what, bytes)?;
         assert_same!(rt; (part.as_ref(), part.capacity()), (left, capacity), "{what:?}");
     }

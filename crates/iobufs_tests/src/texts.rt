@@ -148,7 +148,8 @@ const VISITS: [(&'static [&'static [u8]], &'static [u8]); 8] = rows! {
 
 #[test]
 fn each_chunk_is_visited_once(rt: HostRuntime) -> Result<(), Fail> {
-    for (chunks, wanted) in VISITS {
+    for case in &VISITS {
+        let (chunks, wanted) = *case;
         let mut visits = Vec::new(rt.alloc());
         text(rt.alloc(), chunks)?.for_each_chunk(|chunk: &[u8]| record(&mut visits, chunk));
         assert_same!(rt; visits.as_slice(), wanted);
@@ -159,7 +160,8 @@ fn each_chunk_is_visited_once(rt: HostRuntime) -> Result<(), Fail> {
 // Writable buffers of these bytes and a spare byte each.
 #[test]
 fn each_writable_chunk_is_visited_once(rt: HostRuntime) -> Result<(), Fail> {
-    for (chunks, wanted) in VISITS {
+    for case in &VISITS {
+        let (chunks, wanted) = *case;
         let mut parts = Vec::new(rt.alloc());
         for chunk in chunks {
             parts.push(part(rt.alloc(), chunk, 1)?)?;
@@ -280,7 +282,8 @@ const PAIRS: [(&'static [&'static [u8]], &'static [&'static [u8]], bool); 6] = [
 
 #[test]
 fn texts_of_other_lengths_differ(rt: HostRuntime) -> Result<(), Fail> {
-    for (one, other, same) in PAIRS {
+    for case in &PAIRS {
+        let (one, other, same) = *case;
         assert_compared(&rt, one, other, same)?;
     }
     Ok(())

@@ -48,16 +48,17 @@ fn assert_printed<C: Display>(
 
 #[test]
 fn errors_print_their_names(rt: HostRuntime) -> Result<(), Fail> {
-    for (cause, wanted) in BUFFER_ERRORS {
+    for case in &BUFFER_ERRORS {
+        let (cause, wanted) = *case;
         assert_printed(&rt, &cause, wanted)?;
         let value = IoBuf::default();
         assert_printed(&rt, &Refused { cause, value }, wanted)?;
     }
-    for (cause, wanted) in ERRORS {
-        assert_printed(&rt, &cause, wanted)?;
+    for case in &ERRORS {
+        assert_printed(&rt, &case.0, case.1)?;
     }
-    for (cause, wanted) in FAULTS {
-        assert_printed(&rt, &cause, wanted)?;
+    for case in &FAULTS {
+        assert_printed(&rt, &case.0, case.1)?;
     }
     assert_printed(&rt, &SHORT, "TryGetError")
 }

@@ -5,6 +5,7 @@ use iobufs_owner::format::FORMAT_64;
 use iobufs_owner::owner::Act::{self, Begin, Go};
 use iobufs_owner::owner::Reply::{self, Declined, Done, Made, More, Refused, Unique};
 use iobufs_owner::owner::{Call, Freed, Machine, Refusal, Step};
+use std::alloc::{AllocError, Global};
 use std::test::Fail;
 
 // Each schedule begins with these calls of thread 0.
@@ -237,20 +238,37 @@ const SCHEDULES: [Schedule; 12] = schedules! {
     }
 };
 
+// The steps of a schedule, with its opening.
+fn steps_of(alloc: Global, steps: &[(usize, Act, Reply)]) -> Result<Vec<Step>, AllocError> {
+    let mut all = Vec::new(alloc);
+    for (call, _) in &OPENING {
+        all.push(begun(*call))?;
+    }
+    for (thread, act, _) in steps {
+        let (thread, act) = (*thread, *act);
+        all.push(Step { thread, act })?;
+    }
+    Ok(all)
+}
+
+// The replies to them.
+fn replies_of(alloc: Global, steps: &[(usize, Act, Reply)]) -> Result<Vec<Reply>, AllocError> {
+    let mut all = Vec::new(alloc);
+    for (_, reply) in &OPENING {
+        all.push(*reply)?;
+    }
+    for (_, _, reply) in steps {
+        all.push(*reply)?;
+    }
+    Ok(all)
+}
+
 #[test]
 fn as_one_list(rt: HostRuntime) -> Result<(), Fail> {
     for schedule in &SCHEDULES {
         let name = schedule.name;
-        let (mut steps, mut wanted) = (Vec::new(rt.alloc()), Vec::new(rt.alloc()));
-        for (call, reply) in OPENING {
-            steps.push(begun(call))?;
-            wanted.push(reply)?;
-        }
-        for (thread, act, reply) in schedule.steps {
-            let (thread, act) = (*thread, *act);
-            steps.push(Step { thread, act })?;
-            wanted.push(*reply)?;
-        }
+        let steps = steps_of(rt.alloc(), schedule.steps)?;
+        let wanted = replies_of(rt.alloc(), schedule.steps)?;
         let mut machine = Machine::new(rt.alloc(), 5, schedule.ceiling, FORMAT_64)?;
         assert_same!(rt; machine.run(steps.as_slice())?, wanted, "{name}");
         assert_same!(rt; machine.freed_blocks(), [BLOCK].as_slice(), "{name}");

@@ -1,8 +1,8 @@
 // Errors of readers and writers: each kind but `Interrupted` is returned at once, and the next call goes on.
-use crate::callers::streams::fakes::{FakeReader, FakeWriter, Interruptions};
-use crate::callers::streams::{Ending, FRAMES, SHORT, frame_reader, take_bodies};
 use crate::frames::VARINT;
 use crate::same::assert_same;
+use crate::streams::fakes::{FakeReader, FakeWriter, Interruptions};
+use crate::streams::{Ending, FRAMES, SHORT, frame_reader, put_chunks, take_bodies};
 use iobufs_frames::FrameWriter;
 use iobufs_made::text;
 use std::alloc::Global;
@@ -67,9 +67,9 @@ fn assert_failed_read(
 
 #[test]
 fn an_error_is_returned_at_once(rt: HostRuntime) -> Result<(), Fail> {
-    for kind in KINDS {
+    for kind in &KINDS {
         for case in &FAILED_READS {
-            assert_failed_read(&rt, kind, case)?;
+            assert_failed_read(&rt, *kind, case)?;
         }
     }
     Ok(())
@@ -109,7 +109,7 @@ fn assert_failed_send(
 ) -> Result<(), Fail> {
     let to = FakeWriter::failing(rt.alloc(), case.1, case.0, kind);
     let mut writer = FrameWriter::new(rt.alloc(), to, SHORT);
-    writer.put(text(rt.alloc(), &[b"abc", b"def"])?)?;
+    put_chunks(rt.alloc(), &mut writer, &[b"abc", b"def"])?;
     let ended = writer.send();
     assert_failed_write(rt, kind, case, ended, &writer.to, writer.rest.len());
     writer.send()?;
@@ -119,9 +119,9 @@ fn assert_failed_send(
 
 #[test]
 fn the_rest_of_a_frame_is_written_later(rt: HostRuntime) -> Result<(), Fail> {
-    for kind in KINDS {
+    for kind in &KINDS {
         for case in &FAILED_WRITES {
-            assert_failed_send(&rt, kind, case)?;
+            assert_failed_send(&rt, *kind, case)?;
         }
     }
     Ok(())
@@ -143,9 +143,9 @@ fn assert_failed_write_to(
 
 #[test]
 fn refused_chunks_are_left(rt: HostRuntime) -> Result<(), Fail> {
-    for kind in KINDS {
+    for kind in &KINDS {
         for case in &FAILED_WRITES {
-            assert_failed_write_to(&rt, kind, case)?;
+            assert_failed_write_to(&rt, *kind, case)?;
         }
     }
     Ok(())
@@ -174,22 +174,27 @@ fn failing_once(alloc: Global, most: usize, fails_at: usize) -> FakeWriter {
     to
 }
 
+fn assert_failed_once(rt: &(impl Abort + AllocGlobal), case: &FailedOnce) -> Result<(), Fail> {
+    let (_, fails_at, most, fails, written, left) = *case;
+    let to = failing_once(rt.alloc(), most, fails_at);
+    let mut writer = FrameWriter::new(rt.alloc(), to, SHORT);
+    put_chunks(rt.alloc(), &mut writer, &[b"abc"])?;
+    let found = (writer.send().is_err(), writer.rest.len());
+    assert_same!(rt; found, (fails, left), "{fails_at} by {most}");
+    assert_same!(rt; writer.to.record.as_slice(), written, "{fails_at} by {most}");
+    writer.send()?;
+    assert_same!(rt; writer.to.record.as_slice(), b"\x03abc".as_slice());
+    Ok(())
+}
+
 #[test]
 fn a_frame_is_sent_by_a_writer_that_fails_once(rt: HostRuntime) -> Result<(), Fail> {
     let chunks = [IoSlice::new(b"a"), IoSlice::new(b"b")];
     let all = failing_once(rt.alloc(), 100, 9).write_vectored(&chunks)? == 2;
-    for (goes_on, fails_at, most, fails, written, left) in FAILED_ONCE {
-        if goes_on != all {
-            continue;
+    for case in &FAILED_ONCE {
+        if case.0 == all {
+            assert_failed_once(&rt, case)?;
         }
-        let to = failing_once(rt.alloc(), most, fails_at);
-        let mut writer = FrameWriter::new(rt.alloc(), to, SHORT);
-        writer.put(text(rt.alloc(), &[b"abc"])?)?;
-        let found = (writer.send().is_err(), writer.rest.len());
-        assert_same!(rt; found, (fails, left), "{fails_at} by {most}");
-        assert_same!(rt; writer.to.record.as_slice(), written, "{fails_at} by {most}");
-        writer.send()?;
-        assert_same!(rt; writer.to.record.as_slice(), b"\x03abc".as_slice());
     }
     Ok(())
 }

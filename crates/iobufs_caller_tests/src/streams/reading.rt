@@ -1,11 +1,11 @@
 // Frames that are read.
-use crate::callers::streams::fakes::FakeReader;
-use crate::callers::streams::{
+use crate::frames::{BIG_16, BIG_24, BIG_32, BYTE, LITTLE_16, LITTLE_24, LITTLE_32, VARINT};
+use crate::same::assert_same;
+use crate::streams::fakes::FakeReader;
+use crate::streams::{
     Ending, FRAMES, FRAMES_BIG_16, FRAMES_BIG_24, FRAMES_BIG_32, FRAMES_LITTLE_16,
     FRAMES_LITTLE_24, FRAMES_LITTLE_32, frame_reader, take_bodies,
 };
-use crate::frames::{BIG_16, BIG_24, BIG_32, BYTE, LITTLE_16, LITTLE_24, LITTLE_32, VARINT};
-use crate::same::assert_same;
 use iobufs_core::codec::Error;
 use iobufs_frames::Prefix;
 use std::alloc::AllocError;

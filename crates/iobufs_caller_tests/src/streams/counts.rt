@@ -1,8 +1,8 @@
 // How many reads and writes a frame takes, and long frames.
-use crate::callers::streams::LONG;
-use crate::callers::streams::fakes::{FakeReader, FakeWriter, Interruptions};
 use crate::frames::VARINT;
 use crate::same::assert_same;
+use crate::streams::LONG;
+use crate::streams::fakes::{FakeReader, FakeWriter, Interruptions};
 use iobufs::bufs::IoBufs;
 use iobufs_core::codec::BufError;
 use iobufs_frames::{FrameReader, FrameWriter, framed_with};
@@ -63,13 +63,19 @@ fn write_counted(
     ))
 }
 
+// The frame of a body.
+fn framed_bytes(alloc: Global, body: IoBufs) -> Result<&'static [u8], BufError> {
+    let framed = framed_with(alloc, VARINT, body)?;
+    let bytes: &'static [u8] = framed.to_vec(alloc)?.leak();
+    Ok(bytes)
+}
+
 fn assert_counted(rt: &(impl Abort + AllocGlobal), case: &Counting) -> Result<(), Fail> {
     let (each, most, chunks, reads, writes) = *case;
     let n = chunks.len();
     let body = text(rt.alloc(), chunks)?;
     let len = body.len();
-    let framed = framed_with(rt.alloc(), VARINT, body.clone()?)?;
-    let bytes = framed.to_vec(rt.alloc())?.leak();
+    let bytes = framed_bytes(rt.alloc(), body.clone()?)?;
     let found = read_counted(rt.alloc(), bytes, each, most)?;
     let sent = write_counted(rt.alloc(), body, bytes, each, most)?;
     assert_same!(rt; found, (len, reads, true), "{n} chunks by {most}");
@@ -102,26 +108,33 @@ const LONG_BODIES: [usize; 12] = [
     1 << 20,
 ];
 
+// A long frame is read, and sent back.
+fn assert_sent_back(
+    rt: &(impl Abort + AllocGlobal),
+    reader: &mut FrameReader<FakeReader<'static>>,
+    writer: &mut FrameWriter<FakeWriter>,
+    n: usize,
+) -> Result<(), Fail> {
+    let bytes = framed_bytes(rt.alloc(), long(rt.alloc(), n)?)?;
+    reader.from.give(bytes);
+    let body = reader.next()?.ok_or("no frame")?;
+    writer.send()?;
+    writer.to.record.clear();
+    writer.put(IoBufs::from(body))?;
+    writer.send()?;
+    assert!(rt; writer.to.record.as_slice() == bytes, "{n}");
+    Ok(())
+}
+
 // Each long frame is sent back before the next comes, in short reads and writes, and no read comes after its end.
 #[test]
 fn long_frames_go_in_turn(rt: HostRuntime) -> Result<(), Fail> {
     let alloc = rt.alloc();
-    let mut reader = FrameReader::new(
-        alloc,
-        FakeReader::new(b"", 1000, Some(ErrorKind::Other)),
-        LONG,
-    )?;
+    let from = FakeReader::new(b"", 1000, Some(ErrorKind::Other));
+    let mut reader = FrameReader::new(alloc, from, LONG)?;
     let mut writer = FrameWriter::new(alloc, FakeWriter::new(alloc, 1000), LONG);
-    for n in LONG_BODIES {
-        let framed = framed_with(alloc, VARINT, long(alloc, n)?)?;
-        let bytes = framed.to_vec(alloc)?.leak();
-        reader.from.give(bytes);
-        let body = reader.next()?.ok_or("no frame")?;
-        writer.send()?;
-        writer.to.record.clear();
-        writer.put(IoBufs::from(body))?;
-        writer.send()?;
-        assert!(rt; writer.to.record.as_slice() == bytes, "{n}");
+    for n in &LONG_BODIES {
+        assert_sent_back(&rt, &mut reader, &mut writer, *n)?;
     }
     Ok(())
 }

@@ -1,7 +1,7 @@
 // Buffers as readers and writers of std, and `IoBufs` that are written to one.
-use crate::callers::streams::counts::long;
-use crate::callers::streams::fakes::FakeWriter;
 use crate::same::assert_same;
+use crate::streams::counts::long;
+use crate::streams::fakes::FakeWriter;
 use iobufs::bufs::IoBufs;
 use iobufs_core::buf::{IoBuf, IoBufMut};
 use iobufs_frames::Writer;

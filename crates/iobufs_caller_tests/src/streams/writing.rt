@@ -1,12 +1,12 @@
 // Frames that are written.
-use crate::callers::streams::counts::long;
-use crate::callers::streams::fakes::FakeWriter;
-use crate::callers::streams::{
-    FRAMES, FRAMES_BIG_16, FRAMES_BIG_24, FRAMES_BIG_32, FRAMES_LITTLE_16, FRAMES_LITTLE_24,
-    FRAMES_LITTLE_32, LONG, SHORT, frame_writer,
-};
 use crate::frames::{BIG_16, BIG_24, BIG_32, BYTE, LITTLE_16, LITTLE_24, LITTLE_32, VARINT};
 use crate::same::assert_same;
+use crate::streams::counts::long;
+use crate::streams::fakes::FakeWriter;
+use crate::streams::{
+    FRAMES, FRAMES_BIG_16, FRAMES_BIG_24, FRAMES_BIG_32, FRAMES_LITTLE_16, FRAMES_LITTLE_24,
+    FRAMES_LITTLE_32, LONG, SHORT, frame_writer, put_chunks,
+};
 use iobufs_core::codec::BufError;
 use iobufs_frames::{FrameWriter, Prefix, framed_with};
 use iobufs_made::text;
@@ -43,7 +43,7 @@ fn send_body<W: Write + Drop>(
     pieces: &[&'static [u8]],
 ) -> Result<(), Fail> {
     assert!(rt; writer.rest.is_empty());
-    writer.put(text(rt.alloc(), pieces)?)?;
+    put_chunks(rt.alloc(), writer, pieces)?;
     assert!(rt; !writer.rest.is_empty());
     writer.send()?;
     Ok(())
@@ -79,7 +79,7 @@ fn assert_queued(rt: &(impl Abort + AllocGlobal), case: &Writing, most: usize) -
     let (prefix, _, bodies, written) = *case;
     let mut writer = frame_writer(rt.alloc(), prefix, FakeWriter::new(rt.alloc(), most));
     for body in bodies {
-        writer.put(text(rt.alloc(), body)?)?;
+        put_chunks(rt.alloc(), &mut writer, body)?;
     }
     assert_same!(rt; writer.unsent(), bodies.len());
     writer.send()?;
@@ -103,9 +103,9 @@ fn frames_wait_for_a_send(rt: HostRuntime) -> Result<(), Fail> {
 fn a_frame_follows_the_rest_of_another(rt: HostRuntime) -> Result<(), Fail> {
     let to = FakeWriter::failing(rt.alloc(), 100, 1, ErrorKind::BrokenPipe);
     let mut writer = FrameWriter::new(rt.alloc(), to, SHORT);
-    writer.put(text(rt.alloc(), &[b"abc"])?)?;
+    put_chunks(rt.alloc(), &mut writer, &[b"abc"])?;
     assert!(rt; writer.send().is_err());
-    writer.put(text(rt.alloc(), &[b"d"])?)?;
+    put_chunks(rt.alloc(), &mut writer, &[b"d"])?;
     assert_same!(rt; (writer.unsent(), writer.rest.len()), (2, 3));
     writer.send()?;
     assert_same!(rt; writer.to.record.as_slice(), b"\x03abc\x01d".as_slice());
@@ -117,7 +117,7 @@ fn a_frame_follows_the_rest_of_another(rt: HostRuntime) -> Result<(), Fail> {
 fn a_flush_comes_before_the_rest_of_a_frame(rt: HostRuntime) -> Result<(), Fail> {
     let to = FakeWriter::failing(rt.alloc(), 100, 1, ErrorKind::BrokenPipe);
     let mut writer = FrameWriter::new(rt.alloc(), to, SHORT);
-    writer.put(text(rt.alloc(), &[b"abc"])?)?;
+    put_chunks(rt.alloc(), &mut writer, &[b"abc"])?;
     assert!(rt; writer.send().is_err());
     writer.to.flush()?;
     writer.send()?;
@@ -131,7 +131,7 @@ fn a_frame_is_sent_without_a_flush(rt: HostRuntime) -> Result<(), Fail> {
     let frame = framed_with(rt.alloc(), VARINT, text(rt.alloc(), &[b"abc", b"def"])?)?;
     assert_same!(rt; frame.to_vec(rt.alloc())?.as_slice(), b"\x06abcdef".as_slice());
     let mut writer = FrameWriter::new(rt.alloc(), FakeWriter::new(rt.alloc(), 100), SHORT);
-    writer.put(text(rt.alloc(), &[b"abc", b"def"])?)?;
+    put_chunks(rt.alloc(), &mut writer, &[b"abc", b"def"])?;
     writer.send()?;
     assert_same!(rt; writer.to.record.as_slice(), b"\x06abcdef".as_slice());
     Ok(())
@@ -161,7 +161,7 @@ fn a_body_above_the_limit_is_refused(rt: HostRuntime) -> Result<(), Fail> {
     let refused = refused.map(|refused| (refused.cause, refused.value.len()));
     assert_same!(rt; refused, Some((BufError::TooLong, 3)));
     assert!(rt; writer.rest.is_empty());
-    writer.put(text(alloc, &[b"ab"])?)?;
+    put_chunks(alloc, &mut writer, &[b"ab"])?;
     writer.send()?;
     assert_same!(rt; writer.to.record.as_slice(), b"\x02ab".as_slice());
     Ok(())

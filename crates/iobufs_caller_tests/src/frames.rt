@@ -4,6 +4,7 @@ use iobufs_core::buf::IoBuf;
 use iobufs_core::codec::{BufError, RangeCfg};
 use iobufs_frames::{ByteOrder, Frames, Prefix, Width};
 use std::alloc::Global;
+use std::process::Abort;
 use std::test::Fail;
 
 pub const VARINT: Prefix = Prefix::Spelled;
@@ -55,14 +56,24 @@ const LENGTHS: [(Prefix, usize, Option<&'static [u8]>); 25] = rows! {
     LITTLE_64, 1099511627777, Some(b"\x01\0\0\0\0\x01\0\0");
 };
 
+fn assert_written(
+    rt: &(impl Abort + AllocGlobal),
+    prefix: Prefix,
+    n: usize,
+    wanted: Option<&'static [u8]>,
+) -> Result<(), BufError> {
+    assert_same!(rt; prefix.fits(n), wanted.is_some(), "{n} as {prefix:?}");
+    if prefix.fits(n) {
+        let length = prefix.written(rt.alloc(), n)?;
+        assert_same!(rt; Some(length.as_ref()), wanted, "{n} as {prefix:?}");
+    }
+    Ok(())
+}
+
 #[test]
 fn lengths_are_written(rt: HostRuntime) -> Result<(), Fail> {
-    for (prefix, n, wanted) in LENGTHS {
-        assert_same!(rt; prefix.fits(n), wanted.is_some(), "{n} as {prefix:?}");
-        if prefix.fits(n) {
-            let length = prefix.written(rt.alloc(), n)?;
-            assert_same!(rt; Some(length.as_ref()), wanted, "{n} as {prefix:?}");
-        }
+    for case in &LENGTHS {
+        assert_written(&rt, case.0, case.1, case.2)?;
     }
     Ok(())
 }
@@ -107,7 +118,8 @@ fn framed(alloc: Global, chunks: &[&'static [u8]], most: usize) -> Result<Vec<u8
 
 #[test]
 fn frames_of_chunks(rt: HostRuntime) -> Result<(), Fail> {
-    for (chunks, most, wanted) in FRAMES {
+    for case in &FRAMES {
+        let (chunks, most, wanted) = *case;
         let shown = framed(rt.alloc(), chunks, most)?;
         assert_same!(rt; shown.as_slice(), wanted, "{chunks:?}");
     }

@@ -1,8 +1,10 @@
 // Frames over readers and writers that take and give as they like.
 use iobufs_core::codec::{Error, RangeCfg};
 use iobufs_frames::{FrameError, FrameReader, FrameWriter, Prefix};
+use iobufs_made::text;
 use std::alloc::{AllocError, Global};
 use std::io::{ErrorKind, Read, Write};
+use std::test::Fail;
 
 mod counts;
 mod echoes;
@@ -66,6 +68,16 @@ fn frame_writer<W: Write + Drop>(alloc: Global, prefix: Prefix, to: W) -> FrameW
         Prefix::Spelled => FrameWriter::new(alloc, to, SHORT),
         _ => FrameWriter::with_prefix(alloc, to, prefix, SHORT),
     }
+}
+
+// Puts a body of these chunks.
+fn put_chunks<W: Write + Drop>(
+    alloc: Global,
+    writer: &mut FrameWriter<W>,
+    chunks: &[&'static [u8]],
+) -> Result<(), Fail> {
+    writer.put(text(alloc, chunks)?)?;
+    Ok(())
 }
 
 // Takes all bodies, with `|` after each, and returns why no further one comes.
