@@ -3,8 +3,8 @@
 --     has_length, opened, less         there is a varint or none; it may go on or can't; one number is less or not
 --     no_length_later, still_closed    there can be no length with more bytes after it either
 --     begun_open                       each proper prefix of what is written may go on
-use Rattle.std.specs.Prelude.{◌≡◌, ◌⊎◌, ℕ, zero, suc, ◌+◌, ◌-◌, ◌*◌, ◌^◌, ◌<◌, ◌≤◌, Bool, true, false, nat_lt, Result, Ok, Err, List, [], ◌∷◌, ◌++◌, length, take, drop, refl}
-use Rattle.std.proofs.Common.{arith, inl, inr, ap, sym, subst, ◌∙◌, length-append, length-drop, length-take, take-append-drop}
+use Rattle.std.specs.Prelude.{◌≡◌, ◌⊎◌, ℕ, zero, suc, ◌+◌, ◌-◌, ◌*◌, ◌^◌, ◌<◌, ◌≤◌, Bool, true, false, nat_lt, Ok, Err, List, [], ◌∷◌, ◌++◌, length, take, drop, refl}
+use Rattle.std.proofs.Common.{arith, inl, inr, ap, sym, subst, ◌∙◌, length-append, length-drop, take-append-drop}
 use Rattle.std.proofs.Math.Seq.{take-append-add}
 use Rattle.std.proofs.lemmas.Bool.{ltb-true, ltb-false}
 use Rattle.std.proofs.lemmas.List.{take-append-le, take_all}
@@ -12,8 +12,7 @@ use Rattle.iobufs_core.specs.Ranges.{in_range}
 use Rattle.iobufs_core.specs.Spelled.{length-spell, none_high, one_form, read_off, spelled, spelled_front}
 use Rattle.iobufs_core.specs.Spelling.{spell, AreHigh, HasNoLength, IsOpen, IsSpelledAt, IsSpelling}
 use Rattle.iobufs_core.specs.Wire.{IsLengthRead, bytes_written}
-use Rattle.iobufs_core.specs.declared.codec.base.Error.{Error}
-use Rattle.iobufs_core.specs.declared.codec.base.Error.TheVariants.{EndOfBuffer, InvalidVarint, InvalidLength}
+use Rattle.iobufs_core.specs.declared.codec.base.Error.TheVariants.{EndOfBuffer}
 use Rattle.iobufs_core.specs.declared.codec.base.RangeCfg.{RangeCfg}
 
 -- ---- a length is read, or a fault is

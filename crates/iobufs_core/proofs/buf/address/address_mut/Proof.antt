@@ -1,10 +1,10 @@
 -- `address_mut` makes a pointer of a mutable slice's, and leaves the bytes.
-use Rattle.std.proofs.Common.{◌≡◌, ℕ, [], ◌∷◌, ◌++◌, List, length, refl, MutBor}
+use Rattle.std.proofs.Common.{ℕ, [], ◌∷◌, List, length, refl, MutBor}
 use seplogic.Ra.Ura.{Ura}
 use mir.Syntax.{named}
 use mir.Val.{Val, vptr}
 use base.Logic.{SProp, emp, ent, fst∗, via}
-use base.Fml.{Fml, Lft, GName, Share, ftrue, flft, fobs, fbor}
+use base.Fml.{Lft, GName, Share, ftrue, flft, fobs, fbor}
 use prog.Memory.{Memory}
 use prog.Routine.{Routine}
 use prog.Wp.{Calls, Loops, WpFn, Tables}
