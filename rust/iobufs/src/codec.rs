@@ -569,7 +569,8 @@ macro_rules! by_parts {
 }
 
 /// Makes a struct of up to six fields a value, field by field. A field's requirement is after its `=`: a range of
-/// lengths, or for a `Vec<u16>` such as `((..=8).into(), ())`. A field without one requires `()`.
+/// lengths, or for a `Vec<u16>` such as `((..=8).into(), ())`. A field without one requires `()`. For more fields, write
+/// a [`ByParts`](crate::codec::ByParts) whose `Parts` has tuples in a tuple, as `((u8, u16, u32), String)`.
 ///
 /// ```
 /// use iobufs::codec::{Decode, Encode};

@@ -392,7 +392,17 @@ impl From<Vec<u8>> for IoBufMut {
     }
 }
 
-/// Recovered as by `IoBuf::try_into_mut`, else copied.
+/// Recovered as by `IoBuf::try_into_mut`, else copied. By way of a `Bytes`, the storage of one that nothing shares is kept:
+///
+/// ```
+/// use bytes::Bytes;
+/// use iobufs::{IoBuf, IoBufMut};
+///
+/// let bytes = Bytes::from(vec![1, 2, 3]);
+/// let at = bytes.as_ptr();
+/// let buf = IoBufMut::from(Bytes::from(IoBuf::from(bytes)));
+/// assert_eq!(buf.as_ref().as_ptr(), at);
+/// ```
 impl From<IoBuf> for IoBufMut {
     #[inline]
     fn from(view: IoBuf) -> Self {
