@@ -167,8 +167,7 @@ impl<T: base::Clone> base::Clone for VecDeque<T> {
     #[inline]
     fn clone(&self) -> Result<VecDeque<T>, AllocError> {
         let (front, rest) = self.0.as_slices();
-        let mut items = std::vec::Vec::new();
-        items.try_reserve_exact(self.0.len()).map_err(|_| AllocError)?;
+        let mut items = Vec::with_capacity(Global, self.0.len())?.0;
         if ENDS_IF_REFUSED {
             // Std trusts the length of these iterators: no test of the capacity for each item.
             let cloned = |item: &T| item.clone().unwrap_or_else(|_| process::abort());
