@@ -16,7 +16,7 @@
  * own handle empty; an empty handle may be used, and dropped, again. Each `out` handle names a buffer, which is overwritten:
  * what it held is dropped.
  *
- * The caller's duties, which nothing tests:
+ * The caller's duties, which no exported call tests:
  *  1. A handle names memory that an `.._init` made a buffer of. Memory is freed only after a `.._drop` (or what the buffer
  *     holds is leaked). It may be moved (memcpy), and the buffer with it; never two copies may be used.
  *  2. The handles and other pointers of one call don't overlap: `iobuf_clone(&a, &a)` is not allowed.
@@ -63,8 +63,8 @@ enum iobufs_code {
     IOBUFS_OUT_OF_RANGE = 4,   /* a range or an offset is outside the bytes, or bytes don't fit */
     IOBUFS_END_OF_BUFFER = 5,  /* fewer bytes remain than the call needs */
     IOBUFS_INVALID_VARINT = 6, /* the bytes are an invalid varint */
-    IOBUFS_INVALID_LENGTH = 7, /* the length is outside the range */
-    IOBUFS_DECLINED = 8,       /* the buffer can't be converted, and stays */
+    IOBUFS_INVALID_LENGTH = 7, /* the length is outside the range, or below `counts` */
+    IOBUFS_DECLINED = 8,       /* the buffer can't be converted, or there is none, and all stays */
     IOBUFS_BAD_KIND = 9       /* the kind of a bound is unknown */
 };
 typedef uint8_t iobufs_status;

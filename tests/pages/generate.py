@@ -247,7 +247,7 @@ def speed():
 
 def slowest():
     """The slowest workloads of the Rust crate by time."""
-    yield f"Slowest by time: {SLOWEST.findall(RESULTS.read_text())[-1]}."
+    yield f"Slowest by time, as multiples of the original's: {SLOWEST.findall(RESULTS.read_text())[-1]}."
 
 
 def crates():

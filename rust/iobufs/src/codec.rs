@@ -418,7 +418,7 @@ impl From<Error> for values::Fault {
 }
 
 /// A type that is written and read as another value: a tuple of its fields, or one of several kinds. `by_parts!` makes
-/// it a value itself. `from_parts` has to make of the parts that were written the value that was.
+/// it a value itself. `from_parts` must return the value whose `parts` were written.
 ///
 /// ```
 /// use iobufs::codec::{ByParts, Decode, Encode, Written};
@@ -568,7 +568,7 @@ macro_rules! by_parts {
     };
 }
 
-/// Makes a struct of up to six fields a value, field by field. A field's requirement is after its `=`: a range of
+/// Makes a struct of one to six named fields, without type parameters, a value, field by field. A field's requirement is after its `=`: a range of
 /// lengths, or for a `Vec<u16>` such as `((..=8).into(), ())`. A field without one requires `()`. For more fields, write
 /// a [`ByParts`](crate::codec::ByParts) whose `Parts` has tuples in a tuple, as `((u8, u16, u32), String)`.
 ///

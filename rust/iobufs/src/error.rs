@@ -122,7 +122,7 @@ pub(crate) fn short(error: core::TryGetError) -> TryGetError {
 }
 
 /// Ends the process, as Rust's collections do if an allocation fails. Prints how many bytes were requested, if that is
-/// known.
+/// known and at most `isize::MAX`.
 #[cold]
 pub(crate) fn out_of_memory(bytes: Option<usize>) -> ! {
     if let Some(layout) = bytes.and_then(|n| Layout::array::<u8>(n).ok()) {

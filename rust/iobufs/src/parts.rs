@@ -400,7 +400,7 @@ impl Builder {
     /// ```
     ///
     /// # Panics
-    /// Panics if the length of all passes `usize::MAX`.
+    /// Panics if the capacity and all that is pushed pass `usize::MAX`.
     #[inline]
     #[track_caller]
     pub fn push(&mut self, chunk: impl Into<Bytes> + 'static) {

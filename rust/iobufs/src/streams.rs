@@ -11,7 +11,7 @@ use std::io::{self, ErrorKind, Read, Write};
 use std::ops::RangeBounds;
 use std::{error, fmt, mem};
 
-/// Why no frame is taken from a reader.
+/// Why no frame is taken from a reader, or encoded by `iobufs-tokio`.
 ///
 /// ```
 /// use iobufs::{FrameError, FrameReader};
@@ -596,7 +596,7 @@ impl<W> FrameWriter<W> {
 }
 
 impl<W: Write> FrameWriter<W> {
-    /// Writes the frames that were put, by as many vectored writes as the writer needs, and flushes the writer.
+    /// Writes the frames that were put, by vectored writes of up to 64 chunks, and flushes the writer.
     ///
     /// ```
     /// let mut space = [0; 4];
