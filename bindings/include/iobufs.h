@@ -594,8 +594,7 @@ IOBUFS_CHECKED iobufs_status iobufs_frames_space(struct iobufs_received_at *rece
 IOBUFS_CHECKED iobufs_status iobufs_frames_filled(struct iobufs_received_at *received, size_t n);
 /* Takes the body of the first frame, which has from lo to hi bytes. It shares the block, and keeps its own frame or 64 KiB,
  * whichever is more. It is copied only out of a block above 64 KiB of another size than its frame: call this after each
- * read, and a block gets the size of its frame. Writes a length that is outside to `wrong`, as iobufs_frames_next
- * does. (own)
+ * read, and a block gets the size of its frame. Writes to `wrong` what iobufs_frames_next does. (own)
  * Fails: IOBUFS_END_OF_BUFFER if it is not whole yet; IOBUFS_INVALID_VARINT if its length is invalid;
  *   IOBUFS_INVALID_LENGTH if its length is outside; IOBUFS_MEMORY, for the copy, and in the kit's build for a count.
  * Keeps: both. */

@@ -94,14 +94,14 @@ pub(crate) fn past(requested: usize, available: usize) -> ! {
     panic!("advance out of bounds: the len is {available} but advancing by {requested}")
 }
 
-/// Panics as the original does if a buffer in one chunk has fewer bytes than a copy.
+/// Panics as the original's `IoBuf` and `IoBufMut` do if they have fewer bytes than a copy.
 #[cold]
 #[track_caller]
 pub(crate) fn too_short(error: TryGetError) -> ! {
     panic!("{error}")
 }
 
-/// Panics as it does if there are several chunks.
+/// Panics as its `IoBufs` and `IoBufsMut` do.
 #[cold]
 #[track_caller]
 pub(crate) fn short_chunks(error: TryGetError) -> ! {

@@ -132,7 +132,7 @@ impl FrameCodec {
     /// ```
     ///
     /// # Errors
-    /// Returns [`Error::InvalidVarint`] or [`Error::InvalidLength`] if no further bytes can make the frame whole.
+    /// Returns [`Error::InvalidVarint`] or [`Error::InvalidLength`] if the length is invalid or outside the range.
     pub fn decode(&self, src: &mut BytesMut) -> Result<Option<IoBuf>, Error> {
         Ok(self.take(src)?.map(|(header, mut frame)| {
             frame.advance(header);
@@ -309,7 +309,7 @@ impl<R> FrameReader<R> {
     /// ```
     ///
     /// # Errors
-    /// Returns [`Error::InvalidVarint`] or [`Error::InvalidLength`] if no further bytes can make the frame whole.
+    /// Returns [`Error::InvalidVarint`] or [`Error::InvalidLength`] if the length is invalid or outside the range.
     pub fn try_next(&mut self) -> Result<Option<IoBuf>, Error> {
         let body = self.0.try_next().map_err(fault)?;
         Ok(body.map(IoBuf))
@@ -405,8 +405,8 @@ impl<R: Read> FrameReader<R> {
     /// ```
     ///
     /// # Errors
-    /// Returns [`FrameError::Bad`] if no further bytes can make the frame whole, [`FrameError::Cut`] if the input ends
-    /// inside a frame, and [`FrameError::Io`] with the reader's error. After an error no byte is lost, and `next` may be
+    /// Returns [`FrameError::Bad`] if the length is invalid or outside the range, [`FrameError::Cut`] if the input ends
+    /// inside a frame, and [`FrameError::Io`] with the error of a read. After an error no byte is lost, and `next` may be
     /// called again.
     #[allow(clippy::should_implement_trait)]
     pub fn next(&mut self) -> Result<Option<IoBuf>, FrameError> {

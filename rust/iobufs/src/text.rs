@@ -748,7 +748,7 @@ impl Frames {
     /// ```
     ///
     /// # Errors
-    /// Returns [`Error::InvalidVarint`] or [`Error::InvalidLength`] if no further bytes can make the frame whole. Then
+    /// Returns [`Error::InvalidVarint`] or [`Error::InvalidLength`] if the length is invalid or outside the range. Then
     /// nothing changes: the connection can't be read on.
     pub fn next(&mut self, range: impl RangeBounds<usize>) -> Result<Option<IoBuf>, Error> {
         let body = self.0.next(Global, &core::RangeCfg::new(range)).map_err(fault)?;

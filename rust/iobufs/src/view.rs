@@ -153,7 +153,7 @@ impl IoBuf {
         self.as_ref().as_ptr()
     }
 
-    /// Returns the view of the bytes of a range, in the same storage.
+    /// Returns the view of the bytes of a range, in the same storage if there are any.
     ///
     /// ```
     /// let view = iobufs::IoBuf::from(vec![1, 2, 3]);
@@ -175,7 +175,8 @@ impl IoBuf {
         }
     }
 
-    /// Returns the view of some of its bytes, in the same storage: [`slice`](Self::slice) by a subslice.
+    /// Returns the view of some of its bytes, in the same storage: [`slice`](Self::slice) by a subslice. Of no bytes it is
+    /// the empty view.
     ///
     /// ```
     /// let line = iobufs::IoBuf::from("key = value");
