@@ -25,7 +25,7 @@ is_below Unbounded n = true
 abbrev pub lies_within : Bound ℕ → Bound ℕ → ℕ → Bool
 lies_within lo hi n = is_above lo n && is_below hi n
 
--- the highest number below a bound; None where there is none
+-- the highest number that an upper bound admits; None where there is none
 abbrev pub highest_place : Bound ℕ → Option ℕ
 highest_place (Included n) = Some n
 highest_place (Excluded n) = if n == 0 then None else Some (n - 1)

@@ -119,7 +119,7 @@ record IsShort (bytes : List ℕ) (range : RangeCfg) : Type 0 where
   read : IsLengthRead bytes range (Ok n)
   few : length bytes < length (spell n) + n
 
--- why no view is read: there was no memory, or the length has a fault, or it is longer than what is there
+-- why no view is read: an allocation failed, or the length has a fault, or it is longer than what is there
 ViewFault : MarkedText → RangeCfg → Error → Type 0
 ViewFault text range error =
     (error ≡ Memory) ⊎ (IsLengthRead text.bytes range (Err error) ⊎ ((error ≡ EndOfBuffer) × IsShort text.bytes range))
@@ -136,7 +136,7 @@ view_fault text range (InvalidLength n) h = inr (inl h)
 view_fault text range BadLayout h = inr (inl h)
 view_fault text range TooLong h = inr (inl h)
 
--- where a view is there to be read, only memory can be wanting
+-- where a view is there to be read, only an allocation can fail
 only_memory : (s t : MarkedText) (range : RangeCfg) (n : ℕ) (error : Error) → s.bytes ≡ t.bytes → HasView s range n
     → IsViewFault t range error → error ≡ Memory
 unfolding ViewFault

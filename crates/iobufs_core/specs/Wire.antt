@@ -92,7 +92,7 @@ pub record IsTaken {Value Reader : Type 0} (makes : View → Value → Type 0) (
   pub made : makes (taken_view text (length (spell n)) n) value
   pub left : new ≡ copied old (length (spell n) + n)
 
--- why no view is read: the fault of its length, fewer bytes after it than it says, or bytes that find no memory
+-- why no view is read: the fault of its length, fewer bytes after it than it says, or a failed allocation
 abbrev pub IsViewFault : MarkedText → RangeCfg → Error → Type 0
 IsViewFault text range Memory = (n : ℕ) × HasView text range n × (0 < n)
 IsViewFault text range EndOfBuffer =

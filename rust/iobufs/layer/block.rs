@@ -1,21 +1,23 @@
 //! In the place of `iobufs_core/buf/block.rt`, where a block is an `Arc` of a `Vec`: a block whose head, with the count
-//! of the handles, lies behind the bytes in the `Vec`'s own allocation, or in one of its own if there is no room.
+//! of the handles, is after the bytes in the `Vec`'s own allocation, or in one of its own if there is no room.
 //!
 //! ```text
 //! bytes | gap | head | other spare capacity
 //!       0     len
 //! ```
 //!
-//! It is sound for any safe caller, whatever the proof says of the callers: storage that is shared is taken apart, and
-//! until the only handle puts it together again, nothing of it is lent but its bytes, to be read.
+//! It is sound for any safe caller, whatever the proof says of the callers: a limit is tested against the capacity, and
+//! bytes against the limit. Storage that is shared is taken apart, and until the only handle puts it together again,
+//! nothing of it is lent but its bytes, to be read.
 use super::base::{AllocError, Global};
-use super::bytes::Bytes;
+use super::bytes::{Bytes, ENDS_IF_REFUSED};
 use super::count::Count;
 use super::vec::Vec;
 use std::alloc::{Layout, alloc};
+use std::cell::Cell;
 use std::mem::{ManuallyDrop, MaybeUninit};
 use std::ptr::NonNull;
-use std::{slice, vec};
+use std::{ptr, slice, vec};
 
 /// The count of the handles, and the parts of the `Vec`.
 struct Head {
@@ -33,7 +35,15 @@ const HEAD: Layout = Layout::new::<Head>();
 /// So many bytes of spare capacity are enough for a head, wherever they begin.
 const ROOM: usize = HEAD.size() + HEAD.align() - 1;
 
-/// Nothing: `new_storage` makes room for a head.
+const OUTSIDE: &str = "there is no space for it";
+
+thread_local! {
+    /// The place of the last head that this thread freed, for its next one. Where a refused allocation is an error it
+    /// stays empty, so that each call has the same allocations each time, and the thread registers no destructor.
+    static SPARE: Cell<Option<Apart>> = const { Cell::new(None) };
+}
+
+/// Nothing: `Space::new` makes room for a head.
 pub struct Shell(());
 
 impl Shell {
@@ -43,21 +53,161 @@ impl Shell {
     }
 }
 
-/// Returns empty storage of a capacity of at least `n`, and room for a head behind that.
-#[inline]
-pub fn new_storage(alloc: Global, n: usize, shell: Shell) -> Result<(Vec<u8>, Shell), AllocError> {
-    Ok((Vec::with_capacity(alloc, n.saturating_add(ROOM))?, shell))
+/// Bytes, and space for more.
+pub struct Space {
+    storage: Vec<u8>,
+    // At least the length of the storage, and at most its capacity.
+    limit: usize,
 }
 
-/// Appends bytes that fit into the capacity. Panics if they don't.
-#[inline]
-pub fn put_reserved(storage: &mut Vec<u8>, src: &[u8]) {
-    storage.extend_reserved(src);
+// The calls are those of `block.rt`.
+#[allow(clippy::len_without_is_empty)]
+impl Space {
+    /// Returns the bytes of a `Vec`, and its capacity up to a limit. Panics if that is no capacity of it.
+    #[inline]
+    pub fn of(storage: Vec<u8>, limit: usize) -> Space {
+        assert!(storage.len() <= limit && limit <= storage.capacity(), "{OUTSIDE}");
+        Space { storage, limit }
+    }
+
+    /// Returns an empty space of a capacity of `n`, and room for a head after that.
+    #[inline]
+    pub fn new(alloc: Global, n: usize, shell: Shell) -> Result<(Space, Shell), AllocError> {
+        let storage = Vec::with_capacity(alloc, n.saturating_add(ROOM))?;
+        Ok((Space { storage, limit: n }, shell))
+    }
+
+    /// Returns the storage.
+    #[inline]
+    pub fn into_vec(self) -> Vec<u8> {
+        self.storage
+    }
+
+    /// Returns the allocator.
+    #[inline]
+    pub fn allocator(&self) -> Global {
+        Global
+    }
+
+    /// Returns the number of bytes.
+    #[inline]
+    pub fn len(&self) -> usize {
+        self.storage.len()
+    }
+
+    /// Returns the limit.
+    #[inline]
+    pub fn capacity(&self) -> usize {
+        self.limit
+    }
+
+    /// Returns how many bytes fit after the others.
+    #[inline]
+    pub fn spare(&self) -> usize {
+        self.limit - self.storage.len()
+    }
+
+    /// Returns how many bytes are allocated.
+    #[inline]
+    pub fn allocated(&self) -> usize {
+        self.storage.capacity()
+    }
+
+    /// Returns whether so many bytes fit after the others.
+    #[inline]
+    pub fn has_room(&self, n: usize) -> bool {
+        n <= self.spare()
+    }
+
+    /// Returns the bytes.
+    #[inline]
+    pub fn as_slice(&self) -> &[u8] {
+        self.storage.as_slice()
+    }
+
+    /// Returns the bytes from a place on, which is at most the length, for overwriting.
+    #[inline]
+    pub fn slice_mut(&mut self, start: usize) -> &mut [u8] {
+        self.storage.slice_mut(start..)
+    }
+
+    /// Appends bytes. Panics if they don't fit.
+    #[inline]
+    pub fn put(&mut self, src: &[u8]) {
+        assert!(src.len() <= self.spare(), "{OUTSIDE}");
+        let storage = &mut self.storage.0;
+        let len = storage.len();
+        // SAFETY: the limit is within the capacity (the clause of `put`), so these bytes fit after the others, which `src`
+        // can't overlap: it is borrowed.
+        unsafe {
+            ptr::copy_nonoverlapping(src.as_ptr(), storage.as_mut_ptr().add(len), src.len());
+            storage.set_len(len + src.len());
+        }
+    }
+
+    /// Appends a byte. Panics if it doesn't fit.
+    #[inline]
+    pub fn push(&mut self, byte: u8) {
+        self.put(&[byte]);
+    }
+
+    /// Keeps the first `n` bytes, or appends a byte until there are `n`. Panics if they don't fit.
+    #[inline]
+    pub fn resize(&mut self, n: usize, byte: u8) {
+        assert!(n <= self.limit, "{OUTSIDE}");
+        self.storage.0.resize(n, byte);
+    }
+
+    /// Keeps the first `n` bytes.
+    #[inline]
+    pub fn truncate(&mut self, n: usize) {
+        self.storage.truncate(n);
+    }
+
+    /// Gives up the capacity after the bytes.
+    #[inline]
+    pub fn close(&mut self) {
+        self.limit = self.storage.len();
+    }
+}
+
+// For `bytes::BufMut` of the Rust crate; `block.rt` has no such calls, and `rust/kit` no use of them.
+#[allow(dead_code)]
+impl Space {
+    /// Returns the capacity after the bytes.
+    #[inline]
+    pub(crate) fn uninit(&mut self) -> &mut [MaybeUninit<u8>] {
+        let n = self.spare();
+        &mut self.storage.0.spare_capacity_mut()[..n]
+    }
+
+    /// Makes the first `n` bytes of the capacity after the others readable. Panics if there are fewer.
+    ///
+    /// # Safety
+    /// They are written.
+    #[inline]
+    #[track_caller]
+    pub(crate) unsafe fn fill(&mut self, n: usize) {
+        assert!(n <= self.spare(), "{OUTSIDE}");
+        let len = self.storage.0.len() + n;
+        // SAFETY: the limit is within the capacity, and the caller wrote the bytes.
+        unsafe { self.storage.0.set_len(len) }
+    }
+
+    /// Returns the address of the bytes. The capacity may be written from there on.
+    #[inline]
+    pub(crate) fn address(&mut self) -> *mut u8 {
+        self.storage.0.as_mut_ptr()
+    }
 }
 
 /// A handle of shared storage.
-// The address of a head that `of` wrote. It stays there, unchanged but for its count, as long as a handle.
-pub struct Block(NonNull<Head>);
+pub struct Block {
+    // The address of a head that `of` wrote. It stays there, unchanged but for its count, as long as a handle.
+    head: NonNull<Head>,
+    // At least the length of the storage, and at most its capacity.
+    limit: usize,
+}
 
 // SAFETY: handles in several threads lend `&[u8]`, and the last one frees the storage in its thread, as those of an
 // `Arc<Vec<u8>>` (the field of `Block` in the proved file).
@@ -69,8 +219,8 @@ impl Block {
     /// Shares storage. If allocation fails, drops it.
     #[inline]
     #[allow(unused_variables)]
-    pub fn new(alloc: Global, shell: Shell, storage: Vec<u8>) -> Result<Block, AllocError> {
-        Block::of(storage.0, None)
+    pub fn new(alloc: Global, shell: Shell, space: Space) -> Result<Block, AllocError> {
+        Block::of(space, None)
     }
 
     /// Returns the bytes.
@@ -78,43 +228,52 @@ impl Block {
     pub fn as_slice(&self) -> &[u8] {
         let head = self.head();
         // SAFETY: the `Vec` had these bytes, and nothing writes to them or frees them while there is a handle (the clause
-        // of `as_slice`). The head lies behind them.
+        // of `as_slice`). The head is after them, or in an allocation of its own.
         unsafe { slice::from_raw_parts(head.at.as_ptr(), head.len) }
+    }
+
+    /// Returns the limit.
+    #[inline]
+    pub fn capacity(&self) -> usize {
+        self.limit
     }
 
     /// Returns one more handle.
     #[inline]
     pub fn share(&self) -> Result<Block, AllocError> {
         self.head().handles.add();
-        Ok(Block(self.0))
+        Ok(Block { head: self.head, limit: self.limit })
     }
 
     /// Takes the storage back, if this is the only handle.
     #[inline]
-    pub fn take(self) -> Result<(Vec<u8>, Shell), Block> {
+    pub fn take(self) -> Result<(Space, Shell), Block> {
+        let limit = self.limit;
         let head = self.only()?;
         // SAFETY: this was the only handle (the clause of `take`).
-        let (bytes, _) = unsafe { Block::joined(head) };
-        Ok((Vec(bytes), Shell(())))
+        let (bytes, apart) = unsafe { Block::joined(head) };
+        keep(apart);
+        Ok((Space { storage: Vec(bytes), limit }, Shell(())))
     }
 
-    /// Converts the storage into a `Bytes`, if this is the only handle. If allocation fails, the bytes come back.
+    /// Converts the storage into a `Bytes`, if this is the only handle. If allocation fails, the block comes back.
     #[allow(unused_variables)]
     pub fn into_bytes(self, alloc: Global) -> Result<Result<Bytes, Block>, Block> {
+        let limit = self.limit;
         let head = self.only()?;
         // SAFETY: this was the only handle (the clause of `into_bytes`).
         let (bytes, apart) = unsafe { Block::joined(head) };
-        let refused = match Bytes::from_vec(Vec(bytes)) {
+        let storage = match Bytes::from_vec(Vec(bytes)) {
             Ok(bytes) => return Ok(Ok(bytes)),
             Err(refused) => refused.value,
         };
-        Ok(Err(Block::of(refused.0, apart).expect("a head has the place that it had")))
+        Ok(Err(Block::of(Space { storage, limit }, apart).expect("a head has the place that it had")))
     }
 
     #[inline]
     fn head(&self) -> &Head {
-        // SAFETY: by the invariant of `Block`.
-        unsafe { self.0.as_ref() }
+        // SAFETY: by the invariant of `head`.
+        unsafe { self.head.as_ref() }
     }
 
     // Gives up this handle, if it is the only one. All that others did happened before.
@@ -123,20 +282,20 @@ impl Block {
         if !self.head().handles.is_one() {
             return Err(self);
         }
-        Ok(ManuallyDrop::new(self).0)
+        Ok(ManuallyDrop::new(self).head)
     }
 
     // Takes a `Vec` apart, and writes its head: into its spare capacity, or else to a place of its own.
     #[inline]
-    fn of(bytes: vec::Vec<u8>, apart: Option<Apart>) -> Result<Block, AllocError> {
-        let mut bytes = ManuallyDrop::new(bytes);
+    fn of(space: Space, apart: Option<Apart>) -> Result<Block, AllocError> {
+        let Space { storage, limit } = space;
+        let mut bytes = ManuallyDrop::new(storage.0);
         let (at, len, capacity) = (bytes.as_mut_ptr(), bytes.len(), bytes.capacity());
-        let behind = at.wrapping_add(len);
+        let after = at.wrapping_add(len);
         let place = match apart {
-            _ if capacity - len >= ROOM => behind.wrapping_add(behind.addr().wrapping_neg() % HEAD.align()),
+            _ if capacity - len >= ROOM => after.wrapping_add(after.addr().wrapping_neg() % HEAD.align()),
             Some(apart) => Box::into_raw(apart).cast(),
-            // SAFETY: the layout isn't empty.
-            None => unsafe { alloc(HEAD) },
+            None => new_apart(),
         };
         let (Some(at), Some(head)) = (NonNull::new(at), NonNull::new(place.cast::<Head>())) else {
             drop(ManuallyDrop::into_inner(bytes));
@@ -146,7 +305,7 @@ impl Block {
         // SAFETY: the place is aligned, and has room for a head, which nothing else uses: it is an allocation of its own,
         // or spare capacity of a `Vec` that is taken apart, by whose own address it was found.
         unsafe { head.write(Head { handles: Count::new(), at, len, capacity }) };
-        Ok(Block(head))
+        Ok(Block { head, limit })
     }
 
     // Puts the `Vec` together again, and returns the place of its head, if that was its own.
@@ -158,7 +317,7 @@ impl Block {
         // SAFETY: the head is where `of` wrote it.
         let Head { at, len, capacity, .. } = unsafe { head.read() };
         let is_apart = head.addr().get().wrapping_sub(at.addr().get()) >= capacity;
-        // SAFETY: a head that isn't within the capacity was allocated by `of` with its layout, or was in such a box.
+        // SAFETY: a head that isn't within the capacity was allocated with its layout, or was in such a box.
         let apart = is_apart.then(|| unsafe { Box::from_raw(head.cast().as_ptr()) });
         // SAFETY: these are the parts of the `Vec` that `of` took apart, and no handle lends its bytes.
         (unsafe { vec::Vec::from_raw_parts(at.as_ptr(), len, capacity) }, apart)
@@ -172,10 +331,11 @@ impl Block {
     #[inline(never)]
     unsafe fn free(head: NonNull<Head>) {
         // SAFETY: as the caller says, and `acquire` makes all that the handles did happen before.
-        unsafe {
+        let (_, apart) = unsafe {
             head.as_ref().handles.acquire();
-            drop(Block::joined(head));
-        }
+            Block::joined(head)
+        };
+        keep(apart);
     }
 }
 
@@ -184,7 +344,29 @@ impl Drop for Block {
     fn drop(&mut self) {
         if self.head().handles.remove() {
             // SAFETY: this was the last handle.
-            unsafe { Block::free(self.0) }
+            unsafe { Block::free(self.head) }
         }
+    }
+}
+
+// Returns the place that this thread kept, or else a new one, or null if allocation fails. Stands apart, since most heads
+// are in spare capacity.
+#[inline(never)]
+fn new_apart() -> *mut u8 {
+    if ENDS_IF_REFUSED {
+        if let Ok(Some(apart)) = SPARE.try_with(Cell::take) {
+            return Box::into_raw(apart).cast();
+        }
+    }
+    // SAFETY: the layout isn't empty.
+    unsafe { alloc(HEAD) }
+}
+
+// Keeps a place for this thread's next head, or frees it.
+#[inline]
+fn keep(apart: Option<Apart>) {
+    if ENDS_IF_REFUSED && apart.is_some() {
+        // At its end a thread keeps none.
+        let _ = SPARE.try_with(|spare| spare.set(apart));
     }
 }

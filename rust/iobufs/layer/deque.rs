@@ -172,7 +172,9 @@ impl<T: base::Clone> base::Clone for VecDeque<T> {
             // Std trusts the length of these iterators: no test of the capacity for each item.
             let cloned = |item: &T| item.clone().unwrap_or_else(|_| process::abort());
             items.extend(front.iter().map(cloned));
-            items.extend(rest.iter().map(cloned));
+            if !rest.is_empty() {
+                items.extend(rest.iter().map(cloned));
+            }
             return Ok(VecDeque(items.into()));
         }
         for item in front.iter().chain(rest) {

@@ -8,12 +8,11 @@ use super::block::Block;
 use super::bytes::Bytes;
 use std::ptr::NonNull;
 
-/// A range of a block, whose capacity beyond `limit` is never used.
+/// A range of a block.
 pub struct Native {
     pub block: Block,
     pub len: usize,
     pub start: usize,
-    pub limit: usize,
 }
 
 impl Native {
@@ -32,8 +31,7 @@ enum Storage {
 }
 
 enum Own {
-    // A block, and its limit.
-    Native(Block, usize),
+    Native(Block),
     Static(&'static [u8]),
 }
 
@@ -56,7 +54,7 @@ impl Held {
     #[inline]
     pub fn of_native(native: Native) -> Held {
         let bytes = NonNull::from(native.as_slice());
-        Held { bytes, storage: Storage::Own(Own::Native(native.block, native.limit)) }
+        Held { bytes, storage: Storage::Own(Own::Native(native.block)) }
     }
 
     /// Shows static bytes.
@@ -108,9 +106,7 @@ impl Held {
         let bytes = NonNull::from(&self.as_slice()[from..to]);
         // Each arm makes a whole `Held`: a storage that is moved into one is copied piece by piece.
         Ok(match &self.storage {
-            Storage::Own(Own::Native(block, limit)) => {
-                Held { bytes, storage: Storage::Own(Own::Native(block.share()?, *limit)) }
-            }
+            Storage::Own(Own::Native(block)) => Held { bytes, storage: Storage::Own(Own::Native(block.share()?)) },
             Storage::Own(Own::Static(text)) => Held { bytes, storage: Storage::Own(Own::Static(text)) },
             // No bytes have no place in a `Bytes`.
             Storage::Shared(_) if from == to => Held::of_bytes(Bytes::new()),
@@ -138,9 +134,9 @@ impl Held {
     pub fn into_native(self) -> Result<Native, Held> {
         let Held { bytes, storage } = self;
         match storage {
-            Storage::Own(Own::Native(block, limit)) => {
+            Storage::Own(Own::Native(block)) => {
                 let start = place(bytes, block.as_slice());
-                Ok(Native { block, len: bytes.len(), start, limit })
+                Ok(Native { block, len: bytes.len(), start })
             }
             storage => Err(Held { bytes, storage }),
         }

@@ -5,9 +5,7 @@
 use super::base::{AllocError, AllocFailed, Global};
 use std::alloc::{Layout, alloc};
 use std::ops::{Deref, DerefMut, RangeFrom};
-use std::{fmt, io, ptr, vec};
-
-const FULL: &str = "the capacity has no space for it";
+use std::{fmt, io, vec};
 
 /// A vector, whose capacity never shrinks.
 #[derive(PartialEq, Eq)]
@@ -95,7 +93,7 @@ impl<T> Vec<T> {
     #[inline]
     pub fn push_reserved(&mut self, item: T) {
         let len = self.0.len();
-        assert!(len < self.0.capacity(), "{FULL}");
+        assert!(len < self.0.capacity(), "the capacity has no space for it");
         // SAFETY: the capacity has space for an item after the others.
         unsafe {
             self.0.as_mut_ptr().add(len).write(item);
@@ -150,21 +148,6 @@ impl<T: Clone> Vec<T> {
         self.0.try_reserve(items.len()).map_err(|_| AllocError)?;
         self.0.extend_from_slice(items);
         Ok(())
-    }
-
-    /// Appends copies of items that fit into the capacity. Panics if they don't.
-    #[inline]
-    pub fn extend_reserved(&mut self, items: &[T])
-    where
-        T: Copy,
-    {
-        let len = self.0.len();
-        assert!(items.len() <= self.0.capacity() - len, "{FULL}");
-        // SAFETY: the capacity has space for these items after the others, which `items` can't overlap: it is borrowed.
-        unsafe {
-            ptr::copy_nonoverlapping(items.as_ptr(), self.0.as_mut_ptr().add(len), items.len());
-            self.0.set_len(len + items.len());
-        }
     }
 
     /// Drops the items after the first `n`, or appends copies of `item` up to a length of `n`. If it fails, nothing

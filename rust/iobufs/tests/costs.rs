@@ -84,3 +84,23 @@ fn owners_of_frames() {
     );
     assert_eq!((frames.owners(), frames.len()), (CHUNKS - 166, 2 * CHUNK * CHUNKS - 2000));
 }
+
+/// An adopted `Vec` without room for a head takes the place of the last one that this thread freed.
+#[test]
+fn heads_of_adopted_vectors() {
+    let adopted = |n: usize| {
+        let vec = vec![1; n];
+        allocated(|| IoBuf::from(vec))
+    };
+    assert_eq!((adopted(64), adopted(64), adopted(1)), (32, 0, 0));
+    let (first, second) = (vec![1; 64], vec![2; 64]);
+    let mut both = None;
+    assert_eq!(allocated(|| both = Some([IoBuf::from(first), IoBuf::from(second)])), 32);
+    let [first, second] = both.unwrap();
+    assert_eq!((first.try_into_mut().unwrap().as_ref(), &second[..]), (&[1; 64][..], &[2; 64][..]));
+    drop(second);
+    assert_eq!(adopted(9), 0);
+    let sent = IoBuf::from(vec![3; 9]);
+    std::thread::spawn(move || assert_eq!((sent, adopted(9)), (vec![3; 9].into(), 32))).join().unwrap();
+    assert_eq!(adopted(9), 32);
+}

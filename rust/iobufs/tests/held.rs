@@ -1,5 +1,5 @@
 //! How much memory readers and writers of frames hold. `malloc` is counted, which Rust's collections call.
-use iobufs::{FrameReader, FrameWriter, IoBuf, IoBufs};
+use iobufs::{FrameReader, FrameWriter, IoBuf, IoBufs, Layout, Prefix};
 use std::cell::Cell;
 use std::ffi::c_void;
 use std::io::{self, Read};
@@ -164,6 +164,27 @@ fn memory_of_one_body() {
             let held = (HELD.get() - before) as usize;
             assert!(held <= BLOCK.max(len + 4) + RECORD, "{held} bytes for {len}: {kept} of {sizes:?}");
             assert_eq!(body.len(), *len);
+        }
+    }
+}
+
+/// A frame above a block is alone in its block, and its body shares that, whatever its length counts besides.
+#[test]
+fn a_large_body_is_not_copied() {
+    let plain = Layout::new(Prefix::U32Be);
+    let both = plain.before(2).after(5);
+    for (layout, n) in [(plain, 0), (plain.counts(4), 0), (plain.counts(200), 0), (both, 1), (both.counts(11), 1)] {
+        let mut to = FrameWriter::with_prefix(Vec::new(), layout, ..);
+        (0..2).for_each(|_| to.put_with(&[1; 2][..2 * n], &[2; 5][..5 * n], vec![7; 1 << 20]).unwrap());
+        to.send().unwrap();
+        let wire = to.into_inner();
+        let mut from = FrameReader::with_prefix(Few(&wire, 60_000), layout, ..);
+        for _ in 0..2 {
+            let before = HELD.get();
+            MOST.set(before);
+            let body = from.next().unwrap().unwrap();
+            let most = MOST.get() - before;
+            assert!(body.len() == 1 << 20 && most < (1 << 20) + 3 * BLOCK as isize, "{layout:?}: {most}");
         }
     }
 }

@@ -1,8 +1,9 @@
-//! `block` compared with std's `Vec` and a count of handles.
-use kit::block::{Block, Shell, new_storage};
+//! `block` compared with std's `Vec`, a limit and a count of handles, and what it does if it is misused.
+use kit::block::{Block, Shell, Space};
 use kit::prelude::Vec;
 use kit::std::alloc::{AllocError, Global};
 use std::cell::Cell;
+use std::panic::{AssertUnwindSafe, catch_unwind};
 use std::rc::Rc;
 use std::thread;
 
@@ -19,55 +20,138 @@ impl Random {
     fn bytes(&mut self, n: usize) -> Std {
         (0..n).map(|_| self.below(256) as u8).collect()
     }
+
+    // Mostly a number that fits, but any number at times.
+    fn place(&mut self, most: usize) -> usize {
+        if self.below(50) == 0 { usize::MAX - self.below(3) } else { self.below(most + 3) }
+    }
 }
 
-// Where storage is, and its length and capacity.
-fn parts(storage: &Vec<u8>) -> (usize, usize, usize) {
-    (storage.as_slice().as_ptr().addr(), storage.as_slice().len(), storage.capacity())
+// Whether a call that should panic does, or one that shouldn't doesn't.
+fn tried<T>(fits: bool, call: impl FnOnce() -> T) -> Option<T> {
+    let done = catch_unwind(AssertUnwindSafe(call)).ok();
+    assert_eq!(done.is_some(), fits);
+    done
+}
+
+fn vector(bytes: &[u8], spare: usize) -> Vec<u8> {
+    let mut storage = Vec::with_capacity(Global, bytes.len() + spare).unwrap();
+    storage.extend_from_slice(bytes).unwrap();
+    storage
+}
+
+// A space without a limit below its capacity.
+fn whole(storage: Vec<u8>) -> Space {
+    let limit = storage.capacity();
+    Space::of(storage, limit)
+}
+
+// Where storage is, its length, its limit and its capacity.
+fn parts(space: &Space) -> (usize, usize, usize, usize) {
+    (space.as_slice().as_ptr().addr(), space.len(), space.capacity(), space.allocated())
+}
+
+// Any call of a space, also with numbers that don't fit, on one that has these bytes and this limit.
+fn change(random: &mut Random, space: &mut Space, bytes: &mut Std, limit: &mut usize) {
+    let (n, place) = (random.below(9), random.place(*limit));
+    match random.below(6) {
+        0 => {
+            let src = random.bytes(n);
+            if tried(n <= *limit - bytes.len(), || space.put(&src)).is_some() {
+                bytes.extend(src);
+            }
+        }
+        1 => {
+            if tried(bytes.len() < *limit, || space.push(n as u8)).is_some() {
+                bytes.push(n as u8);
+            }
+        }
+        2 => {
+            if tried(place <= *limit, || space.resize(place, 7)).is_some() {
+                bytes.resize(place, 7);
+            }
+        }
+        3 => {
+            space.truncate(place);
+            bytes.truncate(place);
+        }
+        4 => {
+            if tried(place <= bytes.len(), || space.slice_mut(place).fill(9)).is_some() {
+                bytes[place..].fill(9);
+            }
+        }
+        _ => {
+            space.close();
+            *limit = bytes.len();
+        }
+    }
+    let spare = *limit - bytes.len();
+    assert_eq!((space.as_slice(), space.capacity(), space.spare()), (&**bytes, *limit, spare));
+    assert!(space.has_room(spare) && !space.has_room(spare + 1));
+}
+
+#[test]
+fn compared_with_a_vector_and_a_limit() {
+    std::panic::set_hook(Box::new(|_| ()));
+    let random = &mut Random(7);
+    for _ in 0..20_000 {
+        let (n, spare) = (random.below(40), random.below(60));
+        let mut bytes = random.bytes(n);
+        let mut limit = random.place(n + spare);
+        let storage = vector(&bytes, spare);
+        let fits = n <= limit && limit <= storage.capacity();
+        let Some(mut space) = tried(fits, || Space::of(storage, limit)) else {
+            continue;
+        };
+        let before = space.allocated();
+        (0..20).for_each(|_| change(random, &mut space, &mut bytes, &mut limit));
+        assert_eq!(space.allocated(), before);
+        assert_eq!(space.into_vec().as_slice(), bytes);
+    }
 }
 
 // A handle, with the bytes and the parts of its storage, and the number of its handles.
 struct Shared {
     block: Block,
     bytes: Std,
-    parts: (usize, usize, usize),
+    parts: (usize, usize, usize, usize),
     handles: Rc<Cell<usize>>,
 }
 
-fn shared(storage: Vec<u8>, shell: Shell, bytes: Std) -> Shared {
-    let parts = parts(&storage);
-    let block = Block::new(Global, shell, storage).unwrap();
+fn shared(space: Space, shell: Shell, bytes: Std) -> Shared {
+    let parts = parts(&space);
+    let block = Block::new(Global, shell, space).unwrap();
     Shared { block, bytes, parts, handles: Rc::new(Cell::new(1)) }
 }
 
-// Storage with room behind its bytes, or a `Vec` that is adopted, with any spare capacity.
+// Storage with room after its bytes, or a `Vec` that is adopted, with any spare capacity and any limit.
 fn new(random: &mut Random) -> Shared {
     let n = random.below(100);
     let bytes = random.bytes(n);
     if random.below(2) == 0 {
-        let (mut storage, shell) = new_storage(Global, n + random.below(50), Shell::none()).unwrap();
-        storage.extend_from_slice(&bytes).unwrap();
-        return shared(storage, shell, bytes);
+        let (mut space, shell) = Space::new(Global, n + random.below(50), Shell::none()).unwrap();
+        space.put(&bytes);
+        return shared(space, shell, bytes);
     }
-    let mut storage = Vec::with_capacity(Global, n + random.below(80)).unwrap();
-    storage.extend_from_slice(&bytes).unwrap();
-    shared(storage, Shell::none(), bytes)
+    let storage = vector(&bytes, random.below(80));
+    let limit = n + random.below(storage.capacity() - n + 1);
+    shared(Space::of(storage, limit), Shell::none(), bytes)
 }
 
 // The storage comes back as it was, and what is written to it is shared again.
 fn take(random: &mut Random, it: Shared) -> Shared {
     let Shared { block, mut bytes, parts: before, handles } = it;
     match block.take() {
-        Ok((mut storage, shell)) => {
-            assert_eq!((handles.get(), parts(&storage), storage.as_slice()), (1, before, &*bytes));
+        Ok((mut space, shell)) => {
+            assert_eq!((handles.get(), parts(&space), space.as_slice()), (1, before, &*bytes));
             let n = random.below(bytes.len() + 1);
-            storage.truncate(n);
+            space.truncate(n);
             bytes.truncate(n);
-            while storage.as_slice().len() < storage.capacity() && random.below(9) > 0 {
-                storage.push_reserved(7);
+            while space.spare() > 0 && random.below(9) > 0 {
+                space.push(7);
                 bytes.push(7);
             }
-            shared(storage, shell, bytes)
+            shared(space, shell, bytes)
         }
         Err(block) => {
             assert!(handles.get() > 1);
@@ -122,7 +206,9 @@ fn compared_with_a_vector_and_a_count() {
             all.clear();
         }
         for it in &all {
-            assert_eq!((it.block.as_slice(), it.block.as_slice().as_ptr().addr()), (&*it.bytes, it.parts.0));
+            let (at, len, limit, _) = it.parts;
+            assert_eq!((it.block.as_slice(), it.block.as_slice().as_ptr().addr()), (&*it.bytes, at));
+            assert_eq!((it.bytes.len(), it.block.capacity()), (len, limit));
         }
     }
 }
@@ -130,7 +216,7 @@ fn compared_with_a_vector_and_a_count() {
 #[test]
 fn sizes_that_no_storage_has() {
     for n in [usize::MAX, usize::MAX - 38, isize::MAX as usize + 1, isize::MAX as usize, 1 << 62] {
-        assert_eq!(new_storage(Global, n, Shell::none()).map(|_| ()), Err(AllocError), "{n}");
+        assert_eq!(Space::new(Global, n, Shell::none()).map(|_| ()), Err(AllocError), "{n}");
     }
 }
 
@@ -138,28 +224,27 @@ fn sizes_that_no_storage_has() {
 #[test]
 fn spare_capacity_of_each_size() {
     for (len, spare) in (0..20).flat_map(|len| (0..60).map(move |spare| (len, spare))) {
-        let mut storage = Vec::with_capacity(Global, len + spare).unwrap();
-        storage.extend_from_slice(&[9; 20][..len]).unwrap();
-        let before = parts(&storage);
-        let block = Block::new(Global, Shell::none(), storage).unwrap();
+        let space = whole(vector(&[9; 20][..len], spare));
+        let before = parts(&space);
+        let block = Block::new(Global, Shell::none(), space).unwrap();
         let other = block.share().unwrap();
         assert_eq!(other.as_slice(), &[9; 20][..len]);
         let block = block.take().err().unwrap();
         drop(other);
-        let (storage, _) = block.take().ok().unwrap();
-        assert_eq!((parts(&storage), storage.as_slice()), (before, &[9; 20][..len]));
+        let (space, _) = block.take().ok().unwrap();
+        assert_eq!((parts(&space), space.as_slice()), (before, &[9; 20][..len]));
     }
 }
 
 #[test]
 fn in_threads() {
     for round in 0..3_000 {
-        let (mut storage, shell) = new_storage(Global, 64, Shell::none()).unwrap();
-        storage.extend_from_slice(&[round as u8; 64][..64 - round % 3 * 20]).unwrap();
+        let (mut space, shell) = Space::new(Global, 64, Shell::none()).unwrap();
+        space.put(&[round as u8; 64][..64 - round % 3 * 20]);
         if round % 2 == 0 {
-            storage = Vec::from_slice(Global, storage.as_slice()).unwrap();
+            space = whole(vector(space.as_slice(), 0));
         }
-        let block = Block::new(Global, shell, storage).unwrap();
+        let block = Block::new(Global, shell, space).unwrap();
         let taken = thread::scope(|scope| {
             let threads: std::vec::Vec<_> = (0..3)
                 .map(|_| {
@@ -168,7 +253,7 @@ fn in_threads() {
                         let more = block.share().unwrap();
                         assert!(more.as_slice().iter().all(|it| *it == round as u8));
                         drop(block);
-                        more.take().map(|(mut storage, _)| storage.as_mut_slice().fill(0)).is_ok()
+                        more.take().map(|(mut space, _)| space.slice_mut(0).fill(0)).is_ok()
                     })
                 })
                 .collect();

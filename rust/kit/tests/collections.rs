@@ -51,22 +51,19 @@ fn vectors() {
     assert_eq!(KitVec::from_elem(Global, 7u8, 3).unwrap().as_slice(), [7, 7, 7]);
 }
 
-/// Puts that don't allocate panic if and only if there is no space, and then change nothing.
+/// A put that doesn't allocate panics if and only if there is no space, and then changes nothing.
 #[test]
 fn puts_beyond_the_capacity() {
-    for (len, more) in (0..9).flat_map(|len| (0..12).map(move |more| (len, more))) {
+    for len in 0..9 {
         let mut items = KitVec::with_capacity(Global, 8).unwrap();
         items.resize(len, 7).unwrap();
-        let space = items.capacity() - len;
         let mut model = vec![7; len];
-        let is_done = catch_unwind(AssertUnwindSafe(|| items.extend_reserved(&[9; 12][..more]))).is_ok();
-        assert_eq!(is_done, more <= space);
-        model.extend(vec![9; if is_done { more } else { 0 }]);
-        assert_eq!(items.as_slice(), model);
-        let is_done = catch_unwind(AssertUnwindSafe(|| items.push_reserved(1))).is_ok();
-        assert_eq!(is_done, model.len() < len + space);
-        model.extend(vec![1; is_done.into()]);
-        assert_eq!((items.as_slice(), items.capacity()), (&model[..], len + space));
+        for _ in 0..9 {
+            let is_done = catch_unwind(AssertUnwindSafe(|| items.push_reserved(1))).is_ok();
+            assert_eq!(is_done, model.len() < 8);
+            model.extend(vec![1; is_done.into()]);
+            assert_eq!((items.as_slice(), items.capacity()), (&model[..], 8));
+        }
     }
     let mut words = KitVec::with_capacity(Global, 2).unwrap();
     ["a", "bc"].into_iter().for_each(|it| words.push_reserved(it.to_owned()));

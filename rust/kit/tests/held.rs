@@ -1,5 +1,5 @@
 //! `held` compared with an index and a length, which the proved file has, and what it does if it is misused.
-use kit::block::{Block, Shell};
+use kit::block::{Block, Shell, Space};
 use kit::bytes::Bytes;
 use kit::held::{Held, Native};
 use kit::prelude::Vec;
@@ -39,8 +39,14 @@ struct Seen {
 }
 
 fn native(bytes: &[u8], start: usize, len: usize) -> Native {
-    let block = Block::new(Global, Shell::none(), Vec::from_slice(Global, bytes).unwrap()).unwrap();
-    Native { block, start, len, limit: bytes.len() }
+    limited(bytes, start, len, bytes.len())
+}
+
+fn limited(bytes: &[u8], start: usize, len: usize, limit: usize) -> Native {
+    let mut storage = Vec::with_capacity(Global, limit).unwrap();
+    storage.extend_from_slice(bytes).unwrap();
+    let block = Block::new(Global, Shell::none(), Space::of(storage, limit)).unwrap();
+    Native { block, start, len }
 }
 
 // Whether a call that should panic does, or one that shouldn't doesn't.
@@ -96,9 +102,9 @@ fn end(seen: Seen) {
         Ok(native) => {
             assert_eq!(seen.kind, Kind::Native);
             assert_eq!((native.start, native.as_slice()), (seen.start, &*seen.bytes));
-            if let Ok((mut block, _)) = native.block.take() {
-                block.as_mut_slice().fill(0);
-                block.clear();
+            if let Ok((mut space, _)) = native.block.take() {
+                space.slice_mut(0).fill(0);
+                space.truncate(0);
             }
         }
         Err(held) => {
@@ -178,12 +184,12 @@ fn a_share_is_a_handle() {
 // The range of native storage and its limit come back as they were given, less what was dropped.
 #[test]
 fn a_range_comes_back() {
-    let mut held = Held::of_native(Native { limit: 9, ..native(&[1, 2, 3, 4], 1, 3) });
+    let mut held = Held::of_native(limited(&[1, 2, 3, 4], 1, 3, 9));
     held.advance(1);
     let front = held.split_to(1).unwrap();
     for (held, start, len) in [(front, 2, 1), (held, 3, 1)] {
         let range = held.into_native().ok().unwrap();
-        assert_eq!((range.start, range.len, range.limit), (start, len, 9));
+        assert_eq!((range.start, range.len, range.block.capacity()), (start, len, 9));
     }
 }
 
@@ -196,8 +202,8 @@ fn in_threads() {
                 let part = held.share(i, 64 - i).unwrap();
                 scope.spawn(move || {
                     assert!(part.as_slice().iter().all(|it| *it == round as u8));
-                    if let Ok((mut block, _)) = part.into_native().ok().unwrap().block.take() {
-                        block.as_mut_slice().fill(0);
+                    if let Ok((mut space, _)) = part.into_native().ok().unwrap().block.take() {
+                        space.slice_mut(0).fill(0);
                     }
                 });
             }

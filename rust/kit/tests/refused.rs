@@ -1,5 +1,5 @@
 //! Each allocation of each call refused: the call returns an error, and nothing changes.
-use kit::block::{Block, Shell, new_storage};
+use kit::block::{Block, Shell, Space};
 use kit::bytes::{Bytes, BytesMut};
 use kit::hex;
 use kit::prelude::{Clone as _, Vec as KitVec};
@@ -118,16 +118,16 @@ fn deques() {
 #[test]
 fn shared() {
     refuse("Arc::new", 1, || (), |()| Arc::new(Global, 7).map_err(|it| assert_eq!(it.value, 7)).is_ok(), |()| true);
-    refuse("new_storage", 1, || (), |()| new_storage(Global, 9, Shell::none()).is_ok(), |()| true);
-    let exact = || Some(bytes());
-    let block = |it: &mut Option<KitVec<u8>>| Block::new(Global, Shell::none(), it.take().unwrap()).is_ok();
+    refuse("Space::new", 1, || (), |()| Space::new(Global, 9, Shell::none()).is_ok(), |()| true);
+    let exact = || Some(Space::of(bytes(), 5));
+    let block = |it: &mut Option<Space>| Block::new(Global, Shell::none(), it.take().unwrap()).is_ok();
     refuse("Block::new", 1, exact, block, |_| true);
     let made = || {
-        let (mut storage, _) = new_storage(Global, 5, Shell::none()).unwrap();
-        storage.extend_from_slice(b"hello").unwrap();
-        Some(storage)
+        let (mut space, _) = Space::new(Global, 5, Shell::none()).unwrap();
+        space.put(b"hello");
+        Some(space)
     };
-    refuse("Block::new of new storage", 0, made, block, |_| false);
+    refuse("Block::new of new space", 0, made, block, |_| false);
     let convert = |it: &mut Option<Block>| match it.take().unwrap().into_bytes(Global).ok().unwrap() {
         Ok(_) => true,
         Err(same) => (*it = Some(same), false).1,
@@ -136,7 +136,7 @@ fn shared() {
         let make = || {
             let mut storage = KitVec::with_capacity(Global, 5 + spare).unwrap();
             storage.extend_from_slice(b"hello").unwrap();
-            Block::new(Global, Shell::none(), storage).ok()
+            Block::new(Global, Shell::none(), Space::of(storage, 5)).ok()
         };
         let is_same = |it: &Option<Block>| it.as_ref().unwrap().as_slice() == b"hello";
         refuse("Block::into_bytes", 1, make, convert, is_same);

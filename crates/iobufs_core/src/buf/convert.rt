@@ -1,4 +1,4 @@
-// From parts to views and back, in the same storage.
+// From writable buffers to views and back.
 ghost use Rattle.std.specs.Prelude.{◌≡◌, length, IfOk, IsOk, IsOkUnless, MatchResult};
 ghost use Rattle.iobufs_core.specs.Part.{part_frozen};
 ghost use Rattle.iobufs_core.specs.Recovery.{IsPartOf};
@@ -8,8 +8,8 @@ use crate::codec::BufError;
 use std::alloc::Global;
 
 impl IoBufMut {
-    /// Recovers the storage of a view as `IoBuf::try_into_mut` does, or copies it (`From<IoBuf>`). If allocation fails,
-    /// the view comes back.
+    /// Recovers the storage of a view as `IoBuf::try_into_mut` does, or copies the bytes (`From<IoBuf>`). If allocation
+    /// fails, the view comes back.
     pub fn from_view(alloc: Global, view: IoBuf) -> Result<IoBufMut, IoBuf>
         ensures same { MatchResult result (IsPartOf view) (λ other. other ≡ view) }
         ensures nothing { length view.bytes ≡ 0 → IsOk result }
@@ -31,11 +31,11 @@ impl IoBufMut {
         ensures memory { IsOkUnless result BufError.Memory }
         ensures nothing { length self.filled ≡ 0 → IsOk result }
     {
-        let (storage, start, limit, shell) = self.into_storage();
-        if start == storage.len() {
+        let (space, start, shell) = self.into_space();
+        if start == space.len() {
             return Ok(IoBuf::default());
         }
-        let alloc = *storage.allocator();
-        Ok(IoBuf::from_native(native::frozen(alloc, shell, storage, start, limit)?))
+        let alloc = space.allocator();
+        Ok(IoBuf::from_native(native::frozen(alloc, shell, space, start)?))
     }
 }

@@ -9,30 +9,29 @@ use bytes::Bytes;
 use std::alloc::AllocError;
 use std::marker::Model;
 
-/// A range of a block, which lives as long as a range of it does. The block may have more capacity than `limit`,
-/// which is never used. A clause sees the bytes and their capacity (`NativeText`).
+/// A range of a block. The block lives as long as any of its ranges. A clause sees the bytes and their capacity
+/// (`NativeText`).
 #[derive(Drop)]
 pub(super) struct Native {
-    pub(super) block: Block,
-    pub(super) len: usize,
     pub(super) start: usize,
-    pub(super) limit: usize,
+    pub(super) len: usize,
+    pub(super) block: Block,
 }
 
 impl Model for Native {
-    ghost use Rattle.std.specs.Prelude.{◌+◌, ◌-◌, ◌≤◌, vec_len, vec_capacity, take, drop};
-    ghost use Rattle.iobufs_core.specs.Native.{NativeText};
+    ghost use Rattle.std.specs.Prelude.{◌+◌, ◌-◌, ◌≤◌, length, take, drop};
+    ghost use Rattle.iobufs_core.specs.Native.{IsSpace, NativeText};
+    ghost use Rattle.iobufs_core.specs.Part.{part_capacity};
 
     ghost Value = { NativeText };
 
     ghost view = { λ n. record {
       bytes = take n.len
-          (drop n.start n.block.items);
-      room = n.limit - n.start;
+          (drop n.start n.block.filled);
+      room = part_capacity n.block - n.start;
     } };
 
-    ghost invariant = { λ n. (n.start + n.len ≤ vec_len n.block) × (vec_len n.block ≤ n.limit)
-        × (n.limit ≤ vec_capacity n.block) };
+    ghost invariant = { λ n. IsSpace n.block × (n.start + n.len ≤ length n.block.filled) };
 }
 
 impl Native {
@@ -66,7 +65,6 @@ impl Native {
             block: self.block.share()?,
             start: self.start,
             len: n,
-            limit: self.limit,
         })
     }
 
@@ -117,7 +115,7 @@ impl Model for Held {
 }
 
 impl Held {
-    /// Shows all bytes of a range.
+    /// The bytes of a view: all of a range.
     pub(super) fn of_native(native: Native) -> Held
         ensures { result ≡ record { bytes = native.bytes; mark = native_mark native.room } }
     {
@@ -126,7 +124,7 @@ impl Held {
         }
     }
 
-    /// Shows static bytes.
+    /// The bytes of a view: static ones.
     pub(super) fn of_static(text: &'static [u8]) -> Held
         ensures { result ≡ record { bytes = text.now; mark = static_mark } }
     {
@@ -135,7 +133,7 @@ impl Held {
         }
     }
 
-    /// Shows all of a `Bytes`.
+    /// The bytes of a view: all of a `Bytes`.
     pub(super) fn of_bytes(bytes: Bytes) -> Held
         ensures { result ≡ record { bytes = bytes; mark = bytes_mark } }
     {
@@ -158,7 +156,7 @@ impl Held {
     pub(super) fn as_slice(&self) -> &[u8]
         ensures { result.now ≡ self.now.bytes }
     {
-        // Most views are native: one test costs less than a choice among all kinds.
+        // Native storage is tested first.
         if let Storage::Native(native) = &self.storage {
             return native.as_slice();
         }
@@ -207,7 +205,7 @@ impl Held {
         }
     }
 
-    /// Returns the bytes from one place to another, with one more share.
+    /// Returns the bytes between two offsets, and shares their storage.
     #[inline(always)]
     pub(super) fn share(&self, from: usize, to: usize) -> Result<Held, AllocError>
         requires { (from ≤ to) × (to ≤ length self.now.bytes) }
@@ -225,7 +223,7 @@ impl Held {
         }
     }
 
-    /// Returns all of the bytes, with one more share.
+    /// Returns all of the bytes, and shares their storage.
     pub(super) fn try_clone(&self) -> Result<Held, AllocError>
         ensures value { IfOk result (λ h. h ≡ self.now) }
         ensures nothing { IsFreelyShared self.now → IsOk result }
@@ -238,7 +236,7 @@ impl Held {
         Ok(Held { storage })
     }
 
-    /// Takes the first `n` bytes, with one more share.
+    /// Takes the first `n` bytes, and shares their storage.
     #[inline(always)]
     pub(super) fn split_to(&mut self, n: usize) -> Result<Held, AllocError>
         requires { n ≤ length self.old.bytes }

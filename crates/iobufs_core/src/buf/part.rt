@@ -1,6 +1,7 @@
 // A buffer of fixed capacity, to be written.
 ghost use Rattle.std.specs.Prelude.{◌≡◌, ◌+◌, ◌-◌, ◌<◌, ◌≤◌, ◌==◌, [], ◌∷◌, length, drop, replicate, vec_len, vec_capacity, false, IfOk, OnErr, OnOk, Err, ◌^◌, IsOk, IsOkUnless, IsTrue, IsFalse, MatchResult, nat_le, ◌↔◌, ◌⊎◌, ◌/◌, Some, codes, ◌++◌};
 ghost use Rattle.std.specs.Align.{IsLayout};
+ghost use Rattle.iobufs_core.specs.Native.{IsSpace};
 ghost use Rattle.iobufs_core.specs.Part.{empty_part, is_bad_layout as bad_layout, part_capacity, part_copied, part_drained, part_overwritten, part_put, part_with_len, part_truncated};
 ghost use Rattle.std.specs.Borrow.{Lends, Array, sem, u8 as byte};
 ghost use Rattle.iobufs_core.specs.contracts.buf.part.IoBufMut.{the_row};
@@ -10,15 +11,15 @@ ghost use Rattle.iobufs_core.specs.PartLaws.{part_copied-filled, put_nothing, pu
 ghost use Rattle.std.proofs.Common.{rules};
 ghost use Rattle.std.specs.Fmt.{decimal};
 
-use super::block::{Shell, new_storage, put_reserved};
+use super::block::{Shell, Space};
 use crate::codec::{Buf, BufError, BufMut};
 use bytes::{Bytes, BytesMut};
 use std::alloc::{Global, Layout};
 use std::marker::Model;
 use std::{fmt, mem};
 
-/// A writable buffer of one block (`IoBufMut`): filled bytes, then spare capacity. The capacity is fixed when the
-/// buffer is made, and counts from the first readable byte:
+/// A writable buffer of one chunk (`IoBufMut`): filled bytes, then spare capacity. The capacity counts from the first
+/// readable byte. Dropped bytes reduce it, and no call increases it:
 ///
 /// ```text
 /// storage | dropped |   filled   |   spare   |
@@ -26,37 +27,34 @@ use std::{fmt, mem};
 ///                   |------ capacity --------|
 /// ```
 ///
-/// It shares its storage with no other buffer. No put allocates.
+/// A writable buffer shares its storage with no other buffer. No put allocates.
 pub struct IoBufMut {
-    // Capacity beyond `limit` is never used.
-    storage: Vec<u8>,
+    space: Space,
     start: usize,
-    limit: usize,
     shell: Shell,
 }
 
-// By hand, so that what is kept privately is none of a caller's business.
+// Written out, which keeps the private fields out of the callers' goals.
 impl Drop for IoBufMut {
     fn drop(self) {
         let IoBufMut {
-            storage: _,
+            space: _,
             start: _,
-            limit: _,
             shell: _,
         } = self;
     }
 }
 
 impl Model for IoBufMut {
-    ghost use Rattle.std.specs.Prelude.{◌-◌, ◌≤◌, vec_len, vec_capacity, drop};
+    ghost use Rattle.std.specs.Prelude.{◌≤◌, length, drop};
+    ghost use Rattle.iobufs_core.specs.Native.{IsSpace};
     ghost use Rattle.iobufs_core.specs.Part.{Part};
 
     ghost Value = { Part };
 
-    ghost view = { λ b. record { filled = drop b.start b.storage.items; spare = b.limit - vec_len b.storage } };
+    ghost view = { λ b. record { filled = drop b.start b.space.filled; spare = b.space.spare } };
 
-    ghost invariant = { λ b. (b.start ≤ vec_len b.storage) × (vec_len b.storage ≤ b.limit)
-        × (b.limit ≤ vec_capacity b.storage) };
+    ghost invariant = { λ b. IsSpace b.space × (b.start ≤ length b.space.filled) };
 }
 
 // Whether no storage has this capacity and alignment.
@@ -67,8 +65,8 @@ fn is_bad_layout(n: usize, align: usize) -> bool
     n != 0 && Layout::from_size_align(n, align).is_err()
 }
 
-// Whether `n` bytes fit into a capacity, and fill half of their storage, or it has at most 4 KiB. The Rust crate's
-// storage has 39 bytes more than it was made for.
+// Whether `n` bytes fit into a capacity, and the storage has at most 41 bytes more than twice `n`, or than 4 KiB.
+// Storage that the Rust crate allocates on a 64-bit target has 39 bytes more than it was made for.
 fn suits(n: usize, capacity: usize, stored: usize) -> bool
     ensures { IsTrue result ↔ ((n ≤ capacity) × ((stored / 2 - 20 ≤ n) ⊎ (stored / 2 - 20 ≤ 2 ^ 11))) }
 {
@@ -80,7 +78,7 @@ impl IoBufMut {
     pub fn new(alloc: Global) -> IoBufMut
         ensures { result ≡ empty_part 0 }
     {
-        IoBufMut::from_storage(Vec::new(alloc), 0, 0)
+        IoBufMut::from_space(Space::of(Vec::new(alloc), 0), 0, Shell::none())
     }
 
     /// Acts as `new` (`Default`).
@@ -90,7 +88,7 @@ impl IoBufMut {
         IoBufMut::new(alloc)
     }
 
-    /// Allocates an empty buffer of exactly this capacity (`IoBufMut::with_capacity`).
+    /// Makes an empty buffer of exactly this capacity (`IoBufMut::with_capacity`).
     /// Returns `BufError::BadLayout` above `isize::MAX`, and `BufError::Memory` if allocation fails.
     pub fn with_capacity(alloc: Global, n: usize) -> Result<IoBufMut, BufError>
         ensures ok { IfOk result (λ b. b ≡ empty_part n) }
@@ -101,9 +99,9 @@ impl IoBufMut {
         IoBufMut::with_alignment(alloc, n, 1)
     }
 
-    /// Allocates an empty buffer, after testing the alignment (`IoBufMut::with_alignment`). Addresses are not promised.
-    /// Returns `BufError::BadLayout` if the alignment is no power of two or the capacity, rounded up to it, passes
-    /// `isize::MAX`; else `BufError::Memory` if allocation fails.
+    /// Makes an empty buffer of exactly this capacity, whose address need not be aligned (`IoBufMut::with_alignment`).
+    /// Returns `BufError::BadLayout` if `n` isn't 0, and `align` is no power of two or `n` rounded up to it is above
+    /// `isize::MAX`. Returns `BufError::Memory` if allocation fails.
     pub fn with_alignment(alloc: Global, n: usize, align: usize) -> Result<IoBufMut, BufError>
         ensures ok { IfOk result (λ b. b ≡ empty_part n) }
         ensures bad_layout { IsTrue (bad_layout n align) → result ≡ Err BufError.BadLayout }
@@ -117,11 +115,11 @@ impl IoBufMut {
         if is_bad_layout(n, align) {
             return Err(BufError::BadLayout);
         }
-        let (storage, shell) = new_storage(alloc, n, Shell::none())?;
-        Ok(IoBufMut::from_shell(shell, storage, 0, n))
+        let (space, shell) = Space::new(alloc, n, Shell::none())?;
+        Ok(IoBufMut::from_space(space, 0, shell))
     }
 
-    /// Allocates a buffer of exactly this capacity, filled with zeros (`IoBufMut::zeroed`).
+    /// Makes a buffer of `n` zeros, without spare capacity (`IoBufMut::zeroed`).
     /// Fails as `with_capacity`.
     pub fn zeroed(alloc: Global, n: usize) -> Result<IoBufMut, BufError>
         ensures ok { IfOk result (λ b. b ≡ record { filled = replicate n 0; spare = 0 }) }
@@ -132,7 +130,7 @@ impl IoBufMut {
         IoBufMut::zeroed_with_alignment(alloc, n, 1)
     }
 
-    /// Allocates a buffer filled with zeros, after testing the alignment (`IoBufMut::zeroed_with_alignment`).
+    /// Makes a buffer of `n` zeros, without spare capacity (`IoBufMut::zeroed_with_alignment`).
     /// Fails as `with_alignment`.
     pub fn zeroed_with_alignment(
         alloc: Global,
@@ -150,9 +148,9 @@ impl IoBufMut {
         if is_bad_layout(n, align) {
             return Err(BufError::BadLayout);
         }
-        let (mut storage, shell) = new_storage(alloc, n, Shell::none())?;
-        storage.resize(n, 0).unwrap();
-        Ok(IoBufMut::from_shell(shell, storage, 0, n))
+        let (mut space, shell) = Space::new(alloc, n, Shell::none())?;
+        space.resize(n, 0);
+        Ok(IoBufMut::from_space(space, 0, shell))
     }
 
     /// Copies the bytes, without spare capacity (`From<&[u8]>`).
@@ -165,12 +163,12 @@ impl IoBufMut {
         if src.is_empty() {
             return Ok(IoBufMut::default(alloc));
         }
-        let (mut storage, shell) = new_storage(alloc, src.len(), Shell::none())?;
-        put_reserved(&mut storage, src);
-        Ok(IoBufMut::from_shell(shell, storage, 0, src.len()))
+        let (mut space, shell) = Space::new(alloc, src.len(), Shell::none())?;
+        space.put(src);
+        Ok(IoBufMut::from_space(space, 0, shell))
     }
 
-    /// Takes a `Bytes` over, and copies it if it is shared (`From<Bytes>`).
+    /// Takes a `Bytes` over, or copies it if it is static or shared (`From<Bytes>`).
     /// If allocation fails, returns `BufError::Memory` and drops the `Bytes`.
     pub fn from_bytes(alloc: Global, bytes: Bytes) -> Result<IoBufMut, BufError>
         ensures ok { IfOk result (λ b. b.filled ≡ bytes) }
@@ -183,7 +181,7 @@ impl IoBufMut {
         }
     }
 
-    /// Takes a `BytesMut` over (`From<BytesMut>`).
+    /// Takes a `BytesMut` over, or copies it if its block is shared (`From<BytesMut>`).
     /// If allocation fails, returns `BufError::Memory` and drops the `BytesMut`.
     pub fn from_bytes_mut(bytes: BytesMut) -> Result<IoBufMut, BufError>
         ensures ok { IfOk result (λ b. b.filled ≡ bytes.items) }
@@ -198,32 +196,23 @@ impl IoBufMut {
         }
     }
 
-    /// The storage, where the bytes begin in it, where their capacity ends, and its shell.
+    /// The storage, where the bytes begin in it, and its shell.
     #[inline(always)]
-    pub(super) fn into_storage(self) -> (Vec<u8>, usize, usize, Shell)
-        ensures filled { drop result.1 result.0.items ≡ self.filled }
-        ensures spare { result.2 - vec_len result.0 ≡ self.spare }
-        ensures inside { (result.1 ≤ vec_len result.0) × (vec_len result.0 ≤ result.2)
-            × (result.2 ≤ vec_capacity result.0) }
+    pub(super) fn into_space(self) -> (Space, usize, Shell)
+        ensures filled { drop result.1 result.0.filled ≡ self.filled }
+        ensures spare { result.0.spare ≡ self.spare }
+        ensures inside { IsSpace result.0 × (result.1 ≤ length result.0.filled) }
     {
         let IoBufMut {
-            storage,
+            space,
             start,
-            limit,
             shell,
         } = self;
-        (storage, start, limit, shell)
+        (space, start, shell)
     }
 
-    pub(super) fn from_storage(storage: Vec<u8>, start: usize, limit: usize) -> IoBufMut
-        requires { (start ≤ vec_len storage) × (vec_len storage ≤ limit) × (limit ≤ vec_capacity storage) }
-        ensures { result ≡ record { filled = drop start storage.items; spare = limit - vec_len storage } }
-    {
-        IoBufMut::from_shell(Shell::none(), storage, start, limit)
-    }
-
-    /// Makes an empty buffer of `n` bytes of capacity after the bytes of a block, which are dropped with it (own, for
-    /// layers): a caller that pads the block up to an address has an aligned buffer. A block with less room comes back.
+    /// Makes an empty buffer with a capacity of `n` after the bytes of a block (own, for layers). A caller that fills
+    /// the block up to an aligned address gets an aligned buffer. Returns the block if it has less space.
     pub fn behind(block: Vec<u8>, n: usize) -> Result<IoBufMut, Vec<u8>>
         ensures fits { IsOk result ↔ (vec_len block + n ≤ vec_capacity block) }
         ensures same { MatchResult result (λ b. b ≡ empty_part n) (λ back. back ≡ block) }
@@ -232,7 +221,8 @@ impl IoBufMut {
         if n > block.capacity() - start {
             return Err(block);
         }
-        Ok(IoBufMut::from_storage(block, start, start + n))
+        let space = Space::of(block, start + n);
+        Ok(IoBufMut::from_space(space, start, Shell::none()))
     }
 
     // Takes all bytes as a `Bytes`, in their storage.
@@ -244,8 +234,8 @@ impl IoBufMut {
         ensures memory { IsOkUnless result BufError.Memory }
     {
         let whole = mem::replace(self, IoBufMut::default(alloc));
-        let (storage, start, _, shell) = whole.into_storage();
-        match Bytes::from_vec(storage) {
+        let (space, start, shell) = whole.into_space();
+        match Bytes::from_vec(space.into_vec()) {
             Ok(mut bytes) => {
                 bytes.advance(start);
                 Ok(bytes)
@@ -253,13 +243,13 @@ impl IoBufMut {
             Err(refused) => {
                 let storage = refused.value;
                 let limit = storage.len();
-                *self = IoBufMut::from_shell(shell, storage, start, limit);
+                *self = IoBufMut::from_space(Space::of(storage, limit), start, shell);
                 Err(BufError::Memory)
             }
         }
     }
 
-    // Acts as `with_capacity`, and takes over the shell of a buffer that is freed later.
+    // Acts as `with_capacity`, and takes over the shell of `spent`.
     fn with_capacity_from(
         alloc: Global,
         n: usize,
@@ -278,12 +268,13 @@ impl IoBufMut {
             return Err(BufError::BadLayout);
         }
         let spent = mem::replace(&mut spent.shell, Shell::none());
-        let (storage, shell) = new_storage(alloc, n, spent)?;
-        Ok(IoBufMut::from_shell(shell, storage, 0, n))
+        let (space, shell) = Space::new(alloc, n, spent)?;
+        Ok(IoBufMut::from_space(space, 0, shell))
     }
 
-    /// Returns the bytes of three buffers in one, without spare capacity (own, for layers). They go to the storage of
-    /// the first if they fill half of it or it has at most 4 KiB. Otherwise they are copied. Fails as `with_capacity`.
+    /// Returns the bytes of three buffers in one, without spare capacity (own, for layers). The others are copied into
+    /// the storage of the first if all fit its capacity, and it has at most about 4 KiB or about twice as many bytes.
+    /// Otherwise all are copied into new storage. Fails as `with_capacity`.
     #[tactic(auto, using(crate::proofs::LayoutLaws::bad_layout_one))]
     pub fn coalesced(
         alloc: Global,
@@ -305,11 +296,11 @@ impl IoBufMut {
         ensures same { second.new ≡ second.old }
     {
         let len = first.len() + second.len() + third.len();
-        if len <= isize::MAX as usize && suits(len, first.capacity(), first.storage.capacity()) {
+        if len <= isize::MAX as usize && suits(len, first.capacity(), first.space.allocated()) {
             let mut whole = mem::replace(first, IoBufMut::default(alloc));
             whole.put_slice(second.as_ref());
             whole.put_slice(third.as_ref());
-            whole.limit = whole.storage.len();
+            whole.space.close();
             return Ok(whole);
         }
         let mut whole = IoBufMut::with_capacity_from(alloc, len, second)?;
@@ -321,14 +312,13 @@ impl IoBufMut {
         Ok(whole)
     }
 
-    pub(super) fn from_shell(shell: Shell, storage: Vec<u8>, start: usize, limit: usize) -> IoBufMut
-        requires { (start ≤ vec_len storage) × (vec_len storage ≤ limit) × (limit ≤ vec_capacity storage) }
-        ensures { result ≡ record { filled = drop start storage.items; spare = limit - vec_len storage } }
+    pub(super) fn from_space(space: Space, start: usize, shell: Shell) -> IoBufMut
+        requires { IsSpace space × (start ≤ length space.filled) }
+        ensures { result ≡ record { filled = drop start space.filled; spare = space.spare } }
     {
         IoBufMut {
-            storage,
+            space,
             start,
-            limit,
             shell,
         }
     }
@@ -337,7 +327,7 @@ impl IoBufMut {
     pub fn len(&self) -> usize
         ensures { result ≡ length self.now.filled }
     {
-        self.storage.len() - self.start
+        self.space.len() - self.start
     }
 
     /// Returns whether no byte is readable (`IoBufMut::is_empty`).
@@ -351,14 +341,14 @@ impl IoBufMut {
     pub fn capacity(&self) -> usize
         ensures { result ≡ part_capacity self.now }
     {
-        self.limit - self.start
+        self.space.capacity() - self.start
     }
 
     /// Borrows the readable bytes (`AsRef`).
     pub fn as_ref(&self) -> &[u8]
         ensures { result.now ≡ self.now.filled }
     {
-        &self.storage.as_slice()[self.start..]
+        &self.space.as_slice()[self.start..]
     }
 
     /// Borrows the readable bytes for overwriting (`AsMut`).
@@ -367,7 +357,7 @@ impl IoBufMut {
         ensures value { result.now ≡ self.old.filled }
     {
         let start = self.start;
-        self.storage.slice_mut(start..)
+        self.space.slice_mut(start)
     }
 
     /// Makes `n` bytes readable; bytes that were not are zero (`IoBufMut::set_len`, which is unsafe there).
@@ -375,7 +365,7 @@ impl IoBufMut {
         requires { n ≤ part_capacity self.old }
         ensures { self.new ≡ part_with_len self.old n }
     {
-        self.storage.resize(self.start + n, 0).unwrap();
+        self.space.resize(self.start + n, 0);
     }
 
     /// Acts as `set_len` if `n` is within the capacity, and returns whether it is (own); otherwise nothing changes.
@@ -391,14 +381,13 @@ impl IoBufMut {
         true
     }
 
-    /// Acts as `put_slice` (own, for layers). Takes fewer instructions after a test of the remaining capacity, more
-    /// without.
+    /// Acts as `put_slice` (own, for layers).
     #[inline(always)]
     pub fn put_share(&mut self, src: &[u8])
         requires { length src.now ≤ self.old.spare }
         ensures { self.new ≡ part_put self.old src.now }
     {
-        put_reserved(&mut self.storage, src);
+        self.space.put(src);
     }
 
     /// Keeps at most the first `n` bytes, and the capacity (`IoBufMut::truncate`).
@@ -406,7 +395,7 @@ impl IoBufMut {
         ensures { self.new ≡ part_truncated self.old n }
     {
         if n < self.len() {
-            self.storage.truncate(self.start + n);
+            self.space.truncate(self.start + n);
         }
     }
 
@@ -423,7 +412,7 @@ impl From<Vec<u8>> for IoBufMut {
 
     fn from(bytes: Vec<u8>) -> IoBufMut {
         let limit = bytes.capacity();
-        IoBufMut::from_storage(bytes, 0, limit)
+        IoBufMut::from_space(Space::of(bytes, limit), 0, Shell::none())
     }
 }
 
@@ -509,7 +498,7 @@ impl BufMut for IoBufMut {
     ghost filled = { λ a w b. (length w ≤ a.spare) × (b ≡ part_put a w) };
 
     fn remaining_mut(&self) -> usize {
-        self.limit - self.storage.len()
+        self.space.spare()
     }
 
     #[inline(always)]
@@ -521,23 +510,22 @@ impl BufMut for IoBufMut {
         true
     }
 
-    // The test always holds, and takes the path on which the vector grows out of the compiled code. An `unreachable!()`
-    // does not: a proved build has no trace of it.
+    // The test always holds, since `src` fits.
     #[inline(always)]
     fn put_slice(&mut self, src: &[u8]) {
-        if src.len() <= self.storage.capacity() - self.storage.len() {
+        if self.space.has_room(src.len()) {
             self.put_share(src);
         }
     }
 
     #[inline(always)]
     fn put_u8(&mut self, n: u8) {
-        self.storage.push_reserved(n);
+        self.space.push(n);
     }
 
     fn put_bytes(&mut self, value: u8, n: usize) {
-        let end = self.storage.len() + n;
-        self.storage.resize(end, value).unwrap();
+        let end = self.space.len() + n;
+        self.space.resize(end, value);
     }
 
     ghost nothing = { put_nothing };

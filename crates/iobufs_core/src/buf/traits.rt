@@ -1,5 +1,5 @@
-// One buffer as a reader and a writer of the crate `bytes` and of std. A put that doesn't fit fails, and changes
-// nothing.
+// One buffer as a reader and a writer of the crate `bytes` and of std. A put of the crate `bytes` that doesn't fit
+// fails, and changes nothing.
 ghost use Rattle.std.specs.Prelude.{◌≡◌, ◌≤◌, ◌++◌, [], ◌∷◌, length, take, drop, min, Some, None, Ok, IfOk, IsOk, IsOkAnd};
 ghost use Rattle.std.specs.Borrow.{sem};
 ghost use Rattle.std.specs.Io.{ReadsAtMost, StartsWith, WritesAtMost};
@@ -121,7 +121,7 @@ impl BufRead for IoBuf {
         Ok(self.as_ref())
     }
 
-    // Past the end it stops there.
+    // Drops at most the bytes that there are.
     #[tactic(auto, using(crate::proofs::TraitLaws::dropped_all))]
     fn consume(&mut self, amount: usize)
         ensures bytes { DropsConsumable (Some self.old.bytes) (Some self.new.bytes) None amount }
@@ -161,7 +161,7 @@ impl BufRead for IoBufMut {
         Ok(self.as_ref())
     }
 
-    // Past the end it stops there.
+    // Drops at most the bytes that there are.
     #[tactic(auto, using(crate::proofs::TraitLaws::dropped_all))]
     fn consume(&mut self, amount: usize)
         ensures bytes { DropsConsumable (Some self.old.filled) (Some self.new.filled) None amount }

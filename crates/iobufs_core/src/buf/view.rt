@@ -20,8 +20,8 @@ use std::marker::Model;
 use std::ops::Bound;
 use std::{fmt, mem};
 
-/// A read-only buffer of one chunk (`IoBuf`): a static slice, a `Bytes`, or native storage. Clones, slices and both
-/// sides of a split share their storage. In native storage:
+/// A read-only buffer of one chunk (`IoBuf`): a static slice, a `Bytes`, or native storage. Clones, slices with bytes,
+/// and the sides of a split inside the bytes share their storage. In native storage:
 ///
 /// ```text
 /// block   | dropped |  len bytes  |  after   |
@@ -34,7 +34,7 @@ pub struct IoBuf {
     held: Held,
 }
 
-// By hand, so that what is kept privately is none of a caller's business.
+// Written out, which keeps the private fields out of the callers' goals.
 impl Drop for IoBuf {
     fn drop(self) {
         let IoBuf { held: _ } = self;
@@ -68,7 +68,7 @@ impl IoBuf {
         }
     }
 
-    /// Copies the bytes into native storage (`IoBuf::copy_from_slice`).
+    /// Copies the bytes into native storage; no bytes give the default view (`IoBuf::copy_from_slice`).
     /// Returns `BufError::Memory` if allocation fails.
     pub fn copy_from_slice(alloc: Global, src: &[u8]) -> Result<IoBuf, BufError>
         ensures ok { IfOk result (λ b. b ≡ (if length src.now == 0 then default_view else record
@@ -124,7 +124,7 @@ impl IoBuf {
         self.held.as_slice()
     }
 
-    /// Drops the first bytes, as a copy of them does.
+    /// Drops the first `n` bytes as `copy_to_bytes` does.
     pub(crate) fn drop_front(&mut self, n: usize)
         requires { n ≤ length self.old.bytes }
         ensures { self.new ≡ view_rest self.old n }
@@ -139,8 +139,8 @@ impl IoBuf {
         self.advance(n);
     }
 
-    /// Returns whether a range is within the bytes: start at most end, end at most the length, and no bound above
-    /// `usize::MAX` (own). The original's `slice` panics otherwise.
+    /// Returns whether a range is within the bytes: its start is at most its end, and its end at most the length (own).
+    /// The original's `slice` panics otherwise.
     pub fn fits_range(&self, lo: Bound<usize>, hi: Bound<usize>) -> bool
         ensures { result ≡ range_fits lo hi (length self.now.bytes) }
     {
@@ -150,8 +150,9 @@ impl IoBuf {
         }
     }
 
-    /// Returns the bytes of a range, in the same storage (`IoBuf::slice`). Test the range by `fits_range`.
-    /// Returns `BufError::Memory` if the storage can't be shared.
+    /// Returns the bytes of a range, in the same storage; an empty range gives the default view (`IoBuf::slice`). Test
+    /// the range by `fits_range`.
+    /// Returns `BufError::Memory` if the storage can't count one more owner.
     #[inline(always)]
     pub fn slice(&self, lo: Bound<usize>, hi: Bound<usize>) -> Result<IoBuf, BufError>
         requires { IsTrue (range_fits lo hi (length self.now.bytes)) }
@@ -166,7 +167,7 @@ impl IoBuf {
         if from == to {
             return Ok(IoBuf::default());
         }
-        // Most views are native: a share of their own costs less than a choice among all kinds.
+        // The same call twice: the second is for native storage alone.
         if self.held.is_static() || self.held.is_shared() {
             return Ok(IoBuf {
                 held: self.held.share(from, to)?,
@@ -193,8 +194,8 @@ impl IoBuf {
         Some(self.slice(lo, hi))
     }
 
-    /// Takes the first `at` bytes, in the same storage (`IoBuf::split_to`).
-    /// If the storage can't be shared, returns `BufError::Memory` and changes nothing.
+    /// Takes the first `at` bytes without copying (`IoBuf::split_to`).
+    /// If the storage can't count one more owner, returns `BufError::Memory` and changes nothing.
     #[inline(always)]
     pub fn split_to(&mut self, at: usize) -> Result<IoBuf, BufError>
         requires { at ≤ length self.old.bytes }
@@ -206,7 +207,7 @@ impl IoBuf {
         ensures whole { at ≡ length self.old.bytes → IsOk result }
         ensures static_text { self.old.mark ≡ static_mark → IsOk result }
     {
-        // Tested first, most splits test the kind of storage once.
+        // A split inside the bytes is tested first.
         if at != 0 && at < self.len() {
             return Ok(IoBuf {
                 held: self.held.split_to(at)?,
@@ -253,8 +254,8 @@ impl IoBuf {
         Ok(Vec::from_slice(alloc, self.as_ref())?)
     }
 
-    /// Converts into a `Bytes` (`Bytes::from`). It copies native storage that is shared or has spare capacity after the
-    /// view. If allocation fails, the view comes back.
+    /// Converts into a `Bytes` (`Bytes::from`). It copies the bytes of native storage that is shared, or that has
+    /// capacity after the view. If allocation fails, the view comes back.
     pub fn into_bytes(self, alloc: Global) -> Result<Bytes, IoBuf>
         ensures same { MatchResult result (λ bytes. bytes ≡ self.bytes) (λ view. view ≡ self) }
         ensures static_text { self.mark ≡ static_mark → IsOk result }
@@ -299,7 +300,7 @@ impl IoBuf {
         self.held.is_shared()
     }
 
-    /// Converts into a `Bytes` without copying; native storage comes back (own).
+    /// Converts into a `Bytes` without copying; a view in native storage comes back (own).
     pub fn into_shared(self) -> Result<Bytes, IoBuf>
         ensures same { MatchResult result (λ bytes. bytes ≡ self.bytes) (λ view. view ≡ self) }
         ensures native { (room : ℕ) → self.mark ≡ native_mark room → IsErr result }

@@ -24,12 +24,12 @@ pub trait Buf {
     fn remaining(&self) -> usize
         ensures { result ≡ length (text self.now) };
 
-    /// Borrows the first chunk that holds bytes (`Buf::chunk`).
+    /// Borrows the first chunk that holds bytes, or no bytes if none remain (`Buf::chunk`).
     fn chunk(&self) -> &[u8]
         ensures first { result.now ≡ first_chunk (pieces self.now) }
         ensures front { IsChunkOf result.now (text self.now) };
 
-    /// Returns the byte at an offset (own).
+    /// Returns the byte at an offset, or `None` if there is none (own).
     fn byte_at(&self, i: usize) -> Option<u8>
         ensures { result ≡ slice_get (text self.now) i };
 
@@ -61,7 +61,8 @@ pub trait Buf {
         ensures bytes { dst.new ≡ take (length dst.old) (text self.old) }
         ensures rest { self.new ≡ advanced self.old (length dst.old) };
 
-    /// Takes the first `n` bytes (`Buf::copy_to_bytes`). It shares them if the chunk is a `Bytes`.
+    /// Takes the first `n` bytes (`Buf::copy_to_bytes`). An `IoBuf` or `IoBufs` copies nothing if they are in one chunk
+    /// that is a `Bytes` or static.
     /// If allocation fails, returns `BufError::Memory` and changes nothing.
     fn copy_to_bytes(&mut self, alloc: Global, n: usize) -> Result<Bytes, BufError>
         requires { n ≤ length (text self.old) }

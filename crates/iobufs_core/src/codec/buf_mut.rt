@@ -4,28 +4,29 @@ ghost use Rattle.std.specs.Int.{w16, w32, w64, w128, to_be_bytes};
 
 use super::Buf;
 
-/// Space that is filled in order (`bytes::BufMut`). No put allocates.
+/// Spare capacity that is filled in order (`bytes::BufMut`). An `IoBufsMut` fills its first spare capacity, also before
+/// bytes of later buffers. No put of `IoBufMut`, `IoBufsMut` or `Builder` allocates.
 pub trait BufMut {
     ghost room: { Self → ℕ };
 
     // From one value to another by filling these bytes in, which fit.
     ghost filled: { Self → List ℕ → Self → Type 0 };
 
-    /// Returns how many bytes fit (`BufMut::remaining_mut`).
+    /// Returns how many more bytes fit (`BufMut::remaining_mut`).
     fn remaining_mut(&self) -> usize
         ensures { result ≡ room self.now };
 
-    /// Appends the bytes (`BufMut::put_slice`).
+    /// Puts the bytes into the spare capacity, in order (`BufMut::put_slice`).
     fn put_slice(&mut self, src: &[u8])
         requires { length src.now ≤ room self.old }
         ensures { filled self.old src.now self.new };
 
-    /// Appends the byte `value` `n` times (`BufMut::put_bytes`).
+    /// Puts the byte `value` `n` times (`BufMut::put_bytes`).
     fn put_bytes(&mut self, value: u8, n: usize)
         requires { n ≤ room self.old }
         ensures { filled self.old (replicate n value) self.new };
 
-    /// Appends one byte (`BufMut::put_u8`).
+    /// Puts one byte (`BufMut::put_u8`).
     fn put_u8(&mut self, n: u8)
     where
         Self: Sized,
@@ -35,7 +36,7 @@ pub trait BufMut {
         self.put_slice(&[n]);
     }
 
-    /// Appends the bytes as `put_slice` does, and returns whether they fit (own); otherwise nothing changes.
+    /// Acts as `put_slice` if the bytes fit, and returns whether they do (own); otherwise nothing changes.
     #[inline(always)]
     fn try_put_slice(&mut self, src: &[u8]) -> bool
     where
@@ -51,7 +52,7 @@ pub trait BufMut {
         true
     }
 
-    /// Appends a byte as `put_bytes` does, and returns whether there is room (own); otherwise nothing changes.
+    /// Acts as `put_bytes` if the bytes fit, and returns whether they do (own); otherwise nothing changes.
     #[inline(always)]
     fn try_put_bytes(&mut self, value: u8, n: usize) -> bool
     where
@@ -76,7 +77,7 @@ pub trait BufMut {
 
     ghost lessens: { (a b : Self) (w : List ℕ) → filled a w b → room a ≡ room b + length w };
 
-    /// Appends a big-endian number of two bytes (`BufMut::put_u16`).
+    /// Puts a big-endian number of two bytes (`BufMut::put_u16`).
     final fn put_u16(&mut self, n: u16)
     where
         Self: Sized,
@@ -86,7 +87,7 @@ pub trait BufMut {
         self.put_slice(&u16::to_be_bytes(n));
     }
 
-    /// Appends a big-endian number of four bytes (`BufMut::put_u32`).
+    /// Puts a big-endian number of four bytes (`BufMut::put_u32`).
     final fn put_u32(&mut self, n: u32)
     where
         Self: Sized,
@@ -96,7 +97,7 @@ pub trait BufMut {
         self.put_slice(&u32::to_be_bytes(n));
     }
 
-    /// Appends a big-endian number of eight bytes (`BufMut::put_u64`).
+    /// Puts a big-endian number of eight bytes (`BufMut::put_u64`).
     final fn put_u64(&mut self, n: u64)
     where
         Self: Sized,
@@ -106,7 +107,7 @@ pub trait BufMut {
         self.put_slice(&u64::to_be_bytes(n));
     }
 
-    /// Appends a big-endian number of sixteen bytes (`BufMut::put_u128`).
+    /// Puts a big-endian number of sixteen bytes (`BufMut::put_u128`).
     final fn put_u128(&mut self, n: u128)
     where
         Self: Sized,
@@ -116,7 +117,7 @@ pub trait BufMut {
         self.put_slice(&u128::to_be_bytes(n));
     }
 
-    /// Appends all bytes of a reader, one copy for each of its chunks (`BufMut::put`).
+    /// Puts all bytes of a reader, by one `put_slice` for each of its chunks (`BufMut::put`).
     final fn put<B: Buf + Drop>(&mut self, mut src: B)
     where
         Self: Sized,

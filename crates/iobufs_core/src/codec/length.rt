@@ -12,7 +12,7 @@ pub(super) struct Spelled {
     pub len: usize,
 }
 
-// The first `len` bytes spell a length.
+// The first `len` bytes are the varint of a length.
 struct Spelling {
     bytes: [u8; 10],
     len: usize,
@@ -38,7 +38,7 @@ fn spelling_of(n: usize) -> Spelling
     }
 }
 
-/// How many bytes spell a length: at most ten.
+/// How many bytes the varint of a length has: at most ten.
 pub(super) fn spelled_len(n: usize) -> usize
     ensures value { result ≡ length (spell n) }
     ensures few { result ≤ 10 }
@@ -56,7 +56,7 @@ pub(super) fn put_length<B: BufMut>(buf: &mut B, n: usize)
     buf.put_slice(&bytes[..len]);
 }
 
-/// The byte at an offset after the first `skip`.
+/// The byte at offset `i` after the first `skip` bytes.
 #[inline(always)]
 fn byte_behind<B: Buf>(buf: &B, skip: usize, i: usize) -> Option<u8>
     requires { skip ≤ length (B.text buf.now) }
@@ -69,7 +69,7 @@ fn byte_behind<B: Buf>(buf: &B, skip: usize, i: usize) -> Option<u8>
     }
 }
 
-/// The length that a reader's bytes begin with.
+/// The length after the first `skip` bytes of a reader.
 #[inline(always)]
 fn length_at<B: Buf>(buf: &B, skip: usize) -> Result<Spelled, Error>
     requires { skip ≤ length (B.text buf.now) }
@@ -89,8 +89,7 @@ fn length_at<B: Buf>(buf: &B, skip: usize) -> Result<Spelled, Error>
     long_length_at(buf, skip, byte)
 }
 
-// Reads on after a first byte that says that others follow. In one function with `length_at`, `decode64_one_chunk`
-// takes 1.3 times the instructions.
+// Reads on after a first byte that says that others follow.
 #[inline(never)]
 fn long_length_at<B: Buf>(buf: &B, skip: usize, first: u8) -> Result<Spelled, Error>
     requires within { skip ≤ length (B.text buf.now) }
@@ -128,7 +127,7 @@ fn long_length_at<B: Buf>(buf: &B, skip: usize, first: u8) -> Result<Spelled, Er
     }
 }
 
-/// The length that a reader's bytes begin with, if it is in a range.
+/// The length after the first `skip` bytes of a reader, if it is in a range.
 #[inline(always)]
 pub(super) fn length_behind<B: Buf>(
     buf: &B,
@@ -159,7 +158,7 @@ pub(super) fn length_in<B: Buf>(buf: &B, range: &RangeCfg) -> Result<Spelled, Er
 }
 
 /// Reads the varint after the first `skip` bytes, and returns it with its number of bytes (own). All bytes stay.
-/// Returns `Error::EndOfBuffer`, `Error::InvalidVarint` or `Error::InvalidLength`, as reading a length does.
+/// Fails with `Error::EndOfBuffer`, `Error::InvalidVarint` or `Error::InvalidLength`, as reading a length does.
 pub fn peek_length<B: Buf>(buf: &B, skip: usize, range: &RangeCfg) -> Result<(usize, usize), Error>
     requires { skip ≤ length (B.text buf.now) }
     ensures ok { IfOk result (λ s. IsLengthRead (drop skip (B.text buf.now)) range.now (Ok s.0)) }
@@ -171,8 +170,9 @@ pub fn peek_length<B: Buf>(buf: &B, skip: usize, range: &RangeCfg) -> Result<(us
     Ok((found.value, found.len))
 }
 
-/// Does nothing (own). Its contract is two laws of varints. A length below 128 is one byte; a larger one is its low
-/// seven bits with the top bit set, and then the rest. No varint is a prefix of another.
+/// Does nothing (own). Its contract has laws of varints. The varint of a number below 128 is the number as one byte.
+/// Any other is the number's low seven bits with the top bit set, and then the varint of its other bits. No varint is a
+/// prefix of another number's.
 pub fn spelling_law(n: usize, m: usize)
     ensures last { n < 128 → spell n ≡ n ∷ [] }
     ensures more { 128 ≤ n → spell n ≡ (128 + n % 128) ∷ spell (n / 128) }

@@ -1,4 +1,4 @@
-// Nothing, a `bool` as one byte, and a value that is there or not, after such a byte.
+// `()` as no bytes, a `bool` as one byte, and an `Option` as such a byte and then its value, if it has one.
 ghost use Rattle.std.specs.Prelude.{[], ◌∷◌};
 ghost use Rattle.iobufs_core.specs.Items.{put_item};
 ghost use Rattle.iobufs_core.specs.SeveralLaws.{joins-option};

@@ -20,16 +20,16 @@ pub trait OwnedBytes: Sized {
     // The value that `from_view` makes of a view.
     ghost makes: { View → Self → Type 0 };
 
-    // The views whose conversion can't fail.
+    // Views whose conversion can't fail, besides those without bytes.
     ghost is_free: { View → Type 0 };
 
-    /// Converts a `Bytes` (`From`).
+    /// Converts a `Bytes` (`OwnedBytes::from_bytes`).
     /// If allocation fails, returns `BufError::Memory` and drops the `Bytes`.
     fn from_bytes(bytes: Bytes) -> Result<Self, BufError>
         ensures ok { IfOk result (λ made. bytes_of made ≡ bytes) }
         ensures memory { IsOkUnless result BufError.Memory };
 
-    /// Converts a view, and shares its storage if the type can (the codec's `claim`).
+    /// Converts a view: to an `IoBuf` as it is, to a `Bytes` as `IoBuf::into_bytes` does (the codec's `claim`).
     /// If allocation fails, returns `BufError::Memory` and drops the view.
     fn from_view(alloc: Global, view: IoBuf) -> Result<Self, BufError>
         ensures ok { IfOk result (makes view) }
@@ -53,8 +53,8 @@ pub trait OwnedBytes: Sized {
 pub trait OwnedBuf: Buf {
     ghost marked: { Self → MarkedText };
 
-    /// Takes the `n` bytes after the first `skip`, and drops all of them (own). A whole first chunk is moved, not
-    /// cloned.
+    /// Takes the `n` bytes after the first `skip`, and drops the first `skip + n` (own). A whole first chunk is moved,
+    /// not cloned.
     /// If allocation fails, returns `BufError::Memory` and changes nothing.
     fn take_owned_after<T: OwnedBytes>(
         &mut self,

@@ -1,4 +1,4 @@
-// Several values as one: each is written after the one before it. And what is borrowed is written as it is.
+// Tuples: each value is written after the one before it. A reference is written as its value.
 ghost use Rattle.std.specs.Prelude.{◌++◌};
 ghost use Rattle.iobufs_core.specs.SeveralLaws.{joins_two};
 

@@ -39,7 +39,7 @@ impl Write for Bytes {
         buf.put_slice(self.as_slice());
     }
 
-    /// Shares the bytes before it puts the length. If it fails, `buf` is unchanged, or keeps the length alone.
+    /// Shares the bytes before it puts the length. If it fails, `buf` is unchanged, or only the length was put.
     fn write_bufs<B: BufsMut>(&self, buf: &mut B) -> Result<(), Error>
         requires { items_inline (bytes_items self.now) ≤ B.room buf.old }
         ensures ok { OnOk result (B.done buf.old (bytes_items self.now) buf.new) }

@@ -82,7 +82,7 @@ pub trait EncodeSize {
     fn encode_size(&self) -> Option<usize>
         ensures { SomeIff result (length (written self.now) < 2 ^ 64) (length (written self.now)) };
 
-    /// Returns how many of them `write_bufs` puts inline (`EncodeSize::encode_inline_size`).
+    /// Returns how many bytes `write_bufs` puts inline (`EncodeSize::encode_inline_size`).
     fn encode_inline_size(&self) -> usize
         requires { length (written self.now) < 2 ^ 64 }
         ensures { result ≡ items_inline (items self.now) };
@@ -97,8 +97,8 @@ pub trait Write: EncodeSize {
         requires { length (Self.written self.now) ≤ B.room buf.old }
         ensures { B.filled buf.old (Self.written self.now) buf.new };
 
-    /// Puts and pushes the encoded bytes (`Write::write_bufs`). If it fails, `buf` keeps what was written before.
-    /// Cannot fail if no byte is pushed.
+    /// Puts and pushes the encoded bytes (`Write::write_bufs`). If it fails, `buf` keeps the bytes that were written up
+    /// to there. Cannot fail if no byte is pushed.
     fn write_bufs<B: BufsMut>(&self, buf: &mut B) -> Result<(), Error>
         requires { items_inline (Self.items self.now) ≤ B.room buf.old }
         ensures ok { OnOk result (B.done buf.old (Self.items self.now) buf.new) }
@@ -129,13 +129,14 @@ pub trait Read: Sized {
             (dropping value)) }
         ensures unchanged { OnErr result (buf.new ≡ buf.old) };
 
-    // Reading doesn't depend on the chunking.
+    // Reading doesn't depend on the chunking, except for `Memory`.
     ghost alike: { (s t : MarkedText) (cfg : Self.Cfg) (a b : Result Self AnyError) → s.bytes ≡ t.bytes
         → is_read s cfg a → is_read t cfg b
         → IsReadAlike same a b };
 }
 
-/// A value that is read back as it was written, whatever follows it (the codec's `Codec`).
+/// A value that is read back as it was written, if the configuration admits it and no allocation fails (the codec's
+/// `Codec`).
 pub trait Codec: Write + Read {
     // Which values a configuration admits.
     ghost admits: { Self.Cfg → Self → Type 0 };
@@ -219,7 +220,7 @@ impl Write for IoBuf {
         buf.put_slice(self.as_ref());
     }
 
-    /// Shares the view before it puts the length. If it fails, `buf` is unchanged, or keeps the length alone.
+    /// Shares the view before it puts the length. If it fails, `buf` is unchanged, or only the length was put.
     fn write_bufs<B: BufsMut>(&self, buf: &mut B) -> Result<(), Error>
         requires { items_inline (view_items self.now) ≤ B.room buf.old }
         ensures ok { OnOk result (B.done buf.old (view_items self.now) buf.new) }

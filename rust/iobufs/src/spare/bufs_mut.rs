@@ -41,7 +41,8 @@ impl IoBufsMut {
     pub(crate) unsafe fn fill(&mut self, n: usize) {
         assert!(n <= self.remaining_mut(), "{}", crate::error::PAST);
         let mut rest = n;
-        while let Some(part) = self.next().filter(|_| rest > 0) {
+        while rest > 0 {
+            let part = self.next().expect("a buffer with spare capacity");
             let share = rest.min(part.remaining_mut());
             // SAFETY: the caller's duty.
             unsafe { part.fill(share) };

@@ -8,8 +8,7 @@ impl IoBufMut {
     /// Returns the spare capacity after the readable bytes.
     #[inline]
     pub(crate) fn space(&mut self) -> &mut [MaybeUninit<u8>] {
-        let n = self.limit - self.storage.len();
-        &mut self.storage.0.spare_capacity_mut()[..n]
+        self.space.uninit()
     }
 
     /// Makes the first `n` bytes of the spare capacity readable. Panics if there are fewer.
@@ -19,23 +18,21 @@ impl IoBufMut {
     #[inline]
     #[track_caller]
     pub(crate) unsafe fn fill(&mut self, n: usize) {
-        assert!(n <= self.space().len(), "{}", crate::error::PAST);
-        // SAFETY: the spare capacity is the `Vec`'s own, and the caller wrote the bytes.
-        unsafe { self.storage.0.set_len(self.storage.0.len() + n) }
-        let (len, most) = (self.storage.0.len(), self.storage.0.capacity());
-        debug_assert!(self.start <= len && len <= self.limit && self.limit <= most, "the buffer's invariant");
+        assert!(n <= self.space.spare(), "{}", crate::error::PAST);
+        // SAFETY: the caller's duty.
+        unsafe { self.space.fill(n) }
     }
 
     /// Returns the address of the first readable byte. The whole capacity may be written from there on.
     #[inline]
     pub(crate) fn address(&mut self) -> *mut u8 {
-        self.storage.0.as_mut_ptr().wrapping_add(self.start)
+        self.space.address().wrapping_add(self.start)
     }
 
     /// Returns the `Vec` of the storage, with the readable bytes moved to its front.
     pub(crate) fn into_vec(self) -> Vec<u8> {
-        let (storage, start, _, _) = self.into_storage();
-        let mut bytes = storage.0;
+        let (space, start, _) = self.into_space();
+        let mut bytes = space.into_vec().0;
         bytes.drain(..start);
         bytes
     }

@@ -1,5 +1,6 @@
-use Rattle.std.proofs.Common.{ℕ, ◌≡◌, ◌-◌, length, drop, take, arith, ap, vec_len, Vec, Global}
+use Rattle.std.proofs.Common.{◌≡◌, ◌-◌, length, drop, take, arith}
 use Rattle.std.proofs.lemmas.List.{drop-take}
+use Rattle.iobufs_core.specs.Part.{part_capacity}
 use Rattle.iobufs_core.proofs.Windows.{length_window}
 use Rattle.iobufs_core.proofs.buf.native.try_into_mut.Goals as goal
 
@@ -8,11 +9,9 @@ returns-in-Ok c =
     let s = c.native.inside in
     let block = s.block in
     let cut = c.truncate.new.self in
-    let same = c.in-Ok.ensures in
-    let bytes = length_window s.start s.len block.items (omega (arith, block.ok.0)) in
-    let same_len = ap (λ (v : Vec ℕ Global). vec_len v) same in
-    let filled : drop s.start cut.items ≡ take s.len (drop s.start block.items) =
-    rw (c.truncate.ensures.items, same) (drop-take s.start s.len block.items) in
-    let spare : s.limit - vec_len cut ≡ s.limit - s.start - length (take s.len (drop s.start block.items)) =
-    omega (arith, bytes, c.truncate.ensures.len, same_len) in
+    let bytes = length_window s.start s.len block.filled c.native.invariant.1 in
+    let filled : drop s.start cut.filled ≡ take s.len (drop s.start block.filled) =
+    rw (c.truncate.ensures, c.in-Ok.ensures) (drop-take s.start s.len block.filled) in
+    let spare : cut.spare ≡ part_capacity block - s.start - length (take s.len (drop s.start block.filled)) =
+    rw (c.truncate.ensures, c.in-Ok.ensures) (omega (arith, bytes)) in
     rw (← c.native.view_is) cc
