@@ -7,5 +7,6 @@ pub mod Parts
 pub mod Refusals
 pub mod Search
 pub mod Sending
+pub mod Splitting
 pub mod Views
 pub mod Visiting

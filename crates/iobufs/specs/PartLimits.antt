@@ -8,7 +8,7 @@ use Rattle.iobufs_core.specs.declared.codec.base.BufError.TheVariants.{Memory, T
 use Rattle.iobufs.specs.Parts.{parts_capacity, with_capacity}
 
 -- the last part was refused: it can hold a byte, and so can one before it; with it there is too much capacity, or more
--- than three parts can hold a byte and there was no memory
+-- than three parts can hold a byte and an allocation failed
 pub record IsRowRefusedAt (parts : List Part) (cause : BufError) : Type 0 where
   pub front : List Part
   pub last : Part

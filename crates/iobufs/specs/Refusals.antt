@@ -1,7 +1,7 @@
 -- How a view is added to an `IoBufs`, and why views were not joined.
 --     Adds           it was added, or is handed back and nothing changed: the bytes are more than a number counts
---                    (`TooLong`), or there was no memory
---     IsRefusedAt    with the last view, the bytes are more than a number counts (`TooLong`), or there was no memory
+--                    (`TooLong`), or an allocation failed
+--     IsRefusedAt    with the last view, the bytes are more than a number counts (`TooLong`), or an allocation failed
 use Rattle.std.specs.Prelude.{◌≡◌, ◌+◌, ◌<◌, ◌^◌, nat_lt, if◌then◌else◌, Result, Ok, Err, List, [], ◌∷◌, ◌++◌, length}
 use Rattle.iobufs_core.specs.View.{View}
 use Rattle.iobufs_core.specs.MarkedText.{MarkedText, joined, text_len}
@@ -9,13 +9,13 @@ use Rattle.iobufs_core.specs.declared.codec.base.BufError.{BufError}
 use Rattle.iobufs_core.specs.declared.codec.base.BufError.TheVariants.{Memory, TooLong}
 use Rattle.iobufs_core.specs.declared.codec.base.Refused.{Refused}
 
--- a view was added, which gives this; or it is handed back, and all stays: its bytes and those there are too many, or there was no memory
+-- a view was added, which gives this; or it is handed back, and all stays: its bytes and those there are too many, or an allocation failed
 abbrev pub Adds : MarkedText → MarkedText → View → Result (Unit {0}) (Refused View) → MarkedText → Type 0
 Adds added old view (Ok done) new = (new ≡ added) × (text_len old + length view.bytes < 2 ^ 64)
 Adds added old view (Err refused) new = (new ≡ old) × (refused.value ≡ view)
     × (refused.cause ≡ (if nat_lt (text_len old + length view.bytes) (2 ^ 64) then Memory else TooLong))
 
--- the last view was refused: it has bytes, and so have those before it, joined; with it these are too many, or there was no memory
+-- the last view was refused: it has bytes, and so have those before it, joined; with it these are too many, or an allocation failed
 pub record IsRefusedAt (views : List View) (cause : BufError) : Type 0 where
   pub front : List View
   pub last : View

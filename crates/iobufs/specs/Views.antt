@@ -10,6 +10,6 @@ cut_views bytes key mark [] = record { bytes = bytes; mark = mark } ∷ []
 cut_views bytes key mark (cut ∷ cuts) = record { bytes = take (cut.0 - key) bytes; mark = mark } ∷ cut_views
     (drop (cut.0 - key) bytes) cut.0 cut.1 cuts
 
--- the views that a text was joined from: the only one of an empty text too
+-- the views of the chunks of a text; of a text without bytes its only one
 unfoldable pub text_views : MarkedText → List View
 text_views text = cut_views text.bytes 0 text.mark text.cuts

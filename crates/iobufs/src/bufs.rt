@@ -3,6 +3,7 @@ ghost use Rattle.iobufs.specs.Inside.Pieces.{AreViews, of_pieces, pieces_bytes};
 ghost use Rattle.iobufs.specs.Located.{greatest_key, keys_upto};
 ghost use Rattle.iobufs.specs.Refusals.{Adds, IsRefusedAt};
 ghost use Rattle.iobufs.specs.Sending.{IsRestOf, IsSent};
+ghost use Rattle.iobufs.specs.Splitting.{Splits, SplitsFree};
 ghost use Rattle.iobufs.specs.Views.{text_views};
 ghost use Rattle.iobufs_core.specs.Chunks.{first_chunk};
 ghost use Rattle.iobufs_core.specs.MarkedText.{IsMarked, chunk_count as count_of, default_text, is_single, joined, of_view, taken_view, text_append, text_chunks, text_len, text_prepend, text_rest, text_split_front, text_coalesced, chunk_count};
@@ -55,8 +56,8 @@ pub use writing::{BATCH, write_again, write_chunks_again};
 /// end          3      5       9       less the base: how many bytes there are up to there
 /// ```
 ///
-/// Joining and splitting move chunks and copy none of their bytes. An offset is found by a search among the ends, and a
-/// split then moves the chunks of the smaller side.
+/// `append`, `prepend` and `split_to` move chunks and copy none of their bytes. An offset after the first chunk is
+/// found by bisection of the ends.
 pub struct IoBufs {
     pieces: Pieces,
 }
@@ -180,21 +181,12 @@ impl IoBufs {
         }
     }
 
-    /// Takes the first `at` bytes as `split_to` does, if there are so many (own); otherwise nothing changes.
+    /// Takes the first `at` bytes as `split_to` does, if there are so many (own); otherwise nothing changes. If
+    /// allocation fails, the result is `BufError::Memory` and nothing changes.
     pub fn try_split_to(&mut self, alloc: Global, at: usize) -> Option<Result<IoBufs, BufError>>
         ensures short { result ≡ None ↔ (text_len self.old < at) }
-        ensures front { IfSome result (λ answer. IfOk answer (λ front. front ≡ text_split_front self.old at)) }
-        ensures rest { IfSome result (λ answer. OnOk answer (self.new ≡ text_rest self.old at)) }
-        ensures unchanged { MatchOption result (self.new ≡ self.old) (λ answer. OnErr answer (self.new ≡ self.old)) }
-        ensures memory { IfSome result (λ answer. IsOkUnless answer BufError.Memory) }
-        ensures nothing { at ≡ 0 → IfSome result (λ answer. IsOk answer) }
-        ensures whole { at ≡ text_len self.old → IfSome result (λ answer. IsOk answer) }
-        ensures first { at ≡ length (first_chunk (text_chunks self.old)) → IfSome result (λ answer. IsOk answer) }
-        ensures static_text { at ≤ length (first_chunk (text_chunks self.old))
-            → (taken_view self.old 0 at).mark ≡ static_mark
-            → IfSome result (λ answer. IsOk answer) }
-        ensures last { (front : List (List ℕ)) (chunk : List ℕ) → text_chunks self.old ≡ front ++ chunk ∷ []
-            → at + length chunk ≡ text_len self.old → IfSome result (λ answer. IsOk answer) }
+        ensures split { MatchOption result (self.new ≡ self.old) (λ answer. Splits self.old at answer self.new) }
+        ensures free { SplitsFree self.old at → IfSome result (λ answer. IsOk answer) }
     {
         if at > self.len() {
             return None;
@@ -232,14 +224,14 @@ impl IoBufs {
         Some(self.locate(at))
     }
 
-    /// Borrows a chunk by its index (own). If there are no bytes, the only chunk has none.
+    /// Borrows a chunk by its index (own). If there are no bytes, the buffer at index 0 is empty.
     pub fn view_at(&self, i: usize) -> Option<&IoBuf>
         ensures { option_copied result ≡ slice_get (text_views self.now) i }
     {
         self.pieces.get(i)
     }
 
-    /// Borrows the only chunk, if there is one (`IoBufs::as_single`).
+    /// Borrows the buffer if there is one chunk or none (`IoBufs::as_single`).
     pub fn as_single(&self) -> Option<&IoBuf>
         ensures { MatchOption result (is_single self.now ≡ false) (λ piece. self.now ≡ of_view piece.now) }
     {
@@ -250,7 +242,7 @@ impl IoBufs {
         }
     }
 
-    /// Iterates over the chunks in order (own). The original has `for_each_chunk` alone.
+    /// Iterates over the chunks in order (own).
     pub fn chunks(&self) -> Chunks<'_>
         ensures { result ≡ text_chunks self.now }
     {
@@ -260,16 +252,20 @@ impl IoBufs {
         }
     }
 
-    /// Borrows the chunks from an index on as two runs, in order; of a single chunk none (own, for layers).
+    /// Borrows the chunks from an index on as two runs, in order (own, for layers).
     pub fn chunk_slices_from(&self, first: usize) -> (ChunkSlice<'_>, ChunkSlice<'_>)
-        ensures several { is_single self.now ≡ false → result.0 ++ result.1 ≡ drop first (text_chunks self.now) }
-        ensures single { is_single self.now ≡ true → result.0 ++ result.1 ≡ [] }
+        ensures { result.0 ++ result.1 ≡ drop first (text_chunks self.now) }
     {
-        if self.is_single() {
-            return (ChunkSlice::none(), ChunkSlice::none());
-        }
         match &self.pieces.form {
-            Form::One(_) => (ChunkSlice::none(), ChunkSlice::none()),
+            Form::One(piece) => {
+                if piece.len() == 0 {
+                    return (ChunkSlice::none(), ChunkSlice::none());
+                }
+                if first > 0 {
+                    return (ChunkSlice::none(), ChunkSlice::none());
+                }
+                (ChunkSlice::one(piece.as_ref()), ChunkSlice::none())
+            }
             Form::Many(row) => row.chunk_slices_from(first),
         }
     }
@@ -290,7 +286,7 @@ impl IoBufs {
         }
     }
 
-    /// Returns the only chunk; several come back (`IoBufs::try_into_single`).
+    /// Returns the buffer if there is one chunk or none; several come back (`IoBufs::try_into_single`).
     pub fn try_into_single(self) -> Result<IoBuf, IoBufs>
         ensures { MatchResult result (λ piece. self ≡ of_view piece)
             (λ text. (text ≡ self) × (is_single self ≡ false)) }
@@ -302,8 +298,9 @@ impl IoBufs {
         }
     }
 
-    /// Adds a buffer at the end (`IoBufs::append`). An empty one changes nothing, and empty bytes are replaced.
-    /// If it fails, the buffer comes back and nothing changes: `BufError::TooLong` if the length would pass
+    /// Adds a buffer at the end (`IoBufs::append`). An empty buffer changes nothing; an `IoBufs` without bytes becomes
+    /// the buffer.
+    /// If it fails, the buffer comes back and nothing changes: `BufError::TooLong` if the length would be above
     /// `usize::MAX`, `BufError::Memory` if allocation fails.
     #[inline(always)]
     pub fn append(&mut self, alloc: Global, piece: IoBuf) -> Result<(), Refused<IoBuf>>
@@ -321,8 +318,7 @@ impl IoBufs {
         self.append_any(alloc, piece)
     }
 
-    // Adds any buffer at the end of any `IoBufs`. In one function with `append`, `text64_append` takes 1.7 times the
-    // instructions.
+    // Adds any buffer at the end of any `IoBufs`.
     #[inline(never)]
     fn append_any(&mut self, alloc: Global, piece: IoBuf) -> Result<(), Refused<IoBuf>>
         ensures added { Adds (text_append self.old piece) self.old piece result self.new }
@@ -352,8 +348,8 @@ impl IoBufs {
         Ok(())
     }
 
-    /// Adds a buffer at the start (`IoBufs::prepend`). An empty one changes nothing, and empty bytes are replaced.
-    /// Fails as `append`.
+    /// Adds a buffer at the start (`IoBufs::prepend`). An empty buffer changes nothing; an `IoBufs` without bytes
+    /// becomes the buffer. Fails as `append`, with `BufError::TooLong` or `BufError::Memory`.
     #[inline(always)]
     pub fn prepend(&mut self, alloc: Global, piece: IoBuf) -> Result<(), Refused<IoBuf>>
         ensures added { Adds (text_prepend self.old piece) self.old piece result self.new }
@@ -370,8 +366,7 @@ impl IoBufs {
         self.prepend_any(alloc, piece)
     }
 
-    // Adds any buffer at the start of any `IoBufs`. In one function with `prepend`, `text64_prepend` takes 1.6 times
-    // the instructions.
+    // Adds any buffer at the start of any `IoBufs`.
     #[inline(never)]
     fn prepend_any(&mut self, alloc: Global, piece: IoBuf) -> Result<(), Refused<IoBuf>>
         ensures added { Adds (text_prepend self.old piece) self.old piece result self.new }
@@ -401,23 +396,12 @@ impl IoBufs {
         Ok(())
     }
 
-    /// Takes the first `at` bytes: moves whole chunks, and splits the one that contains the offset
-    /// (`IoBufs::split_to`).
+    /// Takes the first `at` bytes: moves whole chunks, and splits a chunk if `at` is inside it (`IoBufs::split_to`).
     /// If allocation fails, returns `BufError::Memory` and changes nothing.
     pub fn split_to(&mut self, alloc: Global, at: usize) -> Result<IoBufs, BufError>
         requires { at ≤ text_len self.old }
-        ensures front { IfOk result (λ front. front ≡ text_split_front self.old at) }
-        ensures rest { OnOk result (self.new ≡ text_rest self.old at) }
-        ensures unchanged { OnErr result (self.new ≡ self.old) }
-        ensures memory { IsOkUnless result BufError.Memory }
-        ensures nothing { at ≡ 0 → IsOk result }
-        ensures whole { at ≡ text_len self.old → IsOk result }
-        ensures first { at ≡ length (first_chunk (text_chunks self.old)) → IsOk result }
-        ensures static_text { at ≤ length (first_chunk (text_chunks self.old))
-            → (taken_view self.old 0 at).mark ≡ static_mark → IsOk result }
-        ensures last { (front : List (List ℕ)) (chunk : List ℕ) → text_chunks self.old ≡ front ++ chunk ∷ []
-            → at + length chunk ≡ text_len self.old
-            → IsOk result }
+        ensures split { Splits self.old at result self.new }
+        ensures free { SplitsFree self.old at → IsOk result }
     {
         if at == 0 {
             return Ok(IoBufs::default());
@@ -429,20 +413,15 @@ impl IoBufs {
         Ok(IoBufs { pieces })
     }
 
-    /// Keeps at most the first `len` bytes (own; `BytesMut::truncate`). It drops the rest as `split_to` does.
+    /// Keeps at most the first `len` bytes (own; `BytesMut::truncate`). If bytes go, it leaves what `split_to` returns
+    /// for `len`.
     /// If allocation fails, returns `BufError::Memory` and changes nothing.
     pub fn truncate(&mut self, alloc: Global, len: usize) -> Result<(), BufError>
         ensures kept { OnOk result (len < text_len self.old → self.new ≡ text_split_front self.old len) }
         ensures longer { text_len self.old ≤ len → (self.new ≡ self.old) × IsOk result }
         ensures unchanged { OnErr result (self.new ≡ self.old) }
         ensures memory { IsOkUnless result BufError.Memory }
-        ensures nothing { len ≡ 0 → IsOk result }
-        ensures first { len ≡ length (first_chunk (text_chunks self.old)) → IsOk result }
-        ensures static_text { len ≤ length (first_chunk (text_chunks self.old))
-            → (taken_view self.old 0 len).mark ≡ static_mark → IsOk result }
-        ensures last { (front : List (List ℕ)) (chunk : List ℕ) → text_chunks self.old ≡ front ++ chunk ∷ []
-            → len + length chunk ≡ text_len self.old
-            → IsOk result }
+        ensures free { SplitsFree self.old len → IsOk result }
     {
         if len >= self.len() {
             return Ok(());
@@ -452,9 +431,8 @@ impl IoBufs {
         Ok(())
     }
 
-    /// Returns the bytes of a range, sharing their storage (own; `IoBuf::slice`). Two searches find the chunks, which
-    /// are cloned and cut at both ends.
-    /// Returns `BufError::Memory` if allocation fails.
+    /// Returns the bytes of a range, sharing their storage (own; `IoBuf::slice`). Returns `BufError::Memory` if
+    /// allocation fails.
     pub fn slice(&self, alloc: Global, range: Range<usize>) -> Result<IoBufs, BufError>
         requires order { range.start ≤ range.end }
         requires inside { range.end ≤ text_len self.now }
@@ -486,7 +464,7 @@ impl IoBufs {
         self.len() == bytes.len() && self.pieces.matched(START, bytes).is_some()
     }
 
-    /// Finds the chunk that contains an offset, by a search among the ends (own).
+    /// Finds the chunk that contains an offset, by bisection of the ends (own).
     pub fn locate(&self, at: usize) -> Located
         requires { at < text_len self.now }
         ensures index { result.index + 1 ≡ keys_upto self.now at }
@@ -527,10 +505,10 @@ impl IoBufs {
         }
     }
 
-    /// Writes all bytes, up to `BATCH` chunks at a time, and drops those that the writer takes (own). Nothing is
-    /// allocated. An error is the writer's, or `ErrorKind::WriteZero` if it takes none; `write_chunks_again` says which
-    /// one is dropped. The other bytes are left, and `write_to` may be called again. An interrupted write is tried
-    /// again; after 2^64 - 1 tries the error is `ErrorKind::TimedOut`.
+    /// Writes all bytes, up to `BATCH` chunks at a time, and drops those that the writer takes (own). It allocates
+    /// nothing itself. An error is the writer's, or `ErrorKind::WriteZero` if it takes none. An error after bytes of
+    /// the same write may be dropped (`write_chunks_again`). The other bytes are left, and `write_to` may be called
+    /// again. An interrupted write is tried again; after 2^64 - 1 tries the error is `ErrorKind::TimedOut`.
     #[tactic(auto, using(crate::proofs::CallerFacts::sending, crate::proofs::CallerFacts::resting))]
     pub fn write_to<W: Write>(&mut self, to: &mut W) -> io::Result<()>
         ensures sent { IsSent (W.contents to.old) (W.contents to.new) self.old.bytes self.new.bytes }
@@ -612,7 +590,7 @@ impl From<&'static [u8]> for IoBufs {
 impl Clone for IoBufs {
     ghost is_clone = { λ a b. b ≡ a };
 
-    // One chunk whose clone allocates nothing.
+    // One chunk that is static, or a `Bytes` of no bytes.
     ghost is_infallible = { λ text. (is_single text ≡ true)
         × IsFreelyShared (record { bytes = text.bytes; mark = text.mark }) };
 
@@ -717,7 +695,7 @@ impl<'a> IntoIterator for &'a IoBufs {
     }
 }
 
-/// Fails also if a sum of lengths would pass `usize::MAX`.
+/// Fails also if a sum of lengths would be above `usize::MAX`.
 impl FromIterator<IoBuf> for IoBufs {
     type Alloc = Global;
 

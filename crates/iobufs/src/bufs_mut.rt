@@ -35,8 +35,8 @@ use std::marker::Model;
 ///                   spare     spare  the next put fills . . and then .
 /// ```
 ///
-/// It shares its storage with no other buffer. Puts, `set_len` and `advance` don't allocate; `freeze` allocates the
-/// deque of chunks, and the counts of owners that adopted buffers lack.
+/// An `IoBufsMut` shares its storage with no other buffer. Puts, `set_len` and `advance` don't allocate; `freeze`
+/// allocates the deque of several chunks, and the counts of owners that adopted buffers lack.
 pub struct IoBufsMut {
     shape: Shape,
 }
@@ -47,7 +47,7 @@ impl Drop for IoBufsMut {
     }
 }
 
-// One part, or up to three in place, which need no allocation of their own; or a deque of more.
+// One part, or up to three in place, which need no allocation of their own; or a deque, made for more.
 #[derive(Drop)]
 enum Shape {
     One(IoBufMut),
@@ -60,7 +60,8 @@ impl Shape {
     ghost use Rattle.iobufs.specs.declared.bufs_mut.Shape.TheVariants.{One};
     ghost use Rattle.iobufs.specs.Inside.PartShape.{IsShape, shape_parts, shape_single};
 
-    // One more part, which can hold a byte; one that can't makes way for it. A first deque has space for `expected`.
+    // One more part, which can hold a byte; one that can't makes way for it. A first deque has space for `expected`,
+    // and at least for eight.
     #[tactic(auto, using(crate::proofs::Parts::PartRuns::growing, crate::proofs::Parts::FewLaws::growing_few))]
     fn with_part(self, alloc: Global, part: IoBufMut, expected: usize) -> Result<Shape, BufError>
         requires built { IsShape self }
@@ -91,7 +92,7 @@ impl Shape {
         }
     }
 
-    // A row of which only one part is left becomes that part.
+    // If only one part is left, the shape becomes that part.
     fn settle(&mut self)
         ensures same { shape_parts self.new ≡ shape_parts self.old }
         ensures settled { shape_single self.new ≡ single_part (shape_parts self.old) }
@@ -111,7 +112,7 @@ impl Shape {
         }
     }
 
-    // Takes the first `n` bytes with their storage, if a part without spare capacity holds just these.
+    // May take the first `n` bytes with their storage, if a part without spare capacity holds just these.
     #[tactic(auto, using(crate::proofs::Parts::FewLaws::keeping))]
     fn take_front(&mut self, alloc: Global, n: usize) -> Result<Option<Bytes>, BufError>
         requires { 0 < n }
@@ -168,8 +169,8 @@ impl IoBufsMut {
     }
 
     /// Collects the buffers that can hold a byte; if there are none, one of capacity 0 (`FromIterator`). Fails with
-    /// `BufError::TooLong` if the capacities up to some buffer are more than `usize::MAX`, before it allocates, or with
-    /// `BufError::Memory`. The first three buffers don't allocate.
+    /// `BufError::TooLong` if the capacities up to some buffer are more than `usize::MAX`, or with `BufError::Memory`.
+    /// Up to three buffers need no allocation.
     pub fn from_parts<I: Iterator<Item = IoBufMut>>(
         alloc: Global,
         mut items: I,
@@ -348,7 +349,8 @@ impl IoBufsMut {
         self.shape.single_mut()
     }
 
-    /// Returns the address of the first chunk of the readable bytes, also of none, to write there (own, for layers).
+    /// Returns the address of the first chunk of the readable bytes, to write there; it isn't null, even if there are
+    /// none (own, for layers).
     pub fn chunk_ptr(&mut self) -> *mut u8
         ensures address { result ≡ null_ptr → ⊥ }
         ensures same { self.new ≡ self.old }
@@ -360,8 +362,8 @@ impl IoBufsMut {
         }
     }
 
-    /// Returns the address of the readable bytes of a buffer by its index, also of none, to write there (own, for
-    /// layers).
+    /// Returns the address of the readable bytes of a buffer by its index, to write there; it isn't null, even if there
+    /// are none (own, for layers).
     pub fn part_ptr(&mut self, i: usize) -> *mut u8
         requires { i < length self.old }
         ensures address { result ≡ null_ptr → ⊥ }
@@ -390,9 +392,9 @@ impl IoBufsMut {
         }
     }
 
-    /// Returns one buffer; several are copied, without spare capacity (`IoBufsMut::coalesce`): into the first of two or
-    /// three, if all bytes fit it, and are half of it or it has at most 4 KiB. Fails with `BufError::BadLayout` exactly
-    /// if two or more hold more than `isize::MAX` bytes.
+    /// Returns one buffer; the bytes of several become one without spare capacity (`IoBufsMut::coalesce`). That one may
+    /// have the storage of the first, if all bytes fit it, and it has at most about 4 KiB or about twice as many bytes.
+    /// Fails with `BufError::BadLayout` exactly if two or more hold more than `isize::MAX` bytes.
     #[tactic(auto, using(crate::proofs::Parts::Coalesced::coalescing, crate::proofs::Parts::FewLaws::freezing_few))]
     pub fn coalesce(mut self, alloc: Global) -> Result<IoBufMut, BufError>
         ensures ok { IfOk result (λ part. part ≡ parts_coalesced self) }
@@ -478,7 +480,8 @@ impl Buf for IoBufsMut {
         }
     }
 
-    /// Drops the first `n` bytes. A drained buffer keeps its spare capacity; of several, those without capacity go.
+    /// Drops the first `n` bytes. A drained buffer keeps its spare capacity; of several, those without capacity go, and
+    /// at least one buffer stays.
     #[tactic(auto, using(crate::proofs::Parts::FewLaws::keeping))]
     fn advance(&mut self, n: usize) {
         match &mut self.shape {
@@ -498,8 +501,8 @@ impl Buf for IoBufsMut {
         self.advance(dst.len());
     }
 
-    /// Takes the first `n` bytes, and leaves what `advance` leaves. It shares them if they are the first chunk whole,
-    /// whose buffer has no spare capacity, and copies them otherwise.
+    /// Takes the first `n` bytes, and leaves what `advance` leaves. It may take them with their storage if they are all
+    /// bytes of a buffer without spare capacity, and copies them otherwise.
     #[tactic(auto, using(crate::proofs::Parts::PartChunks::reading, crate::proofs::Parts::FewLaws::keeping))]
     fn copy_to_bytes(&mut self, alloc: Global, n: usize) -> Result<Bytes, BufError> {
         if n == 0 {
@@ -581,7 +584,7 @@ impl BufMut for IoBufsMut {
     ghost lessens = { filled_lessens };
 }
 
-/// Fails also if a sum of capacities would pass `usize::MAX`.
+/// Fails also if a sum of capacities would be above `usize::MAX`.
 impl FromIterator<IoBufMut> for IoBufsMut {
     type Alloc = Global;
 

@@ -54,7 +54,7 @@ impl Model for Builder {
     ghost invariant = { IsBuilder };
 }
 
-// Room for one more push of so many bytes, if pushes may still add them.
+// Reserves space for one more push of `len` bytes, if pushes may still add them.
 fn make_room(pushes: &mut Gapped, pushable: usize, len: usize) -> Result<(), BufError>
     ensures same { pushes.new.segments ≡ pushes.old.segments }
     ensures more { pushes.old.room ≤ pushes.new.room }
@@ -70,7 +70,7 @@ fn make_room(pushes: &mut Gapped, pushable: usize, len: usize) -> Result<(), Buf
 }
 
 impl Builder {
-    /// Allocates a builder for this many inline bytes (`Builder::new`). Fails with `BufError::BadLayout` above
+    /// Makes a builder for this many inline bytes (`Builder::new`). Fails with `BufError::BadLayout` above
     /// `isize::MAX`.
     #[tactic(auto, using(crate::proofs::Building::BuildLaws::building))]
     pub fn new(alloc: Global, capacity: usize) -> Result<Builder, BufError>
@@ -89,8 +89,7 @@ impl Builder {
     }
 
     /// Returns all that was put and pushed, in order, without copying (`Builder::finish`). The pushes have made space
-    /// for all chunks.
-    /// A contract admits `BufError::Memory`, with all bytes dropped.
+    /// for all chunks. If it fails with `BufError::Memory`, all bytes are dropped.
     #[tactic(auto, using(crate::proofs::Building::FinishLaws::finishing))]
     pub fn finish(self) -> Result<IoBufs, BufError>
         ensures ok { IfOk result (λ text. text ≡ finished self) }

@@ -1,9 +1,9 @@
 //! Buffers of several chunks, and the builder.
 //!
-//! - `bufs`: `IoBufs`, with its traits; those to read it are in `reading`. Its calls go through `pieces` (one chunk or
-//!   a row) to `row`, a deque that alone knows where chunks end, by `search`.
-//! - `bufs_mut`: `IoBufsMut` and its traits; `few` keeps up to three buffers in place, `several` a deque of them with
-//!   their sums.
+//! - `bufs`: `IoBufs`; its `Buf`, `OwnedBuf` and `Peek` are in `reading`. Its chunks are in `pieces`: one chunk, or a
+//!   `row`, which is a deque in which `search` finds offsets.
+//! - `bufs_mut`: `IoBufsMut`; `few` keeps up to three buffers in place, `several` a deque of them with their sums.
+//! - `traits`: the traits of the crate `bytes` and of std's `io`.
 //! - `builder`: `Builder`, and `EncodeExt` for every value that can be written.
 //! - `specs/`: the definitions of public contracts; in `Inside/` how private fields are read, in `Laws/` what impls
 //!   cite.

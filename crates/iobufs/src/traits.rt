@@ -1,4 +1,4 @@
-// The buffers of several chunks as readers and writers of the crate `bytes`.
+// `IoBufs`, `IoBufsMut` and `Builder` as readers and writers of the crate `bytes` and of std.
 ghost use Rattle.std.specs.Prelude.{◌≡◌, ◌≤◌, [], ◌∷◌, length, drop, min, Some, None, Ok, IfOk, IsOk};
 ghost use Rattle.bytes.specs.Unread.{IsChunkOf};
 ghost use Rattle.iobufs_core.specs.Chunks.{first_chunk};
@@ -131,7 +131,7 @@ impl BufRead for IoBufs {
         Ok(codec::Buf::chunk(self))
     }
 
-    // Past the end it stops there.
+    // Drops at most the bytes that there are.
     #[tactic(auto, using(crate::proofs::TraitLaws::text_drops, iobufs_core::proofs::TraitLaws::dropped_all))]
     fn consume(&mut self, amount: usize)
         ensures bytes { DropsConsumable (Some self.old.bytes) (Some self.new.bytes) None amount }

@@ -1,4 +1,4 @@
-//! The static library for C and Rust.
+//! The library for C.
 //!
 //! A buffer is memory of the caller, reached by its handle (`ViewAt`, `PartAt`, ..): a pointer, with the buffer's value
 //! as a ghost. `init` makes a buffer of memory, `get` borrows the one of a handle. Ranges and space are tested here,

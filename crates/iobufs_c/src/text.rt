@@ -3,6 +3,7 @@ ghost use Rattle.std.specs.Prelude.{◌≡◌, ℕ, ◌+◌, ◌-◌, ◌≤◌,
 ghost use Rattle.std.specs.Borrow.{sem, Lends, full_share};
 ghost use Rattle.std.specs.Ptr.{lies_at, null_ptr, room_at};
 ghost use Rattle.iobufs.specs.Located.{greatest_key, keys_upto};
+ghost use Rattle.iobufs.specs.Splitting.{SplitsFree};
 ghost use Rattle.iobufs.specs.contracts.bufs.IoBufs.{the_row as text_row};
 ghost use Rattle.iobufs_core.specs.Chunks.{first_chunk};
 ghost use Rattle.iobufs_core.specs.MarkedText.{MarkedText, chunk_count as count_of, default_text, is_single, of_view, taken_view, text_advanced, text_append, text_chunks, text_coalesced, text_len, text_prepend, text_rest, text_split_front};
@@ -254,13 +255,7 @@ pub extern "C" fn iobufs_split_to(
     ensures out { out.new.value ≡ (if result == 0 then text_split_front text.old.value at else out.old.value) }
     ensures outside { text_len text.old.value < at → result ≡ code_of Status.OutOfRange }
     ensures inside { at ≤ text_len text.old.value → IsDoneUnless result Status.Memory }
-    ensures nothing { at ≡ 0 → result ≡ 0 }
-    ensures whole { at ≡ text_len text.old.value → result ≡ 0 }
-    ensures first { at ≤ text_len text.old.value → at ≡ length (first_chunk (text_chunks text.old.value)) → result ≡ 0 }
-    ensures static_text { at ≤ text_len text.old.value → at ≤ length (first_chunk (text_chunks text.old.value))
-        → (taken_view text.old.value 0 at).mark ≡ static_mark → result ≡ 0 }
-    ensures last { (front : List (List ℕ)) (chunk : List ℕ) → text_chunks text.old.value ≡ front ++ chunk ∷ []
-        → at + length chunk ≡ text_len text.old.value → result ≡ 0 }
+    ensures free { at ≤ text_len text.old.value → SplitsFree text.old.value at → result ≡ 0 }
 {
     match text.get().try_split_to(alloc, at) {
         Some(front) => hand_text(front, out),
@@ -303,12 +298,7 @@ pub extern "C" fn iobufs_truncate(alloc: Global, text: &mut TextAt, len: usize) 
     ensures longer { text_len text.old.value ≤ len → (text.new.value ≡ text.old.value) × (result ≡ 0) }
     ensures unchanged { (result ≡ 0 → ⊥) → text.new.value ≡ text.old.value }
     ensures memory { IsDoneUnless result Status.Memory }
-    ensures nothing { len ≡ 0 → result ≡ 0 }
-    ensures first { len ≡ length (first_chunk (text_chunks text.old.value)) → result ≡ 0 }
-    ensures static_text { len ≤ length (first_chunk (text_chunks text.old.value))
-        → (taken_view text.old.value 0 len).mark ≡ static_mark → result ≡ 0 }
-    ensures last { (front : List (List ℕ)) (chunk : List ℕ) → text_chunks text.old.value ≡ front ++ chunk ∷ []
-        → len + length chunk ≡ text_len text.old.value → result ≡ 0 }
+    ensures free { SplitsFree text.old.value len → result ≡ 0 }
 {
     match text.get().truncate(alloc, len) {
         Ok(()) => Status::Done.code(),
@@ -478,25 +468,6 @@ fn fill_run(run: &ChunkSlice, out: &mut [Chunk]) -> usize
     count
 }
 
-// Fills a list as `fill_chunks` does, each chunk by its index.
-fn fill_each(text: &IoBufs, first: usize, out: &mut [Chunk]) -> usize
-    ensures count { result ≡ min (length out.old) (length (text_chunks text.now) - first) }
-    ensures lengths { map (λ chunk. chunk.len) (take result out.new) ≡ map length
-        (take result (drop first (text_chunks text.now))) }
-    ensures rest { drop result out.new ≡ drop result out.old }
-{
-    let left = text.chunk_count().saturating_sub(first);
-    let mut count = 0;
-    while count < out.len() && count < left {
-        let Some(chunk) = text.chunk_at(first + count) else {
-            return count;
-        };
-        out[count] = chunk_of(chunk);
-        count += 1;
-    }
-    count
-}
-
 // Fills a list with the addresses and lengths of the chunks from `first` on, and returns how many it filled.
 fn fill_chunks(text: &IoBufs, first: usize, out: &mut [Chunk]) -> usize
     ensures count { result ≡ min (length out.old) (length (text_chunks text.now) - first) }
@@ -504,9 +475,6 @@ fn fill_chunks(text: &IoBufs, first: usize, out: &mut [Chunk]) -> usize
         (take result (drop first (text_chunks text.now))) }
     ensures rest { drop result out.new ≡ drop result out.old }
 {
-    if text.is_single() {
-        return fill_each(text, first, out);
-    }
     let (front, behind) = text.chunk_slices_from(first);
     let count = fill_run(&front, out);
     count + fill_run(&behind, &mut out[count..])

@@ -1,7 +1,7 @@
 -- Chunks with stored ends. An end, less the base of its row, modulo 2 ^ 64, is the number of bytes up to the chunk's
 -- end. So bytes that come or go at the front change the base alone.
 --     from_base, ends_from    how many bytes there are up to an end, by the base; and up to each chunk's end
---     views_in                the chunks without their ends
+--     views_in, run_chunks    the chunks without their ends, and the bytes of each chunk of a run
 --     IsEndPlace, AreEnds          each chunk ends where the bytes before it and its own determine
 --     IsRow                   the invariant of several chunks: their ends, and that none is empty
 --     IsSearch                what a search requires: rising ends, and an offset below the last
@@ -11,6 +11,8 @@ use Rattle.iobufs_core.specs.View.{View, view_advanced}
 use Rattle.iobufs.specs.Inside.Pieces.{view_len, AreFull}
 use Rattle.iobufs.specs.Search.{IsRising}
 use Rattle.iobufs.specs.declared.bufs.row.Entry.{Entry}
+use Rattle.iobufs.specs.declared.bufs.row.Run.{Run}
+use Rattle.iobufs.specs.declared.bufs.row.Run.TheVariants.{One, Several}
 
 -- an end less a base, modulo 2 ^ 64
 abbrev pub from_base : ℕ → ℕ → ℕ
@@ -18,6 +20,11 @@ from_base base end = (end + (2 ^ 64 - base)) % 2 ^ 64
 
 abbrev pub views_in : List Entry → List View
 views_in pieces = map (λ (piece : Entry). piece.view) pieces
+
+-- the bytes of each chunk of a run: one chunk, or some of a deque
+abbrev pub run_chunks : Run → List (List ℕ)
+run_chunks (One chunk) = chunk.now ∷ []
+run_chunks (Several pieces) = map (λ (piece : Entry). piece.view.bytes) pieces.now
 
 abbrev pub ends_from : ℕ → List Entry → List ℕ
 ends_from base pieces = map (λ (piece : Entry). from_base base piece.end) pieces

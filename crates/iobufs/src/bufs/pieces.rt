@@ -15,13 +15,12 @@ use std::alloc::{AllocError, AllocFailed, Global};
 use std::marker::Model;
 use std::mem;
 
-/// The chunks of an `IoBufs`, in order: at least one, and of several none is empty. Slow paths stand in functions of
-/// their own, marked `inline(never)`: a call fills the locals of all its arms with zeros.
+/// The chunks of an `IoBufs`, in order: at least one, and of several none is empty.
 pub(super) struct Pieces {
     pub(super) form: Form,
 }
 
-/// One chunk, or a row. A row of one has a small deque, which waits for the next chunk.
+/// One chunk, or a row. A row of one is kept only if its deque is small (`Row::is_small`).
 #[derive(Drop)]
 pub(super) enum Form {
     One(IoBuf),
@@ -55,14 +54,14 @@ pub(super) const START: Located = Located {
 };
 
 impl Form {
-    // The old form goes here, and not in each place that puts a new one.
+    // The old form is dropped here, and not in each place that puts a new one.
     fn set(&mut self, form: Form)
         ensures { self.new ≡ form }
     {
         *self = form;
     }
 
-    // All chunks go.
+    // Drops all chunks, and leaves an empty one.
     #[inline(never)]
     fn clear(&mut self)
         ensures none { views self.new ≡ default_view ∷ [] }
@@ -85,7 +84,7 @@ impl Form {
         }
     }
 
-    // As `leave_row`, unless the deque is small: the next chunk needs it again.
+    // Acts as `leave_row`, unless the deque is small.
     fn settle(&mut self)
         requires { 0 < length (views self.old) }
         ensures same { views self.new ≡ views self.old }
@@ -186,7 +185,7 @@ impl Pieces {
         form
     }
 
-    /// The only chunk; the chunks themselves where there are more.
+    /// The only chunk; the chunks themselves if there are more.
     pub(super) fn into_single(self) -> Result<IoBuf, Pieces>
         ensures { MatchResult result (λ piece. self ≡ piece ∷ []) (λ pieces. (pieces ≡ self) × (1 < length self)) }
     {
@@ -200,8 +199,7 @@ impl Pieces {
         }
     }
 
-    /// Adds a chunk at the end, which gives this length. If there was one chunk, a row is made, with space for
-    /// four.
+    /// Adds a chunk at the end, which gives this length. If there was no row, one is made, with space for four.
     pub(super) fn push_back(
         &mut self,
         alloc: Global,
@@ -299,7 +297,7 @@ impl Pieces {
         }
     }
 
-    /// As `advance`, if there are so many bytes. Else nothing changes.
+    /// Acts as `advance` if there are `n` bytes. Else nothing changes.
     #[inline(always)]
     pub(super) fn try_advance(&mut self, n: usize) -> bool
         ensures answer { result ≡ nat_le n (length (pieces_bytes self.old)) }
@@ -327,7 +325,7 @@ impl Pieces {
         true
     }
 
-    // Drops bytes of a single chunk, which leaves its row, or the first of several and others after it.
+    // Drops bytes of a single chunk, which then leaves its row, or at least the first of several chunks.
     #[inline(never)]
     fn advance_pieces(&mut self, n: usize)
         requires inside { n ≤ length (pieces_bytes self.old) }
@@ -348,7 +346,7 @@ impl Pieces {
         }
     }
 
-    // Drops bytes of several chunks.
+    // Drops the first `n` bytes, all of the first chunk among them.
     #[inline(never)]
     fn drop_pieces(&mut self, n: usize)
         requires some { 0 < n }
@@ -365,7 +363,7 @@ impl Pieces {
         }
     }
 
-    /// Makes a value of the first chunk, which goes; an only one leaves an empty one.
+    /// Makes a value of the first chunk, and removes it; an only chunk leaves an empty one.
     pub(super) fn take_first<T: OwnedBytes>(&mut self, alloc: Global) -> Result<T, BufError>
         ensures made { IfOk result (T.makes (piece_at self.old 0)) }
         ensures left { OnOk result (self.new ≡ behind_first self.old) }
@@ -392,10 +390,8 @@ impl Pieces {
     pub(super) fn split_front(&mut self, alloc: Global, at: usize) -> Result<Pieces, BufError>
         requires some { 0 < at }
         requires inside { at < length (pieces_bytes self.old) }
-        ensures answer { IfOk result (λ front. front ≡ left_pieces self.old at) }
-        ensures left { OnOk result (self.new ≡ right_pieces self.old at) }
-        ensures unchanged { OnErr result (self.new ≡ self.old) }
-        ensures memory { IsOkUnless result BufError.Memory }
+        ensures split { MatchResult result (λ front. (front ≡ left_pieces self.old at)
+            × (self.new ≡ right_pieces self.old at)) (λ cause. (self.new ≡ self.old) × (cause ≡ BufError.Memory)) }
         ensures first { at ≡ view_len (piece_at self.old 0) → IsOk result }
         ensures static_text { at ≤ view_len (piece_at self.old 0) → (piece_at self.old 0).mark ≡ static_mark
             → IsOk result }
@@ -424,7 +420,7 @@ impl Pieces {
         }
     }
 
-    /// Clones of a chunk and of those after it, as many as asked.
+    /// Clones of a chunk and of the `behind` chunks after it.
     pub(super) fn run(
         &self,
         alloc: Global,
@@ -445,7 +441,7 @@ impl Pieces {
         }
     }
 
-    /// The chunk that holds a place.
+    /// The chunk that contains an offset.
     pub(super) fn locate(&self, at: usize) -> Located
         requires { at < length (pieces_bytes self.now) }
         ensures full { AreFull self.now }
@@ -464,7 +460,7 @@ impl Pieces {
         }
     }
 
-    /// Where the bytes end that stand from a place on, if they do.
+    /// Returns the offset after `bytes` if they are at the offset `from`, else `None`.
     pub(super) fn matched(&self, from: Located, bytes: &[u8]) -> Option<Located>
         requires offset { from.offset ≤ view_len (piece_at self.now from.index) }
         requires inside { length bytes.now ≤ length (bytes_behind self.now from.index from.offset) }
@@ -508,7 +504,7 @@ impl Pieces {
         })
     }
 
-    /// Fills `dst` with the bytes from a place on.
+    /// Fills `dst` with the bytes from an offset on.
     pub(super) fn copy_from(&self, from: Located, dst: &mut [u8])
         requires offset { from.offset ≤ length (piece_at self.now from.index).bytes }
         requires inside { length dst.old + from.offset ≤ length (pieces_bytes (drop from.index self.now)) }
@@ -548,7 +544,7 @@ impl Pieces {
         Ok(copy)
     }
 
-    /// A copy of `n` bytes from a place on, in storage of just that capacity.
+    /// A copy of `n` bytes from an offset on, in storage of just that capacity.
     pub(super) fn copied(&self, alloc: Global, from: Located, n: usize) -> Result<IoBuf, BufError>
         requires offset { from.offset ≤ length (piece_at self.now from.index).bytes }
         requires inside { n + from.offset ≤ length (pieces_bytes (drop from.index self.now)) }

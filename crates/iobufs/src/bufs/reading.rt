@@ -1,4 +1,4 @@
-// Reading an `IoBufs`: its first chunk here, those after it through `pieces`.
+// Reading an `IoBufs`.
 ghost use Rattle.iobufs_core.specs.Chunks.{first_chunk};
 ghost use Rattle.iobufs_core.specs.MarkedText.{taken_view, text_chunks, text_len, text_rest, text_advanced};
 ghost use Rattle.iobufs_core.specs.View.{bytes_mark, static_mark};
@@ -155,7 +155,7 @@ impl Peek for IoBufs {
 }
 
 impl IoBufs {
-    // Drops the first bytes, and keeps no mark where none are left.
+    // Drops the first `n` bytes as `copy_to_bytes` does.
     #[inline(always)]
     pub(super) fn drop_front(&mut self, n: usize)
         requires { n ≤ text_len self.old }
@@ -166,7 +166,7 @@ impl IoBufs {
         }
     }
 
-    // A byte after the first chunk.
+    // The byte at an offset, found by bisection.
     #[inline(never)]
     fn byte_behind(&self, i: usize) -> Option<u8>
         ensures { result ≡ slice_get self.now.bytes i }
@@ -179,7 +179,7 @@ impl IoBufs {
         Some(bytes[place.offset])
     }
 
-    // Copies more than the first chunk.
+    // Acts as `copy_to_slice`, for more bytes than the first chunk has.
     #[inline(never)]
     fn copy_pieces(&mut self, dst: &mut [u8])
         requires { length dst.old ≤ text_len self.old }
@@ -191,7 +191,7 @@ impl IoBufs {
         self.advance(n);
     }
 
-    // Takes bytes of the first chunk out, and drops those at the front too.
+    // Takes bytes of the first chunk, and drops them and those before them.
     #[inline(always)]
     fn take_inside<T: OwnedBytes>(
         &mut self,
@@ -216,7 +216,7 @@ impl IoBufs {
         Ok(made)
     }
 
-    // Takes bytes that the first chunk doesn't hold: a function of its own, so that no view is moved for both.
+    // Takes no bytes, or bytes that aren't all in the first chunk.
     #[inline(never)]
     fn take_behind<T: OwnedBytes>(
         &mut self,
@@ -265,7 +265,7 @@ impl IoBufs {
         }
     }
 
-    // Copies bytes that come after the first chunk, or span chunks.
+    // Acts as `peek_slice`, for bytes that aren't all in the first chunk.
     #[inline(never)]
     fn peek_behind(&self, skip: usize, dst: &mut [u8])
         requires { skip + length dst.old ≤ text_len self.now }

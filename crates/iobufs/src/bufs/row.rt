@@ -21,7 +21,7 @@ use std::marker::Model;
 use std::mem;
 use std::ops::Bound;
 
-// A chunk, and its end: the base of its row more than the number of bytes up to where it ends, modulo 2^64.
+// A chunk, and its end: the base of its row plus the number of bytes up to where it ends, modulo 2^64.
 #[derive(Drop)]
 struct Entry {
     view: IoBuf,
@@ -39,18 +39,27 @@ impl Clone for Entry {
     }
 }
 
-/// Chunks of an `IoBufs` that are next to each other in memory. Its value is the list of their bytes.
+// One chunk, or some whose entries are next to each other in a deque.
+#[derive(Clone, Copy)]
+enum Run<'a> {
+    One(&'a [u8]),
+    Several(&'a [Entry]),
+}
+
+/// Some chunks of an `IoBufs`, in order (own, for layers). Its value is the list of their bytes.
 #[derive(Drop)]
 pub struct ChunkSlice<'a> {
-    entries: &'a [Entry],
+    run: Run<'a>,
 }
 
 impl<'a> Model for ChunkSlice<'a> {
-    ghost use Rattle.std.specs.Prelude.{ℕ, List, map};
+    ghost use Rattle.std.specs.Prelude.{ℕ, List};
 
     ghost Value = { List (List ℕ) };
 
-    ghost view = { λ r. map (λ piece. piece.view.bytes) r.entries.now };
+    ghost use Rattle.iobufs.specs.Inside.Ends.{run_chunks};
+
+    ghost view = { λ slice. run_chunks slice.run };
 }
 
 impl<'a> ChunkSlice<'a> {
@@ -58,23 +67,43 @@ impl<'a> ChunkSlice<'a> {
     pub(super) fn none() -> ChunkSlice<'a>
         ensures { result ≡ [] }
     {
-        ChunkSlice { entries: &[] }
+        ChunkSlice {
+            run: Run::Several(&[]),
+        }
+    }
+
+    // One chunk.
+    pub(super) fn one(chunk: &'a [u8]) -> ChunkSlice<'a>
+        ensures { result ≡ chunk.now ∷ [] }
+    {
+        ChunkSlice {
+            run: Run::One(chunk),
+        }
     }
 
     /// Returns the number of chunks (own).
     pub fn len(&self) -> usize
         ensures { result ≡ length self.now }
     {
-        self.entries.len()
+        match self.run {
+            Run::One(_) => 1,
+            Run::Several(entries) => entries.len(),
+        }
     }
 
     /// Borrows a chunk by its index (own).
     pub fn get(&self, i: usize) -> Option<&'a [u8]>
         ensures { option_copied result ≡ slice_get self.now i }
     {
-        match self.entries.get(i) {
-            Some(piece) => Some(piece.view.as_ref()),
-            None => None,
+        match self.run {
+            Run::One(chunk) => match i {
+                0 => Some(chunk),
+                _ => None,
+            },
+            Run::Several(entries) => match entries.get(i) {
+                Some(piece) => Some(piece.view.as_ref()),
+                None => None,
+            },
         }
     }
 }
@@ -114,7 +143,7 @@ impl Model for Row {
 }
 
 impl Row {
-    /// No chunks yet, and space for `n`.
+    /// No chunks yet, and space for `room`.
     pub(crate) fn with_room(alloc: Global, room: usize) -> Result<Row, AllocError>
         ensures views { IfOk result (λ row. row.views ≡ []) }
         ensures room { IfOk result (λ row. room ≤ row.room) }
@@ -189,7 +218,7 @@ impl Row {
         self.entries.capacity() <= SMALL
     }
 
-    /// Shows the bytes of each chunk, in order.
+    /// Calls `visit` on the bytes of each chunk, in order.
     pub(super) fn for_each<F: FnMut(&[u8])>(&self, visit: F)
         requires { F.IsAlwaysCallable visit }
         ensures { (last : F)
@@ -209,15 +238,17 @@ impl Row {
         if first < front.len() {
             return (
                 ChunkSlice {
-                    entries: &front[first..],
+                    run: Run::Several(&front[first..]),
                 },
-                ChunkSlice { entries: behind },
+                ChunkSlice {
+                    run: Run::Several(behind),
+                },
             );
         }
         let skip = (first - front.len()).min(behind.len());
         (
             ChunkSlice {
-                entries: &behind[skip..],
+                run: Run::Several(&behind[skip..]),
             },
             ChunkSlice::none(),
         )
@@ -249,7 +280,7 @@ impl Row {
         }
     }
 
-    /// As `push_back`, within the reserved space.
+    /// Acts as `push_back`, within the reserved space.
     pub(crate) fn push_back_reserved(&mut self, piece: IoBuf, len: usize)
         requires some { 0 < length piece.bytes }
         requires total { len ≡ length (pieces_bytes self.old.views) + length piece.bytes }
@@ -277,7 +308,7 @@ impl Row {
         Ok(())
     }
 
-    /// As `push_front`, within the reserved space, a chunk of `ahead` bytes.
+    /// Acts as `push_front`, within the reserved space; the chunk has `ahead` bytes.
     #[inline(always)]
     pub(super) fn push_front_reserved(&mut self, piece: IoBuf, ahead: usize)
         requires some { 0 < length piece.bytes }
@@ -301,7 +332,7 @@ impl Row {
         piece.view
     }
 
-    /// Makes a value of the first chunk, which goes.
+    /// Makes a value of the first chunk, and removes it.
     pub(super) fn take_first<T: OwnedBytes>(&mut self, alloc: Global) -> Result<T, BufError>
         requires { 0 < length self.old.views }
         ensures made { IfOk result (T.makes (piece_at self.old.views 0)) }
@@ -323,7 +354,7 @@ impl Row {
         }
     }
 
-    /// Drops the first `n` bytes where the first chunk has more. Else nothing changes.
+    /// Drops the first `n` bytes if the first chunk has more. Else nothing changes.
     pub(super) fn shorten(&mut self, n: usize) -> bool
         requires { 0 < length self.old.views }
         ensures answer { result ≡ nat_lt n (view_len (piece_at self.old.views 0)) }
@@ -337,7 +368,7 @@ impl Row {
         true
     }
 
-    /// As `shorten`, where there are several chunks. Else nothing changes.
+    /// Acts as `shorten` if there are several chunks. Else nothing changes.
     #[inline(always)]
     pub(super) fn shorten_several(&mut self, n: usize) -> bool
         ensures left { IsTrue result → (n < view_len (piece_at self.old.views 0))
@@ -360,7 +391,7 @@ impl Row {
         }
     }
 
-    /// The chunk that holds a place.
+    /// The chunk that contains an offset.
     pub(super) fn locate(&self, at: usize) -> Located
         requires { at < length (pieces_bytes self.now.views) }
         ensures place { IsChunkPlace self.now.views at result.index result.offset }
@@ -382,7 +413,7 @@ impl Row {
         }
     }
 
-    /// Clones of a chunk and of those after it, as many as asked.
+    /// Clones of a chunk and of the `behind` chunks after it.
     pub(super) fn run(&self, alloc: Global, first: usize, behind: usize) -> Result<Row, AllocError>
         requires { first + behind < length self.now.views }
         ensures { IfOk result (λ run. run.views ≡ take (behind + 1) (drop first self.now.views)) }
@@ -428,7 +459,7 @@ impl Row {
         Ok(front)
     }
 
-    /// Takes the bytes of the last chunk from a place on.
+    /// Takes the bytes from an offset in the last chunk on.
     pub(super) fn split_last(&mut self, place: Located, at: usize) -> Result<IoBuf, BufError>
         requires place { IsChunkPlace self.old.views at place.index place.offset }
         requires last { place.index + 1 ≡ length self.old.views }
@@ -450,7 +481,8 @@ impl Row {
         Ok(piece.view)
     }
 
-    /// Takes the first bytes, up to an offset. It allocates for the side with fewer chunks.
+    /// Takes the first bytes, up to an offset. It allocates a deque for the side with fewer chunks, or for either if
+    /// they have equally many.
     pub(super) fn split_front(
         &mut self,
         alloc: Global,
@@ -469,7 +501,7 @@ impl Row {
         self.split_right(place, at)
     }
 
-    // Reserves space for the chunks before the offset, cuts, and then moves them.
+    // Reserves space, shares the bytes before the offset in its chunk, moves the chunks before it, and then cuts.
     fn split_left(&mut self, alloc: Global, place: Located, at: usize) -> Result<Row, BufError>
         requires place { IsChunkPlace self.old.views at place.index place.offset }
         requires fits { place.index + 1 < 2 ^ 64 }
@@ -496,7 +528,8 @@ impl Row {
         })
     }
 
-    // Cuts, and then moves the chunks from the offset on into a deque of their own.
+    // Shares the bytes before the offset in its chunk, moves the chunks from there on into a deque of their own, and
+    // then cuts.
     fn split_right(&mut self, place: Located, at: usize) -> Result<Row, BufError>
         requires place { IsChunkPlace self.old.views at place.index place.offset }
         ensures answer { IfOk result (λ front. front.views ≡ left_pieces self.old.views at) }
@@ -512,7 +545,7 @@ impl Row {
     }
 }
 
-/// A row in the making. A push takes half of the instructions of one into a deque, which may have wrapped.
+/// A row in the making, with its entries in a `Vec`.
 pub(crate) struct NewRow {
     entries: Vec<Entry>,
     len: usize,
@@ -540,7 +573,7 @@ impl Model for NewRow {
 }
 
 impl NewRow {
-    /// No chunks yet, and space for `n`.
+    /// No chunks yet, and space for `room`.
     pub(crate) fn with_room(alloc: Global, room: usize) -> Result<NewRow, AllocError>
         ensures views { IfOk result (λ row. row.views ≡ []) }
         ensures room { IfOk result (λ row. room ≤ row.room) }
@@ -581,7 +614,7 @@ impl NewRow {
     }
 }
 
-// The bytes before a place in its chunk.
+// The bytes of a chunk before an offset in it.
 fn front_of(row: &VecDeque<Entry>, index: usize, offset: usize) -> Result<IoBuf, BufError>
     requires { offset < view_len (piece_at (views_in row.now.items) index) }
     ensures inside { 0 < offset → IfOk result
@@ -593,7 +626,7 @@ fn front_of(row: &VecDeque<Entry>, index: usize, offset: usize) -> Result<IoBuf,
     piece.view.slice(Bound::Unbounded, Bound::Excluded(offset))
 }
 
-// Shows the bytes of each chunk, in order, and hands the closure back.
+// Calls `visit` on the bytes of each chunk, in order, and returns it.
 fn show<F: FnMut(&[u8])>(entries: &[Entry], mut visit: F) -> F
     requires { F.IsAlwaysCallable visit }
     ensures callable { F.IsAlwaysCallable result }
@@ -638,14 +671,14 @@ fn drop_inside(row: &mut VecDeque<Entry>, n: usize) -> bool
     }
 }
 
-// How much space a deque of one chunk may have.
+// A deque with space for more chunks than this isn't kept for a single one.
 const SMALL: usize = 8;
 
-// How few chunks are moved one by one.
+// Fewer chunks than this are moved one by one.
 const FEW: usize = 8;
 
-// Takes the chunks from an index on. Many are moved at once, as a `Vec` moves them; that may move those before the
-// index too.
+// Takes the chunks from an index on. Fewer than `FEW`, or than a quarter of those before the index, are moved one by
+// one. Otherwise a `Vec` moves them at once, and those before the index may move too.
 fn split_off(entries: &mut VecDeque<Entry>, at: usize) -> Result<VecDeque<Entry>, AllocError>
     requires { at ≤ deque_len entries.old }
     ensures items { OnOk result (entries.new.items ≡ take at entries.old.items) }
@@ -666,7 +699,8 @@ fn split_off(entries: &mut VecDeque<Entry>, at: usize) -> Result<VecDeque<Entry>
     Ok(VecDeque::from_vec(rest?))
 }
 
-// Cuts a chunk in two: its first bytes go after the front chunks, and the first of those after keeps the others.
+// Cuts a chunk in two: its first bytes, `inside`, go after the front chunks, and the first of those after keeps the
+// others. Nothing changes if `offset` is 0.
 fn cut(
     front: &mut VecDeque<Entry>,
     behind: &mut VecDeque<Entry>,
@@ -702,7 +736,7 @@ fn move_front(row: &mut VecDeque<Entry>, front: &mut VecDeque<Entry>, count: usi
     }
 }
 
-// Puts clones of the chunks from one on, so many, after those of another row, which has space for them.
+// Puts clones of `count` chunks from `first` on after those of another row, which has space for them.
 fn clone_run(
     row: &VecDeque<Entry>,
     run: &mut VecDeque<Entry>,

@@ -11,8 +11,8 @@ pub struct Located {
     pub probes: u32,
 }
 
-/// Rising ends, an offset below the last of them, and a count of probes (own). A probe compares the offset with one
-/// end.
+/// Rising ends, an offset below the last of them, and a count of probes (own, for layers). A probe compares the offset
+/// with one end.
 pub trait Ends {
     ghost ends: { Self → List ℕ };
 

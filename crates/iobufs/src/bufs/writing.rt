@@ -15,7 +15,7 @@ use std::io::{self, ErrorKind, IoSlice, Write};
 /// How many chunks are given to one write, at most.
 pub const BATCH: usize = 64;
 
-/// Writes once, and again if a signal interrupts it (own, for layers). Fails as the writer does, but never with
+/// Writes once, and again if a signal interrupts it (own, for layers). Fails as the writer does, but not with
 /// `ErrorKind::Interrupted`: after 2^64 - 1 interruptions it fails with `ErrorKind::TimedOut`.
 #[tactic(auto, using(crate::proofs::CallerFacts::again))]
 pub fn write_again<W: Write>(to: &mut W, bytes: &[u8]) -> io::Result<usize>
@@ -52,8 +52,8 @@ pub fn write_chunks_again<W: Write>(to: &mut W, chunks: &[IoSlice<'_>]) -> io::R
 }
 
 impl IoBufs {
-    /// Fills `dst` with the first chunks that hold bytes, and returns their number. Nothing is allocated
-    /// (`Buf::chunks_vectored`).
+    /// Fills `dst` with the first chunks that hold bytes, and returns their number (`Buf::chunks_vectored`). It
+    /// allocates nothing.
     pub fn fill_slices<'a>(&'a self, dst: &mut [IoSlice<'a>]) -> usize
         ensures room { length dst.new ≡ length dst.old }
         ensures chunks { map io_slice_bytes (take result dst.new) ≡ take (length dst.old) (text_chunks self.now) }

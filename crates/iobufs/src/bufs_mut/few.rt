@@ -109,7 +109,7 @@ fn push_chunk<'a>(
     Ok(chunks)
 }
 
-// Freezes a part alone. In `Few::freeze`, the locals of three such calls cost each freezing 20 instructions.
+// Freezes a part alone.
 #[inline(never)]
 fn freeze_only(alloc: Global, part: &mut IoBufMut) -> Result<IoBufs, BufError>
     ensures ok { IfOk result (λ text. text ≡ of_view (part_frozen part.old)) }
@@ -190,7 +190,7 @@ impl Few {
         Some(part)
     }
 
-    /// The parts and a fourth one, in a deque with space for `expected`.
+    /// The parts and a fourth one, in a deque with space for `expected`, and at least for eight.
     pub(super) fn with_fourth(self, part: IoBufMut, expected: usize) -> Result<Several, AllocError>
         requires have_capacity { HaveCapacity self }
         requires more { 0 < part_capacity part }
@@ -370,7 +370,7 @@ impl Few {
         false
     }
 
-    // Drops the first `n` bytes, also where whole parts go.
+    // Drops the first `n` bytes, also if whole parts go.
     #[inline(never)]
     #[tactic(auto, using(crate::proofs::Parts::FewLaws::capacities))]
     fn drain(&mut self, n: usize)
@@ -386,7 +386,7 @@ impl Few {
         }
     }
 
-    /// Takes the first `n` bytes with their storage, if they are a part without spare capacity.
+    /// Takes the first `n` bytes with their storage, if they are all bytes of a part without spare capacity.
     pub(super) fn take_front(&mut self, alloc: Global, n: usize) -> Result<Option<Bytes>, BufError>
         requires { 0 < n }
         ensures front { IfOk result (λ front. IfSome front (λ bytes.
@@ -482,7 +482,7 @@ impl Few {
         Ok(bytes)
     }
 
-    /// The first parts that hold bytes, at most `max`.
+    /// The bytes of the first parts that hold some, of at most `max`.
     pub(super) fn chunks(&self, alloc: Global, max: usize) -> Result<Vec<&[u8]>, AllocError>
         ensures { IfOk result (λ chunks. map (λ chunk. chunk.now) chunks.items ≡ take max (parts_chunks self.now)) }
     {
@@ -491,7 +491,7 @@ impl Few {
         push_chunk(chunks, &self.third, max)
     }
 
-    /// Freezes the buffers that hold bytes, in order; no bytes are left. A single chunk needs no deque.
+    /// Freezes the buffers that hold bytes, in order. A single chunk needs no deque.
     #[inline(never)]
     pub(super) fn freeze(&mut self, alloc: Global) -> Result<IoBufs, BufError>
         ensures ok { IfOk result (λ text. text ≡ parts_frozen self.old) }

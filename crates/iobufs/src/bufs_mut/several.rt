@@ -21,9 +21,8 @@ use std::collections::VecDeque;
 use std::marker::Model;
 use std::mem;
 
-/// One part or more in a deque, and beside it how many bytes they hold and how many fit, so that neither asks for a
-/// walk. With two or more, each can hold a byte. Drained ones are after the others, so that no call walks
-/// over them again before bytes are put into them:
+/// One part or more in a deque, with how many bytes they hold and how many fit. With two or more, each can hold a byte.
+/// Drained ones are after the others, so that `chunk` and `advance` begin with the others:
 ///
 /// ```text
 /// in order | . . | . . | b c | d e |
@@ -33,8 +32,7 @@ use std::mem;
 pub(super) struct Several {
     row: VecDeque<IoBufMut>,
     used: usize,
-    // The first `full` buffers in order are known to have no spare capacity. A put begins after them, so many small
-    // puts walk over the buffers once.
+    // The first `full` buffers in order are known to have no spare capacity. A put begins after them.
     full: usize,
     len: usize,
     capacity: usize,
@@ -53,7 +51,7 @@ impl Model for Several {
 }
 
 impl Several {
-    /// Four parts in a deque with space for `expected`, at least eight.
+    /// Four parts in a deque with space for `expected`, and at least for eight.
     pub(super) fn of_four(
         alloc: Global,
         first: IoBufMut,
@@ -222,7 +220,7 @@ impl Several {
         visit_all(&mut self.row, visit);
     }
 
-    /// Drops the first `n` bytes, and with two or more the parts that can't hold a byte any more, but for the last one.
+    /// Drops the first `n` bytes, and the parts that then can't hold a byte, except a last one.
     pub(super) fn advance(&mut self, n: usize)
         requires { n ≤ length (parts_filled self.old) }
         ensures { self.new ≡ parts_drained self.old n }
@@ -237,8 +235,8 @@ impl Several {
         }
     }
 
-    /// Takes the first `n` bytes with their storage, if a part of the row without spare capacity holds just these, and
-    /// others are left.
+    /// Takes the first `n` bytes with their storage, if the row's first part has no spare capacity and holds just
+    /// these, and others are left.
     pub(super) fn take_front(&mut self, alloc: Global, n: usize) -> Result<Option<Bytes>, BufError>
         requires { 0 < n }
         ensures front { IfOk result (λ front. IfSome front (λ bytes.
@@ -256,7 +254,7 @@ impl Several {
         Ok(Some(bytes))
     }
 
-    /// The first part that holds bytes, or none of them.
+    /// The bytes of the first part that holds some, or no bytes.
     #[tactic(auto, using(crate::proofs::Parts::PartChunks::reading))]
     pub(super) fn chunk(&self) -> &[u8]
         ensures { result.now ≡ first_chunk (parts_chunks self.now) }
@@ -340,7 +338,7 @@ impl Several {
         Ok(bytes)
     }
 
-    /// The first parts that hold bytes, at most `max`.
+    /// The bytes of the first parts that hold some, of at most `max`.
     #[tactic(auto, using(crate::proofs::Parts::PartChunks::reading))]
     pub(super) fn chunks(&self, alloc: Global, max: usize) -> Result<Vec<&[u8]>, AllocError>
         ensures { IfOk result (λ chunks. map (λ chunk. chunk.now) chunks.items ≡ take max (parts_chunks self.now)) }
@@ -434,7 +432,8 @@ pub(super) fn take_whole(
     Ok(Some(part.copy_to_bytes(alloc, n)?))
 }
 
-// Takes the first part of the row with its storage, if it holds `n` bytes and no spare capacity, and others are left.
+// Takes the first part of the row with its storage, if it holds `n` bytes and has no spare capacity, and others are
+// left.
 fn take_first(
     row: &mut VecDeque<IoBufMut>,
     alloc: Global,
@@ -459,7 +458,7 @@ fn take_first(
     Ok(Some(bytes))
 }
 
-// Copies the bytes of a part to a place of `dst`, as many as fit, and returns the place after them.
+// Copies the bytes of a part to the offset `at` of `dst`, as many as fit, and returns the offset after them.
 #[inline(always)]
 pub(super) fn read_share(part: &IoBufMut, dst: &mut [u8], at: usize) -> usize
     requires { at ≤ length dst.old }
@@ -609,7 +608,7 @@ fn visit_all<F: FnMut(&mut [u8])>(parts: &mut VecDeque<IoBufMut>, mut visit: F)
     }
 }
 
-// Puts the parts that are drained, which follow the others, back before these.
+// Moves the drained parts, which follow the others, back before them.
 #[inline(always)]
 fn settle(row: &mut VecDeque<IoBufMut>, used: &mut usize)
     requires { used.old ≤ length row.old.items }
@@ -645,9 +644,8 @@ fn shorten(row: &mut VecDeque<IoBufMut>, n: usize) -> bool
     false
 }
 
-// Drops the first `n` bytes. A part that is drained goes after the others, where `used` stand already, if it can still
-// hold a byte or none is left beside it. Returns how many stand there then. No part is looked at after the last byte
-// that goes.
+// Drops the first `n` bytes. A drained part goes to the end of the row, after the `used` drained ones, if it can still
+// hold a byte or no other part is left. Returns how many drained ones are there then.
 #[inline(never)]
 fn drain(row: &mut VecDeque<IoBufMut>, n: usize, used: usize) -> usize
     requires behind { AreBehind row.old.items used }
@@ -674,7 +672,7 @@ fn drain(row: &mut VecDeque<IoBufMut>, n: usize, used: usize) -> usize
     behind
 }
 
-// A chunk, and after it the parts that hold bytes. Space for all is made at once.
+// A chunk, and after it the parts that hold bytes, frozen. Space for all is made at once.
 #[tactic(auto, using(crate::proofs::Parts::Frozen::freezing))]
 fn freeze_behind(
     alloc: Global,

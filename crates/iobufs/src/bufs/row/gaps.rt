@@ -56,7 +56,7 @@ impl Gapped {
         self.entries.is_empty()
     }
 
-    /// Reserves a gap, a chunk and the bytes after them; the first time, two of each.
+    /// Reserves entries for a gap, a chunk and the bytes after them; the first time, for two gaps and two chunks.
     pub(crate) fn make_room(&mut self) -> Result<(), AllocError>
         ensures same { self.new.segments ≡ self.old.segments }
         ensures more { self.old.room ≤ self.new.room }

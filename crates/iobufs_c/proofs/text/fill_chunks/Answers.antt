@@ -8,7 +8,7 @@ pub returns-clause-count : goal.returns-clause-count
 returns-clause-count c =
     let front = c.chunk_slices_from-front.result.0 in let behind = c.chunk_slices_from-front.result.1 in
     let xs = c.fill_run-count.new.out in let n = c.fill_run-count.result in
-    let all = ap length (c.chunk_slices_from-front.ensures.several (sym c.is_single.ensures ∙ c.if-is_single.false)) in
+    let all = ap length (c.chunk_slices_from-front.ensures) in
     omega (
       arith,
       all,
@@ -26,7 +26,7 @@ returns-clause-lengths c =
     let front = c.chunk_slices_from-front.result.0 in let behind = c.chunk_slices_from-front.result.1 in
     let xs = c.fill_run-count.new.out in let ys = c.fill_run.new.out in
     let n = c.fill_run-count.result in let m = c.fill_run.result in
-    let several = c.chunk_slices_from-front.ensures.several (sym c.is_single.ensures ∙ c.if-is_single.false) in
+    let several = c.chunk_slices_from-front.ensures in
     let room : n ≤ length xs = omega (arith, c.fill_run-count.ensures.count, c.fill_run-count.auto.out) in
     let size = length-take (length xs - n) (drop n xs) in
     let full : n < length front → m ≡ 0 = λ less. omega (

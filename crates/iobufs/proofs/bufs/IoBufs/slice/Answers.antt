@@ -1,4 +1,4 @@
-use Rattle.iobufs.proofs.Text.{AreFull, AreViews, IsChunkPlace, List, MarkedText, View, across-native, ap, arith, by_lt, cut-run, false≢true, full-behind, full-run, held-between, inl, len-of_pieces, length, length-kept, of_pieces, piece_at, pieces_bytes, places-meet, places-rise, refl, rest-len, roomy-behind, roomy-run, split_front-all, static-run, static-within, static_mark, subst, sym, taken_view, text_len, text_rest, text_split_front, view_len, ℕ, ◌+◌, ◌-◌, ◌<◌, ◌∙◌, ◌≡◌, ◌≤◌}
+use Rattle.iobufs.proofs.Text.{AreFull, AreViews, IsChunkPlace, List, MarkedText, View, across-native, ap, arith, by_lt, cut-run, false≢true, full-behind, full-run, held-between, inl, inr, len-of_pieces, length, length-kept, of_pieces, piece_at, pieces_bytes, places-meet, places-rise, refl, rest-len, roomy-behind, roomy-run, split_front-all, static-run, static-within, static_mark, subst, sym, taken_view, text_len, text_rest, text_split_front, view_len, ℕ, ◌+◌, ◌-◌, ◌<◌, ◌∙◌, ◌≡◌, ◌≤◌}
 use Rattle.iobufs.proofs.bufs.IoBufs.slice.Goals as goal
 
 pub locate-first-requires : goal.locate-first-requires
@@ -86,4 +86,4 @@ returns-in_err-truncate-clause-static_text c = λ static.
     (omega (arith, c.requires.inside, length-kept c.self.inside _ c.self.view_is)) static in
     let left = static-run _ _ c.drop_front.new.self c.args.range.start (c.args.range.end - c.args.range.start) _ _ _ full first
     c.in_ok-pieces.ensures.run alone (omega (arith, c.requires.order, c.if-start-end.false)) inside piece c.drop_front.ensures in
-    absurd (false≢true (c.in_err-truncate.ensures.static_text left.0 left.1))
+    absurd (false≢true (c.in_err-truncate.ensures.free (inr (inr (inr (inl left))))))
