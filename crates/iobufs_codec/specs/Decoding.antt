@@ -29,7 +29,7 @@ abbrev pub writes_frame : FrameCodec → MarkedText → List ℕ → FrameCodec 
 writes_frame c body frame d = CanBeSent c.layout c.range [] [] (length body.bytes)
     × (frame ≡ frame_written c.layout (bare_frame body.bytes)) × (d ≡ c)
 
--- a body is refused if it can't be sent, or no memory is found for its frame
+-- a body is refused if it can't be sent, or an allocation for its frame fails
 abbrev pub RefusesBody : FrameCodec → MarkedText → ℕ → FrameError → Type 0
 RefusesBody c body spare (Frame error.TooLong) = CanBeSent c.layout c.range [] [] (length body.bytes) → ⊥
 RefusesBody c body spare (Frame error.Memory) = CanBeSent c.layout c.range [] [] (length body.bytes)

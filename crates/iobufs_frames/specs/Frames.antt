@@ -21,7 +21,7 @@
 --     is_body, has_bytes,          so of its body; and of the whole frame
 --     TakesFirst, is_whole,
 --     is_any, TakesWhole
---     IsCutFrom, IsSplitFrom       a body that was taken is a view of its piece; and a whole frame has its chunks
+--     IsCutFrom, IsSplitFrom       a body that was taken is a view of its chunk, or a copy of several; and a whole frame has its chunks
 --     MatchTaken                   what else stays if a frame is taken, and if none is
 --     ReadsBy                      so of a reader: of all bytes that it had and read
 --     FirstTaken, BeginsWith,      the result by the frames of the bytes: the first went, or its allocation failed; what
@@ -31,7 +31,7 @@
 --     AreMoved                     frames moved from the front of some bytes to the end of a list
 --     AreSameFrames, HaveOneReading     two readings of some bytes are equal; and so are any two
 --     BareIsPrefixed               a bare frame is a length and a body
---     BeginningsAreOpen,           a prefix of a frame may go on; what can't be a frame stays so whatever follows
+--     BeginningsAreOpen,           a proper prefix of a frame may go on; what can't be a frame stays so whatever follows
 --     BadStaysBad
 use Rattle.std.specs.Prelude.{◌≡◌, ◌≢◌, ◌⊎◌, ℕ, ◌+◌, ◌-◌, ◌^◌, ◌<◌, ◌≤◌, true, false, Option, None, Some, Result, Ok, Err, List, [], ◌∷◌, ◌++◌, map, flat_map, length}
 use Rattle.std.specs.IoError.{error_kind}
@@ -167,7 +167,7 @@ pub record HasBodies (layout : Layout) (range : RangeCfg) (text : List ℕ) (bod
   pub told : frame_bodies frames ≡ bodies
   pub is : IsFramed layout range text frames end rest
 
--- a body was taken from a text, without a copy: it is the view after its header, of its piece, and what is after it is left
+-- a body was taken from a text: the bytes after its header as one view, a copy if they span chunks; what is after it is left
 pub record IsCutFrom (layout : Layout) (old new : MarkedText) (body : View) : Type 0 where
   pub fits : frame_size layout (length body.bytes + layout.counts) ≤ text_len old
   pub is : body ≡ taken_view old (header_size layout (length body.bytes + layout.counts)) (length body.bytes)
@@ -308,7 +308,7 @@ pub record HasFrames (layout : Layout) (range : RangeCfg) (text : List ℕ) : Ty
   pub rest : List ℕ
   pub is : IsFramed layout range text frames end rest
 
--- a beginning of a frame is open
+-- a proper prefix of a frame is open
 abbrev pub BeginningsAreOpen : Layout → Type 0
 BeginningsAreOpen layout = (range : RangeCfg) (frame : Parts) (front back : List ℕ) → CanFollow layout range frame
     → frame_written layout frame ≡ front ++ back

@@ -1,5 +1,5 @@
 //! Bytes that are received into one block, and the frames at their front.
-ghost use Rattle.std.specs.Prelude.{◌≡◌, ◌↔◌, ℕ, ◌+◌, ◌^◌, ◌<◌, ◌≤◌, List, [], ◌++◌, length, take, drop, IsTrue, IfOk, IfErr, IfNone, IfSome, IsOk, OnOk, OnErr};
+ghost use Rattle.std.specs.Prelude.{◌≡◌, ◌↔◌, ◌⊎◌, ℕ, ◌+◌, ◌*◌, ◌^◌, ◌<◌, ◌≤◌, List, [], ◌++◌, length, take, drop, IsTrue, IfOk, IfErr, IfNone, IfSome, IsOk, OnOk, OnErr};
 ghost use Rattle.std.specs.Borrow.{Lends, sem};
 ghost use Rattle.std.specs.Io.KnownBytes.{Consumes, IsAtEnd, Keeps};
 ghost use Rattle.iobufs_core.specs.View.{view_of_bytes};
@@ -17,23 +17,24 @@ use std::alloc::{AllocError, Global};
 use std::io::{self, Read};
 use std::marker::Model;
 
-// How large the first block is, and how large one is at most, unless a single frame needs more.
+// The size of the first block, and the most that `next_size` returns unless twice the held bytes, or a frame, are more.
 const FIRST: usize = 1 << 12;
 
 const MOST: usize = 1 << 16;
 
-// How many bytes the kit's block grows by at least.
+// How many bytes more than twice the held ones a block may get for a frame.
 const STEP: usize = 1 << 14;
 
 /// Bytes that were received and not taken, in one block, and space for more after them. A body that is taken shares the
-/// block. It keeps at most its own frame or 64 KiB, whichever is more: copy a small body that is kept for long.
+/// block, or is a copy. Unless `block_mut` enlarged the block, a body keeps at most its own frame or 64 KiB, whichever
+/// is more. Copy a small body that is kept for long.
 #[derive(Drop)]
 pub struct Received {
     layout: Layout,
     block: BytesMut,
-    // How large the block was when nothing had been taken from it.
+    // How large the block was when nothing had been taken from it; `MOST` if a larger one was left.
     whole: usize,
-    // The length at the front, if it was decoded.
+    // The length at the front, if it is decoded.
     known: Option<Length>,
 }
 
@@ -49,9 +50,9 @@ impl Model for Received {
     ghost invariant = { λ r. ForSome r.known (λ l. IsSeenIn r.layout r.block.items l.value l.len) };
 }
 
-// Makes a full block, which had `whole` bytes when nothing had been taken from it, one of `size` bytes. It moves the
-// bytes to the front or to a new block, unless they are all that it ever had. A block that grows in place gets twice
-// its size at least, so one that is to have less is a new one.
+// Gives a block at least `size` bytes; it had `whole` when nothing had been taken from it. A block from which nothing
+// was taken is enlarged if it gets at least twice its size. Otherwise the bytes move to the front of the block, or to a
+// new one.
 fn widen(block: &mut BytesMut, whole: usize, size: usize) -> Result<(), AllocError>
     requires { length block.old.items < size }
     ensures items { block.new.items ≡ block.old.items }
@@ -82,14 +83,15 @@ fn address_from(block: &mut BytesMut, from: usize) -> *mut u8
 }
 
 impl Received {
-    /// Makes an empty one, of frames whose headers are their lengths, written as `prefix`. It allocates nothing.
+    /// Makes a `Received` without bytes, for frames whose headers are their lengths, written as `prefix`. It allocates
+    /// nothing.
     pub fn new(alloc: Global, prefix: Prefix) -> Received
         ensures { result ≡ none_received (bare prefix) }
     {
         Received::with_layout(alloc, Layout::bare(prefix))
     }
 
-    /// Makes an empty one, of frames whose headers are laid out so. It allocates nothing.
+    /// Makes a `Received` without bytes, for frames with this layout. It allocates nothing.
     pub fn with_layout(alloc: Global, layout: Layout) -> Received
         ensures { result ≡ none_received layout }
     {
@@ -101,7 +103,7 @@ impl Received {
         }
     }
 
-    /// Lays the headers out so from the next frame on. A length that was decoded is forgotten.
+    /// Sets the layout of the next frames. A length that was decoded is forgotten.
     pub fn set_layout(&mut self, layout: Layout)
         ensures { self.new ≡ record self.old { layout = layout } }
     {
@@ -142,7 +144,7 @@ impl Received {
         self.layout.length_in(&Shown { bytes })
     }
 
-    // Takes a frame of so many bytes, of which the first are its header.
+    // Takes a frame of `size` bytes, and returns it without its first `skip`.
     #[inline(always)]
     fn take(&mut self, skip: usize, size: usize) -> Result<IoBuf, AllocError>
         requires { (skip ≤ size) × (size ≤ length self.old.bytes) }
@@ -170,7 +172,7 @@ impl Received {
         Ok(IoBuf::from(frame))
     }
 
-    // Acts as `take`, and copies the frame: out of a block above `MOST` that was made for another one.
+    // Acts as `take`, and copies the frame, out of a block above `MOST` that isn't of its size.
     #[inline(never)]
     fn copy_out(&mut self, skip: usize, size: usize) -> Result<IoBuf, AllocError>
         requires { (skip ≤ size) × (size ≤ length self.old.bytes) }
@@ -186,10 +188,10 @@ impl Received {
         Ok(IoBuf::from(copy))
     }
 
-    /// Takes the first frame; `None` if it is not whole yet. Fails with `Error::InvalidVarint` (of varints alone) or
-    /// `Error::InvalidLength` if no further bytes can make it whole, or with `Error::Memory`. Unless a frame is taken,
-    /// all is unchanged. A length that is decoded is remembered. A body is copied only out of a block above 64 KiB that
-    /// has more than its frame.
+    /// Takes the first frame, and returns its body; `None` if it is not whole yet. Fails with `Error::InvalidVarint`
+    /// (of varints alone) or `Error::InvalidLength` if no further bytes can make it whole, or with `Error::Memory`.
+    /// Unless a frame is taken, bytes and space are unchanged. A length that is decoded is remembered. A body is copied
+    /// only out of a block above 64 KiB that has more than its frame.
     #[inline(always)]
     pub fn next(&mut self, range: &RangeCfg) -> Result<Option<IoBuf>, Error>
         ensures next { TakesFirst self.old.layout range.now self.old.bytes result self.new.bytes }
@@ -208,8 +210,8 @@ impl Received {
         }
     }
 
-    /// Takes the first frame with its header, as `next` takes its body, and returns how long the header is. Fails with
-    /// `Error::InvalidVarint`, `Error::InvalidLength` or `Error::Memory`.
+    /// Takes the first frame with its header, as `next` takes its body, and returns how many bytes the header has.
+    /// Fails with `Error::InvalidVarint`, `Error::InvalidLength` or `Error::Memory`.
     #[inline(always)]
     pub fn next_whole(&mut self, range: &RangeCfg) -> Result<Option<(usize, IoBuf)>, Error>
         ensures next { TakesWhole (λ view. view.bytes) self.old.layout range.now self.old.bytes result self.new.bytes }
@@ -228,14 +230,15 @@ impl Received {
         }
     }
 
-    // How large a block is made next that has `len` bytes: at most `MOST`, or twice as large as they are. A frame that
-    // needs little more gets that.
+    // The size that a block with `len` bytes gets next: at most `MOST`, or twice `len`. A frame that isn't whole, and
+    // has at most `STEP` bytes more than twice `len`, gets its own size.
     fn next_size(&self, len: usize) -> usize
         requires { len < 2 ^ 63 }
-        ensures { len < result }
+        ensures grows { len < result }
+        ensures bound { (result ≤ 2 ^ 16) ⊎ (result ≤ 2 * len + 2 ^ 14) }
     {
         let frame = match self.known {
-            Some(found) => self.layout.most_of(found),
+            Some(found) => self.layout.whole_of(found),
             None => 0,
         };
         let twice = 2 * len;
@@ -244,8 +247,8 @@ impl Received {
         least.max(if is_near { frame } else { twice })
     }
 
-    /// Makes space for a read, if there is none. A block is used again if no body shares it. It grows if it is full of
-    /// one frame. A block above 64 KiB has the size of the frame that it was made for, and is left after it.
+    /// Makes sure that there is space for a read. It may move the bytes to the front of the block, enlarge the block,
+    /// or move the bytes to a new one.
     pub fn make_space(&mut self) -> Result<(), AllocError>
         ensures bytes { self.new.bytes ≡ self.old.bytes }
         ensures layout { self.new.layout ≡ self.old.layout }

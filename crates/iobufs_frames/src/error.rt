@@ -9,14 +9,15 @@ use std::io;
 #[derive(Debug, Drop, thiserror::Error)]
 pub enum FrameError {
     /// No frame begins here, whatever follows: `Error::InvalidVarint`, or `Error::InvalidLength`. A body can't be sent:
-    /// `Error::TooLong`. Or a whole frame finds no memory: `Error::Memory`.
+    /// `Error::TooLong`. Or an allocation for a frame failed: `Error::Memory`.
     #[error("bad frame: {0}")]
     Frame(Error),
     /// The input ends inside a frame.
     #[error("the input ends inside a frame")]
     Cut,
-    /// The error of the reader or the writer, never `ErrorKind::Interrupted`, after which std's are tried again; or
-    /// `ErrorKind::OutOfMemory`, for the space of a read.
+    /// The error of the reader or the writer, or `ErrorKind::OutOfMemory` if space for a read can't be allocated. A
+    /// `FrameReader` reads again after `ErrorKind::Interrupted`; after 2^64 - 1 times the error is
+    /// `ErrorKind::TimedOut`.
     #[error("{0}")]
     Io(io::Error),
 }

@@ -6,7 +6,7 @@ ghost use Rattle.iobufs_core.specs.PartLaws.{IsPut, put_composes, put_lessens, p
 use iobufs_core::codec::BufMut;
 use std::marker::Model;
 
-// How many bytes a header has at most that is written.
+// How many bytes a header has at most.
 const MOST: usize = 32;
 
 /// A header: at most 32 bytes, which are sent before a body. It allocates nothing.
@@ -29,7 +29,7 @@ impl Model for Head {
 }
 
 impl Head {
-    /// Makes one without bytes.
+    /// Makes a header without bytes.
     pub fn new() -> Head
         ensures { result ≡ empty_part 32 }
     {
@@ -55,7 +55,7 @@ impl Head {
         self.end - self.start
     }
 
-    /// Drops the first bytes.
+    /// Drops the first `n` bytes.
     pub fn advance(&mut self, n: usize)
         requires { n ≤ length self.old.filled }
         ensures { self.new.filled ≡ drop n self.old.filled }

@@ -39,7 +39,7 @@ pub enum Prefix {
     Fixed(Width, ByteOrder),
 }
 
-/// Where a frame's length stands in its header, how it is written, and what it counts.
+/// Where a frame's length is in its header, how it is written, and what it counts.
 #[derive(Clone, Copy, Debug, PartialEq, Eq)]
 pub struct Layout {
     /// How many bytes are before the length.
@@ -53,7 +53,7 @@ pub struct Layout {
 }
 
 impl Width {
-    /// Returns how many bytes it has.
+    /// Returns how many bytes a length of this width has.
     pub fn size(self) -> usize
         ensures { result ≡ width_size self }
     {
@@ -172,7 +172,7 @@ fn varint_in<B: Buf>(buf: &B, skip: u8) -> Result<Option<Length>, Error>
     }
 }
 
-/// Returns how many bytes a header and its body have, if the frame is whole, of so many bytes.
+/// Returns how many bytes a header and its body have, if `len` bytes contain both.
 #[inline(always)]
 pub(crate) fn sizes_of(
     layout: Layout,
@@ -205,7 +205,7 @@ pub(crate) fn sizes_of(
 }
 
 impl Prefix {
-    /// Returns whether a length can be written so.
+    /// Returns whether a length can be written in this form.
     pub fn fits(self, n: usize) -> bool
         ensures { result ≡ nat_lt n (prefix_limit self) }
     {
@@ -269,7 +269,7 @@ impl From<Prefix> for Layout {
 const MOST: usize = 22;
 
 impl Layout {
-    /// A header that is its length alone, which counts the body.
+    /// Returns the layout of a header that is its length alone, which counts the body.
     pub fn bare(prefix: Prefix) -> Layout
         ensures { result ≡ bare prefix }
     {
@@ -298,8 +298,8 @@ impl Layout {
         }
     }
 
-    /// Returns how many bytes the first frame of these has in its header, and in all; `None` if it is not whole. Fails
-    /// with `Error::InvalidVarint` or `Error::InvalidLength` if no further bytes can make it whole.
+    /// Returns how many bytes the first frame has in its header, and in all; `None` if it is not whole. Fails with
+    /// `Error::InvalidVarint` or `Error::InvalidLength` if no further bytes can make it whole.
     #[inline(always)]
     pub fn frame_in(self, bytes: &[u8], range: &RangeCfg) -> Result<Option<(usize, usize)>, Error>
         ensures first { (left : List ℕ) × TakesWhole (λ n. take n bytes.now) self range.now bytes.now result left }
@@ -316,10 +316,11 @@ impl Layout {
         Ok(Some((parts.header, parts.header + parts.body)))
     }
 
-    /// How many bytes a frame with this length has at most.
-    pub(crate) fn most_of(self, found: Length) -> usize {
+    /// How many bytes a frame with this length has, its header among them; at most `usize::MAX`.
+    pub(crate) fn whole_of(self, found: Length) -> usize {
         let around = self.before as usize + self.after as usize;
-        found.len.saturating_add(found.value).saturating_add(around)
+        let body = found.value.saturating_sub(self.counts as usize);
+        found.len.saturating_add(body).saturating_add(around)
     }
 
     // Encodes a header whose length is this number.
@@ -338,7 +339,7 @@ impl Layout {
         head
     }
 
-    // Encodes the header of a body of `n` bytes, if both have a size.
+    // Encodes the header of a body of `n` bytes, if such a frame has a size (`HasFrameSize`).
     #[inline(always)]
     fn header_of(self, before: &[u8], after: &[u8], n: usize) -> Option<Head>
         ensures { MatchOption result (HasFrameSize self before.now after.now n → ⊥)
@@ -363,8 +364,9 @@ impl Layout {
         Some(head)
     }
 
-    /// Encodes the header of a body of `n` bytes; `None` if that is outside the range or can't be written so, or both
-    /// are longer than `usize::MAX`.
+    /// Encodes the header of a body of `n` bytes; `None` if such a frame can't be sent. The causes: `n` is outside the
+    /// range; the length doesn't fit (see `Prefix::fits`); `before` or `after` has another number of bytes than the
+    /// layout says; they have more than 22 in all; the frame is longer than `usize::MAX`.
     #[inline(always)]
     pub fn header_within(
         self,
@@ -385,16 +387,18 @@ impl Layout {
     }
 }
 
-/// Prepends its length to a body, whose chunks aren't copied. Fails with `BufError::TooLong` if it can't be written so
-/// (see `Prefix::fits`) or both are longer than `usize::MAX`, before it allocates; else with `BufError::Memory`.
+/// Prepends its length to a body, whose chunks aren't copied. Fails with `BufError::TooLong`, before it allocates, if
+/// the length doesn't fit (see `Prefix::fits`) or the frame is longer than `usize::MAX`. Fails with `BufError::Memory`
+/// if allocation fails.
 pub fn framed_with(alloc: Global, prefix: Prefix, body: IoBufs) -> Result<IoBufs, Refused<IoBufs>>
     ensures { PrependsLength (bare prefix) [] [] body result }
 {
     framed_with_layout(alloc, Layout::bare(prefix), &[], &[], body)
 }
 
-/// Prepends its header to a body, as `framed_with` does its length. Fails with `BufError::TooLong` also if the layout
-/// has another number of bytes before the length or after it, or more than 22; else with `BufError::Memory`.
+/// Prepends its header to a body, as `framed_with` does its length. Fails as `framed_with`, and with
+/// `BufError::TooLong` also if the layout has another number of bytes before the length or after it, or more than 22 in
+/// all.
 pub fn framed_with_layout(
     alloc: Global,
     layout: Layout,

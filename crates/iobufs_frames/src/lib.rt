@@ -36,8 +36,8 @@ pub use writer::FrameWriter;
 /// Why no further frame follows the frames of some bytes.
 #[derive(Clone, Copy, Debug, PartialEq, Eq)]
 pub enum End {
-    /// The length may continue, or fewer bytes follow a length in the range than it says. More bytes need not make a
-    /// frame whole: each length that begins with `80 80 80` is above 1024, and yet these bytes are open in 0 to 1024.
+    /// The length may continue, or it is in the range and its frame isn't whole. More bytes need not make a frame
+    /// whole: each length that begins with `80 80 80` is above 1024, and yet these bytes are open in 0 to 1024.
     Open,
     /// No further bytes make a frame: `Error::InvalidVarint`, or `Error::InvalidLength`.
     Bad(Error),
@@ -67,7 +67,7 @@ impl Default for Frames {
 }
 
 impl Frames {
-    /// Makes frames to which nothing was fed, whose headers are their lengths, written as `prefix`.
+    /// Makes a `Frames` without bytes, for frames whose headers are their lengths, written as `prefix`.
     pub fn new(prefix: Prefix) -> Frames
         ensures layout { result.layout ≡ bare prefix }
         ensures empty { result.rest ≡ default_text }
@@ -75,7 +75,7 @@ impl Frames {
         Frames::with_layout(Layout::bare(prefix))
     }
 
-    /// Makes frames to which nothing was fed, with headers that are laid out so.
+    /// Makes a `Frames` without bytes, for frames with this layout.
     pub fn with_layout(layout: Layout) -> Frames
         ensures layout { result.layout ≡ layout }
         ensures empty { result.rest ≡ default_text }
@@ -93,7 +93,7 @@ impl Frames {
         &self.rest
     }
 
-    /// Adds bytes at the end, as `IoBufs::append` does.
+    /// Adds bytes at the end, as `IoBufs::append` does. Fails with `BufError::TooLong` or `BufError::Memory`.
     pub fn feed(&mut self, alloc: Global, piece: IoBuf) -> Result<(), Refused<IoBuf>>
         ensures added { Adds (text_append self.old.rest piece) self.old.rest piece result self.new.rest }
         ensures bytes { OnOk result (self.new.rest.bytes ≡ self.old.rest.bytes ++ piece.bytes) }
@@ -104,9 +104,9 @@ impl Frames {
         self.rest.append(alloc, piece)
     }
 
-    /// Takes the first frame; `None` if it is not whole yet. Fails with `Error::InvalidVarint` (of varints alone) or
-    /// `Error::InvalidLength` if no further bytes can make it whole, or with `Error::Memory`, which a static body
-    /// doesn't need. Unless a frame is taken, the rest is unchanged.
+    /// Takes the first frame, and returns its body; `None` if it is not whole yet. Fails with `Error::InvalidVarint`
+    /// (of varints alone) or `Error::InvalidLength` if no further bytes can make it whole, or with `Error::Memory`,
+    /// unless the body is static. Unless a frame is taken, the rest is unchanged.
     pub fn next(&mut self, alloc: Global, range: &RangeCfg) -> Result<Option<IoBuf>, Error>
         ensures next { TakesFirst self.old.layout range.now self.old.rest.bytes result self.new.rest.bytes }
         ensures left { MatchTaken result (λ body. (self.new.layout ≡ self.old.layout)
@@ -126,9 +126,9 @@ impl Frames {
         }
     }
 
-    /// Takes the first frame with its header, as `next` takes its body, and returns how many bytes the header has. Its
-    /// chunks aren't copied. Fails with `Error::InvalidVarint`, `Error::InvalidLength` or `Error::Memory`. A frame
-    /// of several chunks needs memory even if its body is static.
+    /// Takes the first frame with its header, as `next` takes its body, and returns how many bytes the header has. The
+    /// frame's chunks aren't copied. Fails with `Error::InvalidVarint`, `Error::InvalidLength` or `Error::Memory`. A
+    /// frame of several chunks may need an allocation even if its body is static.
     pub fn next_whole(
         &mut self,
         alloc: Global,
@@ -265,7 +265,7 @@ impl Frames {
         Frames::run_with_layout(alloc, Layout::bare(prefix), pieces, range)
     }
 
-    /// Acts as `run` on frames whose headers are laid out so.
+    /// Acts as `run` on frames with this layout.
     pub fn run_with_layout(
         alloc: Global,
         layout: Layout,

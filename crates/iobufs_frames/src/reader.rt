@@ -43,7 +43,7 @@ impl<R: Drop> FrameReader<R> {
         FrameReader::with_layout(alloc, from, Layout::bare(prefix), range)
     }
 
-    /// Makes a reader of frames whose headers are laid out so. Fails with `AllocError`.
+    /// Makes a reader of frames with this layout. Fails with `AllocError`.
     pub fn with_layout(
         alloc: Global,
         from: R,
@@ -57,15 +57,15 @@ impl<R: Drop> FrameReader<R> {
         Ok(FrameReader { from, range, held })
     }
 
-    /// Lays the headers out so from the next frame on.
+    /// Sets the layout of the next frames.
     pub fn set_layout(&mut self, layout: Layout)
         ensures { self.new ≡ record self.old { held = record self.old.held { layout = layout } } }
     {
         self.held.set_layout(layout);
     }
 
-    /// Takes the next frame if it is held whole; `None` if it isn't. It reads nothing, and fails as `Received::next`
-    /// does.
+    /// Takes the next frame if it is held whole, and returns its body; `None` if it isn't. It reads nothing, and fails
+    /// as `Received::next` does.
     #[inline(always)]
     pub fn try_next(&mut self) -> Result<Option<IoBuf>, Error>
         ensures { TakesHeld is_body has_bytes is_bytes_view self.old result self.new }
@@ -73,7 +73,8 @@ impl<R: Drop> FrameReader<R> {
         self.held.next(&self.range)
     }
 
-    /// Takes the next frame with its header, as `try_next` takes its body, and returns how long the header is.
+    /// Takes the next frame with its header, as `try_next` takes its body, and returns how many bytes the header has.
+    /// Fails as `try_next` does.
     #[inline(always)]
     pub fn try_next_whole(&mut self) -> Result<Option<(usize, IoBuf)>, Error>
         ensures { TakesHeld (is_whole self.old.held.layout (λ view. view.bytes)) is_any (λ whole. is_bytes_view whole.1)
@@ -99,7 +100,8 @@ impl<R: Read + Drop> FrameReader<R> {
         Err(io::Error::from(ErrorKind::TimedOut))
     }
 
-    // Reads once what a frame needs. Returns whether bytes came: none at the end of the input, if none are held.
+    // Makes space if there is none, and reads once. At the end of the input, returns `false` if no byte is held, else
+    // `FrameError::Cut`.
     fn read_more(&mut self) -> Result<bool, FrameError>
         ensures more { ReadsMore R.remaining self.old result self.new }
         ensures bound { length self.old.held.bytes < 2 ^ 63 }
@@ -118,8 +120,8 @@ impl<R: Read + Drop> FrameReader<R> {
         }
     }
 
-    /// Takes the next frame; `None` at the end of the input. It starts no read while a whole frame is held. After an
-    /// error no byte is lost: all that was read is held, and `next` may be called again.
+    /// Takes the next frame, and returns its body; `None` at the end of the input. It starts no read while a whole
+    /// frame is held. After an error no byte is lost: all that was read is held, and `next` may be called again.
     pub fn next(&mut self) -> Result<Option<IoBuf>, FrameError>
         ensures { TakesFrame R.remaining self.old result self.new }
     {
@@ -133,7 +135,7 @@ impl<R: Read + Drop> FrameReader<R> {
         }
     }
 
-    /// Takes the next frame with its header, as `next` takes its body, and returns how long the header is.
+    /// Takes the next frame with its header, as `next` takes its body, and returns how many bytes the header has.
     pub fn next_whole(&mut self) -> Result<Option<(usize, IoBuf)>, FrameError>
         ensures { TakesWholeFrame R.remaining self.old result self.new }
     {

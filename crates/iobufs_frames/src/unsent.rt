@@ -107,7 +107,7 @@ impl Unsent {
         self.head.len() + self.body.len()
     }
 
-    /// Returns the byte at an offset.
+    /// Returns the byte at an offset, or `None` if there is none.
     pub fn byte_at(&self, i: usize) -> Option<u8>
         ensures { result ≡ slice_get self.now.bytes i }
     {

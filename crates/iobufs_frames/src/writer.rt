@@ -20,8 +20,8 @@ use std::alloc::Global;
 use std::collections::VecDeque;
 use std::io::{self, ErrorKind, IoSlice, Write};
 
-/// A writer to which whole frames are sent, of lengths in a range. The length and the chunks of a body are written from
-/// where they are, up to `BATCH` at a time, and so are the frames that were put before a `send`.
+/// A writer to which whole frames are sent, of lengths in a range. Headers and chunks of all frames that were put are
+/// written from where they are, up to `BATCH` at a time.
 #[derive(Drop)]
 pub struct FrameWriter<W> {
     /// The writer: `&writer.to` and `&mut writer.to` are the `get_ref` and `get_mut` of std's writers.
@@ -30,11 +30,12 @@ pub struct FrameWriter<W> {
     pub layout: Layout,
     /// The lengths that a body may have. A change applies to the next `put`.
     pub range: RangeCfg,
-    /// The unsent rest of the first frame that isn't sent, of `rest.len()` bytes: none if all is sent.
+    /// The unsent rest of the first frame that isn't sent; without bytes if all is sent.
     pub rest: Unsent,
     /// The frames after it, of which nothing is sent.
     pub more: VecDeque<Unsent>,
-    /// Whether nothing was sent since it was set: `send` clears it. Set it after `to.flush()` to spare the next one.
+    /// Whether nothing was sent since it was set: a `send` that has bytes clears it. Set it after `to.flush()` to spare
+    /// the next one.
     pub is_flushed: bool,
 }
 
@@ -53,7 +54,7 @@ impl<W: Drop> FrameWriter<W> {
         FrameWriter::with_layout(alloc, to, Layout::bare(prefix), range)
     }
 
-    /// Makes a writer of frames whose headers are laid out so. It allocates nothing.
+    /// Makes a writer of frames with this layout. It allocates nothing.
     pub fn with_layout(alloc: Global, to: W, layout: Layout, range: RangeCfg) -> FrameWriter<W>
         ensures { BeginsWriting to layout range result }
     {
@@ -69,9 +70,9 @@ impl<W: Drop> FrameWriter<W> {
     }
 
     /// Puts a frame of this body after those that aren't sent; nothing is sent yet. The body's chunks aren't copied.
-    /// Fails with `BufError::TooLong` if the number of its bytes is outside the range, its length can't be written so
-    /// (see `Prefix::fits`), header and body are longer than `usize::MAX`, or headers have bytes around their lengths;
-    /// with `BufError::Memory`, unless all is sent: then nothing is allocated.
+    /// Fails with `BufError::TooLong` if the body's length is outside the range or doesn't fit (see `Prefix::fits`), if
+    /// the frame is longer than `usize::MAX`, or if the layout has bytes around the length. Fails with
+    /// `BufError::Memory` if allocation fails; nothing is allocated if all is sent.
     pub fn put(&mut self, body: IoBufs) -> Result<(), Refused<IoBufs>>
         ensures { PutsFrame [] [] self.old body result self.new }
     {
@@ -79,8 +80,8 @@ impl<W: Drop> FrameWriter<W> {
     }
 
     /// Acts as `put`, with a header that has these bytes before its length, and these after it. Fails with
-    /// `BufError::TooLong` also if the layout has another number of them, or more than 22; with `BufError::Memory`,
-    /// unless all is sent.
+    /// `BufError::TooLong` or `BufError::Memory` as `put` does. The layout has to have as many bytes before the length
+    /// and after it, at most 22 in all.
     #[inline(always)]
     pub fn put_with(
         &mut self,
@@ -187,7 +188,7 @@ fn fill_slices<'a>(rest: &'a Unsent, more: &'a VecDeque<Unsent>, dst: &mut [IoSl
     count
 }
 
-// Writes the length and the first chunk of a frame once: a short list costs less to make.
+// Writes the header and the first chunk of a frame once.
 fn write_two<W: Write>(to: &mut W, rest: &Unsent) -> io::Result<usize>
     ensures bound { WritesAtMost result rest.now.bytes }
     ensures bytes { WriteAppends (W.contents to.old) (W.contents to.new) result rest.now.bytes }
@@ -215,9 +216,9 @@ fn write_batch<'a, W: Write>(
 }
 
 impl<W: Write + Drop> FrameWriter<W> {
-    /// Sends all frames that were put, up to `BATCH` chunks at a time. An error is the writer's, never
-    /// `ErrorKind::Interrupted`, or `ErrorKind::WriteZero` if it takes none; `write_chunks_again` says which one is
-    /// dropped. After it no byte is lost or sent twice: `send` may be called again.
+    /// Sends all frames that were put, up to `BATCH` chunks at a time. An error is that of `write_chunks_again`, or
+    /// `ErrorKind::WriteZero` if the writer takes no byte. After an error no byte is lost or sent twice: `send` may be
+    /// called again.
     pub fn send(&mut self) -> io::Result<()>
         ensures { SendsRest W.contents self.old result self.new }
     {

@@ -1,4 +1,4 @@
-// Buffers as the tests make them, and what they hold as the tests compare it: of each kind of storage in `stores`.
+// Makes the buffers of the tests, of each kind of storage in `stores`, and shows their chunks.
 #![tactic(auto)]
 
 pub mod stores;

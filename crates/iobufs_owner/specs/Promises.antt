@@ -38,26 +38,28 @@ pub record IsOver (s : State) : Type 0 where
   pub calls : All (λ c. c ≡ None) s.calls
 
 pub record Promises (s : State) : Type 0 where
-  -- Counts equal holders, and a block has at most one published record; one that isn't belongs to one promotion.
+  -- The count of a published record is the number of its block's holders. A block has at most one published record. No
+  -- two unfinished promotions have made the same record.
   pub counts : (r : ℕ) → IsPublished s r → (record_at s.tables r).count ≡ holders (reading s) (record_at s.tables r).block
   pub one_record : (q r : ℕ) → IsPublished s q → IsPublished s r → (record_at s.tables q).block ≡ (record_at s.tables r).block → q ≡ r
   pub one_maker : (r : ℕ) → hidden s.calls r ≤ 1
-  -- A descriptor or writable handle is the only holder of its block.
+  -- A handle that is writable or has a descriptor is the only holder of its block, if it has one.
   pub exclusive : (h b : ℕ) (x : Handle) → handle_at s h ≡ Some x → owner_of s.tables x ≡ Some b → IsExclusive x → holders (reading s) b ≡ 1
-  -- Base, size and alignment recovered from a descriptor are those of the block that it holds.
+  -- Base, size and alignment recovered from a handle's descriptor are those of the block that the handle holds.
   pub recovered : (h w : ℕ) (x : Handle) → handle_at s h ≡ Some x → x.word ≡ Descriptor w → (b : ℕ) × (b < length s.tables.blocks)
       × (owner_of s.tables x ≡ Some b) × (state.recovered s.tables x w ≡ triple (block_at s.tables b))
-  -- The logs have no repeats. Each freed triple is that of a block, each freed number that of a record, live no more.
+  -- The logs have no repeats. Each freed triple is that of a block, each freed number that of a record that isn't live.
   pub blocks_once : IsOnce s.freed_blocks
   pub records_once : IsOnce s.freed_records
   pub blocks_known : All (IsTripleOf s.tables.blocks) s.freed_blocks
   pub records_known : All (λ r. (r < length s.tables.records) × ((record_at s.tables r).live ≡ false)) s.freed_records
-  -- No freed block has a holder; one that no handle and no unfinished drop holds is freed, and so is each of its records.
+  -- No freed block has a holder. A block that no handle holds, and of which no drop is unfinished, is freed. A freed
+  -- block's records are freed.
   pub never_held : (b : ℕ) → IsFreed s b → holders (reading s) b ≡ 0
   pub unused_freed : (b : ℕ) → b < length s.tables.blocks → users (reading s) b ≡ 0 → IsFreed s b
   pub records_freed : (r : ℕ) → r < length s.tables.records → IsFreed s (record_at s.tables r).block → is_logged r s.freed_records ≡ true
   -- With no handle and no call left, every block and every record is freed.
   pub none_left : IsOver s → ((b : ℕ) → b < length s.tables.blocks → IsFreed s b)
       × ((r : ℕ) → r < length s.tables.records → is_logged r s.freed_records ≡ true)
-  -- Holders pass the ceiling by at most one.
+  -- A block has at most one holder more than the ceiling.
   pub capped : (b : ℕ) → holders (reading s) b ≤ s.ceiling + 1

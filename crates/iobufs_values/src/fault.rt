@@ -18,8 +18,7 @@ pub enum Fault {
     /// This byte is of no kind of the value.
     #[error("InvalidEnum")]
     InvalidEnum(u8),
-    /// The type doesn't admit the parts (of a layer's types: no value here fails so). A reason would be a reference:
-    /// then the borrow checker covers no call at a tuple of several views.
+    /// A type of a layer above doesn't admit the parts. No value of this crate fails so.
     #[error("Invalid")]
     Invalid,
     /// This number of bytes follows a value that should be all.

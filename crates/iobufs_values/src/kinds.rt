@@ -15,7 +15,7 @@ use std::alloc::Global;
 
 /// A value whose first byte determines its kind (own).
 pub trait Tagged: Look {
-    // The bytes that tell this kind.
+    // The first bytes that values of this kind have.
     ghost is_tag: { ℕ → Bool };
 
     /// Returns whether this byte is of the kind.
@@ -32,8 +32,8 @@ pub struct Kind<const TAG: u8, T> {
     pub value: T,
 }
 
-/// A value of one of two kinds, by its first byte (own). Nest it for more, as `Either<A, Either<B, C>>`; one byte is
-/// written. If a byte is of both, the value is of the first kind.
+/// A value of one of two kinds, by its first byte (own). Nest it for more, as `Either<A, Either<B, C>>`; nesting adds
+/// no byte. If a byte is of both, the first kind is decoded.
 #[derive(Debug, PartialEq, Eq, Drop)]
 pub enum Either<A, B> {
     First(A),

@@ -1,12 +1,12 @@
-//! Values of several fields that are read whole or not at all.
+//! Values that are decoded whole or not at all, also of several fields.
 //!
 //! - `look`: the trait `Look`, with `read_whole` and `decode_cfg` over it. `fault`: why a value is not decoded.
 //! - `numbers`, `views`, `option`, `several`: numbers and lengths; views, `Bytes` and arrays; `bool` and `Option`;
-//! tuples.
+//!   tuples. `signed` and `list`: signed numbers, and lists.
 //! - `parts`: types that are read and written as the tuple of their fields.
 //! - `kinds`: a byte for the kind followed by a value, and a value of one of two kinds.
-//! - `specs/`: `Form` is what a value has to meet, in one record, and how each kind is decoded; `Forms` that each kind
-//!   meets it.
+//! - `specs/`: `Form` has what a value has to meet, in one record; `Forms`, `Kinds`, `Listed` and `Signed` that each
+//!   value meets it.
 #![tactic(auto)]
 
 mod fault;

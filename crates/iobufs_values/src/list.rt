@@ -13,7 +13,8 @@ use crate::{Fault, Look};
 use iobufs_core::codec::{Buf, BufMut, BufsMut, EncodeSize, Error, Peek, RangeCfg, Write};
 use std::alloc::Global;
 
-/// A varint count followed by the values (`Vec`). It wraps `Vec` because the traits of writing are another crate's.
+/// A varint count followed by the values (`Vec`). It wraps `Vec` because the traits of writing are another crate's. A
+/// list of values without bytes, such as `List<()>`, takes as many steps to decode as its count says: bound the count.
 #[derive(Debug, PartialEq, Eq, Drop)]
 pub struct List<T> {
     pub values: Vec<T>,
@@ -94,7 +95,7 @@ fn each_size<T: EncodeSize>(values: &[T]) -> Option<usize>
     Some(size)
 }
 
-// How many of them are put inline.
+// How many bytes of the values are put inline.
 fn each_inline_size<T: EncodeSize>(values: &[T]) -> usize
     requires { length (flat_map T.written values.now) < 2 ^ 64 }
     ensures { result ≡ items_inline (flat_map T.items values.now) }
@@ -116,7 +117,7 @@ fn write_each<T: Write, B: BufMut>(values: &[T], buf: &mut B)
     }
 }
 
-// Puts and pushes the values. If it fails, `buf` keeps what was written before.
+// Puts and pushes the values. If it fails, `buf` keeps the bytes that were written up to there.
 fn write_each_bufs<T: Write, B: BufsMut>(values: &[T], buf: &mut B) -> Result<(), Error>
     requires { items_inline (flat_map T.items values.now) ≤ B.room buf.old }
     ensures ok { OnOk result (B.done buf.old (flat_map T.items values.now) buf.new) }
@@ -131,8 +132,8 @@ fn write_each_bufs<T: Write, B: BufsMut>(values: &[T], buf: &mut B) -> Result<()
     Ok(())
 }
 
-// Decodes `count` values after the first `skip` bytes, and returns their number of bytes. Space is allocated for values
-// that are decoded, one by one: a count that is too large allocates nothing.
+// Decodes `count` values after the first `skip` bytes, and returns them with their number of bytes. Space grows with
+// the values that are decoded, and not with `count`.
 fn look_each<T: Look + Drop, B: Peek>(
     alloc: Global,
     buf: &B,

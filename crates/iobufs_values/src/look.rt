@@ -25,8 +25,8 @@ pub trait Look: EncodeSize + Sized {
 
     ghost same: { Self → Self → Type 0 } = { λ x y. x ≡ y };
 
-    /// Decodes the value after the first `skip` bytes, and returns it with its number of bytes. All of them stay.
-    /// Returns the `Fault` if the bytes are no such value, or if allocation fails.
+    /// Decodes the value after the first `skip` bytes, and returns it with its number of bytes. All bytes stay. Fails
+    /// if the bytes are no such value, or if allocation fails.
     fn look<B: Peek>(
         alloc: Global,
         buf: &B,
@@ -81,7 +81,7 @@ pub trait Look: EncodeSize + Sized {
 }
 
 /// Makes known that a reader's length fits a `usize`, and so does each offset within it. The prover knows it only of a
-/// length that was read, so this reads it; the compiler drops the call.
+/// length that was read, so this reads it.
 pub(crate) fn has_len<B: Peek>(buf: &B)
     ensures { length (B.text buf.now) < 2 ^ 64 }
 {

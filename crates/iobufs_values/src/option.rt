@@ -1,4 +1,4 @@
-// Nothing, a `bool`, and a value that is there or not, after a byte that tells it.
+// `()`, a `bool`, and an `Option` after a byte that says whether a value follows.
 ghost use Rattle.std.specs.Prelude.{◌≡◌, ⊤};
 ghost use Rattle.iobufs_core.specs.Wire.{flag};
 ghost use Rattle.iobufs_values.specs.Form.{IsBoolFault, IsByteAt, IsOptionAdmitted, IsOptionFault, IsOptionFound, IsSameOption};

@@ -13,8 +13,8 @@ use iobufs_core::buf::IoBufMut;
 use iobufs_core::codec::{Encode, Error, Peek, Write};
 use std::alloc::Global;
 
-/// A type that is read as a tuple of its fields; all that `Look` promises of the tuple holds of it (own). For a field
-/// that is itself such a type, put its tuple into the tuple.
+/// A type that is read as a tuple of its fields (own). `read_whole` and `decode_cfg` promise of it what they promise of
+/// the tuple. For a field that is itself such a type, put its tuple into the tuple.
 pub trait ByParts: Sized {
     /// Its fields: a tuple, or one value.
     type Parts: Look + Drop;
@@ -66,12 +66,11 @@ pub trait ByParts: Sized {
     }
 }
 
-/// The result type of `IntoParts::encode_iobufs`: `IoBufs`. The borrow checker refuses a call at a tuple of several
-/// views if the signature names a view.
+/// The result type of `IntoParts::encode_iobufs`: `IoBufs`.
 pub trait FromText: Sized {
     ghost as_text: { Self → MarkedText };
 
-    /// Returns the `IoBufs` itself.
+    /// Makes the result of an `IoBufs`.
     fn from_text(text: IoBufs) -> Self
         ensures { as_text result ≡ text };
 }
@@ -93,7 +92,7 @@ where
     fn into_parts(self) -> Self::Parts
         ensures { result ≡ Self.parts self };
 
-    /// Encodes into chunks as `EncodeExt` does with the fields; views are pushed and not copied. `X` is `IoBufs`.
+    /// Encodes into chunks, an `IoBufs` as `X`, as `EncodeExt` does with the fields; views are pushed and not copied.
     final fn encode_iobufs<X: FromText>(self, alloc: Global) -> Result<X, Error>
         ensures pieces { IfOk result (λ made. X.as_text made ≡ finished
             (building_after (empty_building (items_inline (Self.Parts.items (Self.parts self))))

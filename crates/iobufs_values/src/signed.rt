@@ -10,9 +10,9 @@ use crate::{Fault, Look};
 use iobufs_core::codec::{BufMut, BufsMut, EncodeSize, Error, Peek, Write};
 use std::alloc::Global;
 
-/// A signed number that is written as the unsigned number of its bits, in two's complement (own).
+/// A signed number that is written as the unsigned number of its bits (own).
 pub trait SignedNumber: Copy {
-    /// The number of the bits.
+    /// The unsigned type of the bits.
     type Bits: Look + Write + Copy;
 
     // The number of the bits, and which numbers the type has.
@@ -35,8 +35,8 @@ pub trait SignedNumber: Copy {
     ghost admitted: { (cfg : Self.Bits.Cfg) (x : Self) → fits x → Self.Bits.admits cfg (bits x) };
 }
 
-/// A signed number, written big-endian in two's complement. It wraps the number because the traits of writing are
-/// another crate's.
+/// A signed number, written as the number of its bits: `i8` to `i128` big-endian, in two's complement. It wraps the
+/// number because the traits of writing are another crate's.
 #[derive(Clone, Copy, Debug, PartialEq, Eq)]
 pub struct Signed<N> {
     pub value: N,

@@ -1,4 +1,4 @@
-// Bytes: a view or a `Bytes` after its length, and so many bytes as they are.
+// Bytes: a view or a `Bytes` after its length, and an array as it is.
 ghost use Rattle.std.specs.Prelude.{◌≡◌, ℕ, ◌+◌, ◌^◌, ◌<◌, ◌≤◌, length, take, drop, true, IfOk, IfErr, IsOk};
 ghost use Rattle.iobufs_core.specs.MarkedText.{taken_view};
 ghost use Rattle.iobufs_core.specs.Spelling.{spell};

@@ -17,8 +17,8 @@ returns-in-Ok-clause-next c =
     (rw c.in-Some-2.is at c.in_ok-parts.ensures.body) (rw c.in-Some-2.is at c.in_ok-parts.ensures.whole) c.len.ensures.value in
     let fits = is.4 in
     whole_taken layout c.args.range.now text.bytes c.split_to.new.self.bytes c.in-Ok.frame.bytes l.value s.header s.body is
-    (ap (λ (t : MarkedText). t.bytes) c.in-Ok.ensures.front ∙ bytes-split_front text (s.header + s.body) fits)
-    (ap (λ (t : MarkedText). t.bytes) c.in-Ok.ensures.rest ∙ bytes-rest text (s.header + s.body) fits)
+    (ap (λ (t : MarkedText). t.bytes) c.in-Ok.ensures.split.0 ∙ bytes-split_front text (s.header + s.body) fits)
+    (ap (λ (t : MarkedText). t.bytes) c.in-Ok.ensures.split.1 ∙ bytes-rest text (s.header + s.body) fits)
 
 pub returns-in-Err-clause-next : goal.returns-in-Err-clause-next
 returns-in-Err-clause-next c =
@@ -29,7 +29,7 @@ returns-in-Err-clause-next c =
     (rw c.in-Some.is at c.in_ok-length.ensures.found) c.in_ok-parts.ensures.inside (rw c.in-Some-2.is at c.in_ok-parts.ensures.header)
     (rw c.in-Some-2.is at c.in_ok-parts.ensures.body) (rw c.in-Some-2.is at c.in_ok-parts.ensures.whole) c.len.ensures.value in (
       has_frame is_any layout c.args.range.now c.args.self.now.rest.bytes l.value s.header s.body is tt,
-      ap (λ (t : MarkedText). t.bytes) c.in-Err.ensures.unchanged,
+      ap (λ (t : MarkedText). t.bytes) c.in-Err.ensures.split.0,
     )
 
 pub returns-in-Ok-clause-left : goal.returns-in-Ok-clause-left
@@ -41,8 +41,8 @@ returns-in-Ok-clause-left c =
     let long : size ≡ length c.in-Ok.frame.bytes = omega (
       arith,
       fits,
-      ap (λ (t : MarkedText). length t.bytes) c.in-Ok.ensures.front,
+      ap (λ (t : MarkedText). length t.bytes) c.in-Ok.ensures.split.0,
       ap (λ (w : List ℕ). length w) (bytes-split_front text size fits),
       length-take size text.bytes,
     ) in
-    (refl, (c.in-Ok.ensures.front ∙ ap (text_split_front text) long, c.in-Ok.ensures.rest ∙ ap (text_rest text) long))
+    (refl, (c.in-Ok.ensures.split.0 ∙ ap (text_split_front text) long, c.in-Ok.ensures.split.1 ∙ ap (text_rest text) long))
