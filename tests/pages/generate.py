@@ -1,6 +1,8 @@
 """The generated parts of the pages: `PARTS[NAME]` makes what is between `<!-- generated: NAME -->` and its end."""
 import re
 
+from functools import cache
+
 from pages.tree import CRATES, MARKED, OWNER, ROOT, STOP, by_layer, declarations, direct, layer, purpose, uses
 from pages.trusted import contracts
 
@@ -8,7 +10,7 @@ from pages.trusted import contracts
 
 SUBJECTS = (ROOT / "tests/pages/subjects").read_text().splitlines()
 API = dict(line.split(": ") for line in SUBJECTS if not line.startswith("#"))
-FOR_LAYERS = set(API.pop("for layers").split())
+FOR_LAYERS, LAWS = set(API.pop("for layers").split()), API.pop("laws")
 COLUMNS = re.compile(r" {2,}")  # Between two columns: len  text_len self\.old
 # The rows of conditions: what a caller knows a part of a condition by, and when a call cannot fail.
 SHORT, SURE = (
@@ -18,12 +20,18 @@ SHORT, SURE = (
 WORDED = {words for words, *_ in SHORT if words.count(" ") > 1}
 # A clause on what a call returns: ensures rest { n ≤ length self.old → IsOk result }
 ENSURES = re.compile(r"ensures (\w+) \{(.*?) \}(?=\s*(?:ensures|\{|;|$))", re.S)
+# A clause that rules errors out: at ≡ 0 → IsOk result; n ≡ 0 → (new ≡ old) × IsOk result; IfSome result (λ it. IsOk it)
+NO_ERROR = re.compile(r"(?:(.*) → )?(?:\([^→]*\) × )?(?:IsOk result|IfSome result \(λ (\w+)\. IsOk \2\))")
+EXACTLY = re.compile(r"IsOk result ↔ (.*)")  # One that says when exactly: IsOk result ↔ (n ≤ room)
 REQUIRES = re.compile(r"requires(?: \w+)? \{(.*?)\}\n", re.S)  # requires { at ≤ length self.old }
 RESULT = re.compile(r"->\s*(.*?)(?=\n\s*(?:requires|ensures|where)|\{|;)", re.S)  # -> Option<u8>
 ARGUMENTS = re.compile(r"\w+(?:<.*?>)?\((.*?)\)\s*(?:->|\n|\{|;)", re.S)  # get<T>(&self, at: usize) ->
 TOLD = re.compile(r"(?:End\.Bad|≢) Error\.\w+")  # An error that a clause tells of, and no call returns: ≢ Error.Memory
 KIND = re.compile(r"\b(TooLong|BadLayout|InvalidVarint|InvalidLength|EndOfBuffer|Memory|ExtraData)\b")  # TooLong
 ERROR = re.compile(r"\b(FrameError|TryGetError|AllocError|Fault|Refusal|Error)>")  # Result<IoBuf, FrameError>
+AS = re.compile(r"\b[Ff]ails as `(?:(\w+)::)?(\w+)`")  # Fails as `Received::next` does
+# What no cell may have: ≡, →, IsTrue x, length (it), self.old
+NOTATION = re.compile(r"[≡≢≤≥↔→λ×⊎∷ℕ]|\b(?:Is|Has|Are|Can|If|On)[A-Z]\w+ \w|\blength \(|\.(?:old|now|new)\b")
 # The original's name in a comment: (the crate's `Buf::get_u8()`, of one byte), or (own)
 ORIGINAL = re.compile(r" ?\((own|(?:the \w+(?:'s)? )?`[^`]+`)[^()]*(?:\([^()]*\)[^()]*)*\)")
 # A public type with its comment: /// A view.\n#[derive(Clone)]\npub struct IoBuf
@@ -42,32 +50,60 @@ def faults_of_conditions(rows):
     return [f"`{example}` doesn't fit {pattern}" for _, pattern, example in rows if not re.search(pattern, example)]
 
 
+def faults_of_cells(lines):
+    """Rows of tables with the notation of a contract."""
+    return [f"{NOTATION.search(line)[0]} in {line}" for line in lines if line[:1] == "|" and NOTATION.search(line)]
+
+
 def sure(declared):
     """When a call cannot fail, a phrase for each clause that says so; a condition that no row of SURE has, as it is."""
     found = []
     for _, body in ENSURES.findall(declared):
         body = " ".join(body.split())
-        if body.endswith("IsOk result"):
-            condition = body.removesuffix("IsOk result").rstrip().removesuffix("→").rstrip()
+        clause = NO_ERROR.fullmatch(body) or EXACTLY.fullmatch(body)
+        if clause:
+            condition = clause[1] or ""
             words = next((words for words, pattern, _ in SURE if re.fullmatch(pattern, condition)), f"`{condition}`")
             found.append(words if condition else "ever")
     return ", ".join(dict.fromkeys(found))
 
 
-def errors(declared, comment):
+@cache
+def declared_as():
+    """Each public call of the page by its name alone and after that of its type: its comment and its declaration."""
+    found = {}
+    for file in " ".join(API.values()).split():
+        for comment, owner, name, declared in declarations((CRATES / file).read_text()):
+            found.setdefault(("", name), (comment, declared))
+            found[(owner, name)] = (comment, declared)
+    return found
+
+
+def said_errors(declared, comment, owner):
+    """The error variants that a comment and a declaration name, and those of the call as which it fails."""
+    found = KIND.findall(comment + TOLD.sub("", declared))
+    for other, name in AS.findall(comment):
+        calls = declared_as()
+        comment_as, declared_other = calls.get((other or owner, name)) or calls[("", name)]
+        found += said_errors(declared_other, comment_as, other or owner)
+    return dict.fromkeys(found)
+
+
+def errors(declared, comment, owner):
     """The errors that a declaration names, or the type of its error."""
     found = RESULT.search(declared)
     result = found[1] if found else ""
     if result.startswith("Option<"):
-        return ", ".join(["`None`", *dict.fromkeys(KIND.findall(declared) if "Result<" in result else ())])
+        return ", ".join(["`None`", *dict.fromkeys(KIND.findall(comment + declared) if "Result<" in result else ())])
     if "Result<" not in result:
         return ""
     kind = ERROR.search(result)
-    said = ", ".join(dict.fromkeys(KIND.findall(comment + TOLD.sub("", declared))))
+    said = ", ".join(said_errors(declared, comment, owner))
     if kind and (kind[1] != "Error" or not said):
         said = f"`{kind[1]}`"
     elif not said:
-        said = "`io::Error`" if "io::Result" in result else "the buffer"
+        of_std = "`io::Error`" if "io::Result" in result else ""
+        said = of_std or ("the block" if result.endswith(", Vec<u8>>") else "the buffer")
     return said + (", handed back" if "Refused<" in result else "")
 
 
@@ -89,29 +125,41 @@ def arguments(declared):
     return [name.replace("mut ", "").strip() for name, colon, _ in typed if colon]
 
 
-def row(comment, name, declared):
+def row(comment, owner, name, declared):
     """The row of a call: its name with its type or trait, if that is needed, and its arguments; what it returns, does,
     requires, its errors, when it cannot fail, the original."""
     conditions = ", ".join(short(" ".join(it.split())) for it in REQUIRES.findall(declared))
-    about = errors(declared, comment), sure(declared), original(comment)
+    about = errors(declared, comment, owner), sure(declared), original(comment) or "own"
     returns = [f"`{' '.join(it.split())}`" for it in RESULT.findall(declared)]
     call = f"{name}({', '.join(arguments(declared))})"
     return call, "".join(returns[:1]), does(comment), conditions, *about
 
 
+def is_for_layers(owner, name):
+    """Whether a call is for layers, by its name alone or after that of its type."""
+    return name in FOR_LAYERS or f"{owner}::{name}" in FOR_LAYERS
+
+
 def calls(files, are_for_layers=False):
     """The rows of the calls in these files, for users or for layers, and those that have nothing to say in them. Each
-    has its type's name, if the files have calls of several."""
+    has its type's name, if the files have calls of several. Laws aren't among them."""
     found = [it for file in files.split() for it in declarations((CRATES / file).read_text())]
-    owners = {owner for _, owner, name, _ in found if name not in FOR_LAYERS}
+    found = [it for it in found if not it[2].endswith("_law")]
+    owners = {owner for _, owner, name, _ in found if not is_for_layers(owner, name)}
     rows, plain = [], []
     for comment, owner, name, declared in found:
-        if (name in FOR_LAYERS) == are_for_layers:
+        if is_for_layers(owner, name) == are_for_layers:
             named = f"{owner}::{name}" if owner and (len(owners) > 1 or are_for_layers) else name
-            made = row(comment, named, declared)
+            made = row(comment, owner, named, declared)
             is_plain = not any(made[3:6]) and "alloc" not in arguments(declared) and not are_for_layers
             plain.append(named) if is_plain else rows.append(made)
     return dict.fromkeys(rows), dict.fromkeys(plain)
+
+
+def types(files, are_for_layers=False):
+    """The public types of these files, for users or for layers."""
+    found = [it for file in files.split() for it in TYPE.findall((CRATES / file).read_text())]
+    return [f"`{name}`" for comment, name in found if ("for layers" in comment) == are_for_layers]
 
 
 def traits(files):
@@ -126,20 +174,37 @@ def table(rows):
     yield from (f"|`{row[0]}`|" + "|".join(row[1:]) + "|" for row in rows)
 
 
+def linked(files):
+    """A link to each of these files."""
+    return ", ".join(f"[{it.rsplit('/', 1)[1]}](../crates/{it})" for it in files)
+
+
+def laws():
+    """The laws, which do nothing, and their files."""
+    for file in LAWS.split():
+        found = [name for _, _, name, _ in declarations((CRATES / file).read_text()) if name.endswith("_law")]
+        yield f"{linked([file])}: " + ", ".join(f"`{name}`" for name in found)
+
+
 def api():
     """The tables of the public calls, by subject, and the one of those for layers."""
     for title, files in API.items():
         rows, plain = calls(files)
-        links = ", ".join(f"[{it.rsplit('/', 1)[1]}](../crates/{it})" for it in files.split())
-        yield f"\n## {title}\n\nIn {links}."
+        shown = [it for it in files.split() if any(calls(it)) or types(it)]
+        named = types(files)
+        yield f"\n## {title}\n\nIn {linked(shown)}." + (f" Types: {', '.join(named)}." if named else "")
         if rows:
             yield from table(rows)
         if plain:
             yield "\nNeither condition nor error: " + ", ".join(f"`{name}`" for name in plain) + "."
         if not rows and not plain:
             yield "\nIts calls are those of " + ", ".join(f"`{name}`" for name in traits(files)) + "."
-    yield "\n## For layers\n\nOther crates of this repository, C or the Rust crate call these. A user needs none."
+    named = ", ".join(name for files in API.values() for name in types(files, are_for_layers=True))
+    yield "\n## For layers\n\nLayers above call most of these: other crates, C or the Rust crate. A user needs none."
+    yield f"\nTypes: {named}."
     yield from table(row for files in API.values() for row in calls(files, are_for_layers=True)[0])
+    yield "\n## Laws\n\nThese calls do nothing; the contract of each is the law.\n"
+    yield from (f"- {line}" for line in laws())
 
 
 def own():
@@ -147,7 +212,8 @@ def own():
     for title, files in API.items():
         texts = [(CRATES / file).read_text() for file in files.split()]
         found = [name for text in texts for comment, name in TYPE.findall(text) if original(comment) == "own"]
-        found += [name for text in texts for comment, _, name, _ in declarations(text) if original(comment) == "own"]
+        calls_found = [it for text in texts for it in declarations(text) if original(it[0]) == "own"]
+        found += [name if owner in title else f"{owner}::{name}" for _, owner, name, _ in calls_found]
         if found:
             yield f"- {title}: " + ", ".join(f"`{name}`" for name in dict.fromkeys(found))
 
@@ -181,11 +247,11 @@ def matrix():
     rows = [it.split() for it in (ROOT / "tests/requests").read_text().splitlines() if not it.endswith(" cargo")]
     # A row of tests/requests: how many were answered, ended the program, and changed nothing, and the session.
     refused = sum(int(number) for it in rows for number in it[:3])
-    failed = f"Allocations that `tests/refuse` fails in turn: {refused} of {len(rows)} stored sessions."
+    failed = f"Allocations of the kit's program that `tests/refuse` fails: {refused}, in sessions of {len(rows)} files."
     resting = sum("\nrests: " in edit for crate in uses() for edit in edits(crate))
     open_rows = len((ROOT / "tests/unguarded").read_text().splitlines())
     yield f"\n{totals[4]} mutants, {named} of them named, {resting} with a definition that they rest on. {failed}"
-    yield f"Rows of definitions that public contracts name, and no mutant rests on (`tests/unguarded`): {open_rows}."
+    yield f"Parts of relations of five crates that public contracts name, and no mutant rests on: {open_rows}."
 
 
 # What the prover alone reads of a source, up to the brace that ends it: ensures ok {    pub ghost value = {
@@ -210,7 +276,7 @@ def by_hand():
     proved = code_lines(file for file in sources if str(file.relative_to(CRATES)).replace("/src/", "/") not in replaced)
     hand = [code_lines((rust / folder).rglob("*.rs")) for folder in ("src", "layer")]
     yield f"|lines of code|{proved + sum(hand)}|\n|---|--:|\n|proved, without contracts|{proved}|"
-    yield f"|by hand: the wrappers in `src`|{hand[0]}|\n|by hand: the layer of calls in `layer`|{hand[1]}|"
+    yield f"|by hand: `src`, with its layer over `bytes`|{hand[0]}|\n|by hand: the layer of calls in `layer`|{hand[1]}|"
 
 
 def stored(name):
@@ -224,30 +290,37 @@ def differences():
     for name, other in stored("differences"):
         here, reason = other.split(" | ")
         reasons.setdefault(reason, []).append((name, here))
-    yield "|for example|original|here|reason|how many|\n|---|---|---|---|--:|"
+    yield "|for example|original|Rust crate|reason|how many|\n|---|---|---|---|--:|"
     for reason, rows in reasons.items():
         (name, here), count = rows[0], len(rows)
-        shown, then = (f"`{name[5:].split(' }')[0]} }}`", "compiles") if name[:5] == "use: " else (name, original[name])
+        shown, then = (f"`{name[5:]}`", "compiles") if name[:5] == "use: " else (name, original[name])
         yield f"|{shown}|{then}|{here}|{reason}|{count}|"
 
 
 # A mean of bench/RESULTS.md: - 88 comparable rows: time mean **0.68**, .. 27 above 1; instructions mean **0.77**, ..
 OF_BOTH = r"mean \*\*([\d.]+)\*\*, median [\d.]+, (\d+) above 1"
-MEAN = re.compile(rf"^- (\d+) (rows in which|comparable).*: time {OF_BOTH}; instructions {OF_BOTH}", re.M)
+MEAN = re.compile(
+    rf"^- (\d+) (rows in which|comparable).*: time {OF_BOTH}; instructions {OF_BOTH}"
+    r"(?:; time mean of single rounds ([\d.]+ to [\d.]+))?", re.M
+)
 SLOWEST = re.compile(r"^- Slowest by time (.*?);", re.M)  # - Slowest by time `put_u8_64k_freeze` 3.06, ..; fastest
+MEASURED = re.compile(r"of commit (\w+);")  # Written by `bench/compare` on .. of commit 7ad1b7e7; least of 5 rounds
 
 
 def speed():
     """The means of bench/RESULTS.md."""
-    yield "||workloads|instructions|more in|time|slower in|\n|---|--:|--:|--:|--:|--:|"
-    for n, (rows, kind, time, slower, instructions, more) in enumerate(MEAN.findall(RESULTS.read_text())):
+    yield "||workloads|instructions|above 1|time|above 1|\n|---|--:|--:|--:|--:|--:|"
+    for n, (rows, kind, time, slower, instructions, more, single) in enumerate(MEAN.findall(RESULTS.read_text())):
         steps = "with the same steps" if kind.startswith("rows") else "all comparable"
+        time += f" ({single})" if single else ""
         yield f"|{('Rattle', 'the Rust crate')[n // 2]}, {steps}|{rows}|{instructions}|{more}|{time}|{slower}|"
 
 
 def slowest():
-    """The slowest workloads of the Rust crate by time."""
-    yield f"Slowest by time, as multiples of the original's: {SLOWEST.findall(RESULTS.read_text())[-1]}."
+    """The slowest workloads of the Rust crate by time, at the commit that was measured."""
+    results = RESULTS.read_text()
+    slow, measured = SLOWEST.findall(results)[-1], MEASURED.search(results)[1]
+    yield f"At commit {measured}, the slowest by time, as multiples of the original's: {slow}."
 
 
 def crates():
