@@ -10,20 +10,20 @@
  *     if (iobuf_copy_from_slice(bytes, n, &view) != IOBUFS_OK) ..
  *     iobuf_drop(&view);
  *
- * A call that can fail returns a status (`iobufs_status`, named by `iobufs_strerror`), and the compiler warns if it isn't looked
- * at. A call that cannot fail returns its result or nothing. Ranges, offsets and space are tested: if they don't fit, the
- * status says so, and unless the comment says otherwise nothing has changed. A buffer that is moved into another leaves its
- * own handle empty; an empty handle may be used, and dropped, again. Each `out` handle names a buffer, which is overwritten:
- * what it held is dropped.
+ * A call that can fail returns a status (`iobufs_status`, named by `iobufs_strerror`); GCC and clang warn if it isn't
+ * looked at. A call that cannot fail returns its result or nothing. Ranges, offsets and space are tested: if they don't
+ * fit, the status says so, and unless the comment says otherwise nothing has changed. A buffer that is moved into another
+ * leaves its own handle empty; an empty handle may be used, and dropped, again. Each `out` handle names a buffer: if the
+ * call succeeds, it is overwritten, and what it held is dropped.
  *
  * The caller's duties, which no exported call tests:
  *  1. A handle names memory that an `.._init` made a buffer of. Memory is freed only after a `.._drop` (or what the buffer
  *     holds is leaked). It may be moved (memcpy), and the buffer with it; never two copies may be used.
  *  2. The handles and other pointers of one call don't overlap: `iobuf_clone(&a, &a)` is not allowed.
  *  3. One call at a time uses a buffer. Another thread may use it after what orders the two (a lock, a thread's start or
- *     join, a SEQ_CST atomic); buffers that share a block may be used by several threads at once. Calls that only look
- *     (at a const handle, and `.._chunk` of a writable buffer) may be several at once on one buffer: that is tested, not
- *     proved.
+ *     join, a SEQ_CST atomic). Several threads may use buffers that share a block at once, and one buffer by calls
+ *     that only look (at a const handle, and `.._chunk` of a writable buffer): both are tested with eight threads
+ *     (bindings/c/threads.c), and neither is proved.
  *  4. No pointer is NULL, also for 0 bytes; those to bytes outlive the call. The bytes of `iobuf_from_static` live, unchanged,
  *     until the last buffer made of them is dropped.
  *  5. The pointer of `.._chunk` and its like may be read until the next call that changes or drops that buffer. Only the
@@ -33,7 +33,7 @@
  *     process with threads.
  *
  * The comment of a call that returns a status ends with one line or two:
- *   Fails: the statuses other than IOBUFS_OK, each with its cause. A call that has IOBUFS_MEMORY there may allocate,
+ *   Fails: the statuses other than IOBUFS_OK, with their causes. A call that has IOBUFS_MEMORY there may allocate,
  *     and returns it if that fails; no other call allocates. "(reserved)": for a later version. The call doesn't
  *     allocate as it is. Its contract promises that only for no bytes, for those of `iobuf_from_static`, for a split
  *     or a take of all bytes, and for a builder in which no bytes were put.
@@ -59,13 +59,13 @@ enum iobufs_code {
     IOBUFS_OK = 0,             /* done */
     IOBUFS_MEMORY = 1,         /* an allocation failed */
     IOBUFS_BAD_LAYOUT = 2,     /* the capacity would be above SSIZE_MAX */
-    IOBUFS_TOO_LONG = 3,       /* a sum of lengths or capacities would pass SIZE_MAX */
+    IOBUFS_TOO_LONG = 3,       /* a sum would pass SIZE_MAX, or a header can't have this length or these bytes */
     IOBUFS_OUT_OF_RANGE = 4,   /* a range or an offset is outside the bytes, or bytes don't fit */
     IOBUFS_END_OF_BUFFER = 5,  /* fewer bytes remain than the call needs */
     IOBUFS_INVALID_VARINT = 6, /* the bytes are an invalid varint */
     IOBUFS_INVALID_LENGTH = 7, /* the length is outside the range, or below `counts` */
-    IOBUFS_DECLINED = 8,       /* the buffer can't be converted, or there is none, and all stays */
-    IOBUFS_BAD_KIND = 9       /* the kind of a bound is unknown */
+    IOBUFS_DECLINED = 8,       /* the buffer can't be converted, there is none, or both are one; all stays */
+    IOBUFS_BAD_KIND = 9       /* the kind of a bound, or a prefix, is unknown */
 };
 typedef uint8_t iobufs_status;
 
@@ -79,7 +79,7 @@ static inline const char *iobufs_strerror(iobufs_status status) {
     return status < sizeof texts / sizeof *texts ? texts[status] : "no status";
 }
 
-/* Has the compiler warn of a caller that doesn't look at a status. */
+/* Has GCC and clang warn of a caller that doesn't look at a status. */
 #if defined(__GNUC__)
 #define IOBUFS_CHECKED __attribute__((warn_unused_result))
 #else
@@ -126,7 +126,7 @@ struct iobufs_received_at { struct iobufs_received *at; };
 #define IOBUFS_RECEIVED_INIT iobufs_received_made(&(struct iobufs_received){{0}})
 #endif
 
-/* How the library was built: by the kit, which proved its machine code, or by cargo, from the proved source. */
+/* How the library was built, of the proved source: by the kit, or by cargo, without three of its files (docs/C.md). */
 enum iobufs_build_kind { IOBUFS_BUILT_BY_KIT = 0, IOBUFS_BUILT_BY_CARGO = 1 };
 
 /* How this library was built: an `enum iobufs_build_kind`. (own) */
@@ -163,7 +163,8 @@ void iobuf_drop(struct iobuf_at *src);
 /* A copy of n bytes. (IoBuf::copy_from_slice)
  * Fails: IOBUFS_MEMORY except for 0 bytes. */
 IOBUFS_CHECKED iobufs_status iobuf_copy_from_slice(const uint8_t *src, size_t n, struct iobuf_at *out);
-/* A view of n bytes, not copied, which live until the last buffer made of them is dropped (duty 4).
+/* A view of n bytes, which aren't copied. They have to live, unchanged, until the last buffer made of them is dropped
+ * (duty 4).
  * (From<&'static [u8]>) */
 void iobuf_from_static(const uint8_t *text, size_t n, struct iobuf_at *out);
 /* The number of bytes. (IoBuf::len) */
@@ -374,16 +375,16 @@ IOBUFS_CHECKED iobufs_status iobufsmut_put_bytes(struct iobufsmut_at *parts, uin
 /* Puts one byte. (BufMut::put_u8)
  * Fails: IOBUFS_OUT_OF_RANGE if it doesn't fit. */
 IOBUFS_CHECKED iobufs_status iobufsmut_put_u8(struct iobufsmut_at *parts, uint8_t n);
-/* Appends a big-endian number of two bytes. (BufMut::put_u16)
+/* Puts a big-endian number of two bytes, part after part. (BufMut::put_u16)
  * Fails: IOBUFS_OUT_OF_RANGE if it doesn't fit. */
 IOBUFS_CHECKED iobufs_status iobufsmut_put_u16(struct iobufsmut_at *parts, uint16_t n);
-/* Appends a big-endian number of four bytes. (BufMut::put_u32)
+/* Puts a big-endian number of four bytes, part after part. (BufMut::put_u32)
  * Fails: IOBUFS_OUT_OF_RANGE if it doesn't fit. */
 IOBUFS_CHECKED iobufs_status iobufsmut_put_u32(struct iobufsmut_at *parts, uint32_t n);
-/* Appends a big-endian number of eight bytes. (BufMut::put_u64)
+/* Puts a big-endian number of eight bytes, part after part. (BufMut::put_u64)
  * Fails: IOBUFS_OUT_OF_RANGE if it doesn't fit. */
 IOBUFS_CHECKED iobufs_status iobufsmut_put_u64(struct iobufsmut_at *parts, uint64_t n);
-/* Appends a varint length. (usize::write)
+/* Puts a varint length, part after part. (usize::write)
  * Fails: IOBUFS_OUT_OF_RANGE if it doesn't fit. */
 IOBUFS_CHECKED iobufs_status iobufsmut_put_length(struct iobufsmut_at *parts, size_t n);
 /* Makes n bytes readable, the parts filled in order; those that were not are zero. A part loses readable bytes that
@@ -399,7 +400,8 @@ IOBUFS_CHECKED iobufs_status iobufsmut_copy_to_slice(struct iobufsmut_at *parts,
 /* The parts that hold bytes as the chunks of one iobufs, not copied; none are left. (freeze)
  * Fails: IOBUFS_MEMORY, for the deque, and the parts are dropped. */
 IOBUFS_CHECKED iobufs_status iobufsmut_freeze(struct iobufsmut_at *parts, struct iobufs_at *out);
-/* The parts as one buffer, with a copy of several. None are left, also after an error. (coalesce)
+/* The parts as one buffer; the bytes of several are copied, of two or three perhaps into the first one's storage. None
+ * are left, also after an error. (coalesce)
  * Fails: IOBUFS_BAD_LAYOUT if several have more than SSIZE_MAX bytes; IOBUFS_MEMORY, for the copy. */
 IOBUFS_CHECKED iobufs_status iobufsmut_coalesce(struct iobufsmut_at *parts, struct iobufmut_at *out);
 
@@ -536,14 +538,14 @@ IOBUFS_CHECKED iobufs_status iobufs_frames_feed(struct iobufs_frames_at *frames,
  * make a frame whole after IOBUFS_INVALID_VARINT or IOBUFS_INVALID_LENGTH. A loop of iobufs_frames_feed and this call is
  * `Frames::run`. (own)
  * Fails: IOBUFS_END_OF_BUFFER if it is not whole yet; IOBUFS_INVALID_VARINT if its length is invalid;
- *   IOBUFS_INVALID_LENGTH if its length is outside; IOBUFS_MEMORY, for the copy.
+ *   IOBUFS_INVALID_LENGTH if the body's length is outside, or the number below `counts`; IOBUFS_MEMORY, for the copy.
  * Keeps: both. */
 IOBUFS_CHECKED iobufs_status iobufs_frames_next(struct iobufs_frames_at *frames, size_t lo, size_t hi, struct iobuf_at *out,
     size_t *wrong);
 /* Takes the first frame with its header, as iobufs_frames_next takes its body, and writes how many bytes the header has to
  * `header`. Its chunks share their storage: no byte is copied. (own)
  * Fails: IOBUFS_END_OF_BUFFER if it is not whole yet; IOBUFS_INVALID_VARINT if its length is invalid;
- *   IOBUFS_INVALID_LENGTH if its length is outside; IOBUFS_MEMORY, for the deque.
+ *   IOBUFS_INVALID_LENGTH if the body's length is outside, or the number below `counts`; IOBUFS_MEMORY, for the deque.
  * Keeps: both, and `header`. */
 IOBUFS_CHECKED iobufs_status iobufs_frames_next_whole(struct iobufs_frames_at *frames, size_t lo, size_t hi, struct iobufs_at *out,
     size_t *header, size_t *wrong);
@@ -592,18 +594,18 @@ IOBUFS_CHECKED iobufs_status iobufs_frames_space(struct iobufs_received_at *rece
  * Fails: IOBUFS_OUT_OF_RANGE if it has fewer.
  * Keeps: the block. */
 IOBUFS_CHECKED iobufs_status iobufs_frames_filled(struct iobufs_received_at *received, size_t n);
-/* Takes the body of the first frame, which has from lo to hi bytes. It shares the block, and keeps its own frame or 64 KiB,
- * whichever is more. It is copied only out of a block above 64 KiB of another size than its frame: call this after each
- * read, and a block gets the size of its frame. Writes to `wrong` what iobufs_frames_next does. (own)
+/* Takes the body of the first frame, which has from lo to hi bytes. It shares the block, and keeps at most its own frame
+ * or 64 KiB, whichever is more. It is copied only out of a block above 64 KiB of another size than its frame: read only
+ * after IOBUFS_END_OF_BUFFER, and none is copied. Writes to `wrong` what iobufs_frames_next does. (own)
  * Fails: IOBUFS_END_OF_BUFFER if it is not whole yet; IOBUFS_INVALID_VARINT if its length is invalid;
- *   IOBUFS_INVALID_LENGTH if its length is outside; IOBUFS_MEMORY, for the copy, and in the kit's build for a count.
+ *   IOBUFS_INVALID_LENGTH if the body's length is outside, or the number below `counts`; IOBUFS_MEMORY, for the copy, and in the kit's build for a count.
  * Keeps: both. */
 IOBUFS_CHECKED iobufs_status iobufs_received_next(struct iobufs_received_at *received, size_t lo, size_t hi, struct iobuf_at *out,
     size_t *wrong);
 /* Takes the first frame with its header, as iobufs_received_next takes its body, and writes how many bytes the header has to
  * `header`. (own)
  * Fails: IOBUFS_END_OF_BUFFER if it is not whole yet; IOBUFS_INVALID_VARINT if its length is invalid;
- *   IOBUFS_INVALID_LENGTH if its length is outside; IOBUFS_MEMORY, for the copy, and in the kit's build for a count.
+ *   IOBUFS_INVALID_LENGTH if the body's length is outside, or the number below `counts`; IOBUFS_MEMORY, for the copy, and in the kit's build for a count.
  * Keeps: both, and `header`. */
 IOBUFS_CHECKED iobufs_status iobufs_received_next_whole(struct iobufs_received_at *received, size_t lo, size_t hi,
     struct iobuf_at *out, size_t *header, size_t *wrong);

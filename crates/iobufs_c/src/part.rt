@@ -136,7 +136,7 @@ pub extern "C" fn iobufmut_copy_from_slice(alloc: Global, src: &[u8], out: &mut 
 }
 
 /// Makes a writable buffer of a view of native storage that no other handle has, and leaves the empty view. Returns
-/// `Status::Declined` for any other view; then both are unchanged.
+/// `Status::Declined` for any other view, except an empty one without storage; then both are unchanged.
 #[unsafe(no_mangle)]
 pub extern "C" fn iobuf_try_into_mut(alloc: Global, src: &mut ViewAt, out: &mut PartAt) -> u8
     ensures at { (src.new.at ≡ src.old.at) × (out.new.at ≡ out.old.at) }

@@ -259,7 +259,8 @@ pub extern "C" fn iobufsmut_chunks(parts: &mut PartsAt, out: &mut [Chunk]) -> us
     }
 }
 
-/// Writes bytes after the readable ones. Returns `Status::OutOfRange` if they don't fit; then nothing changes.
+/// Writes bytes into the spare capacity, buffer after buffer. Returns `Status::OutOfRange` if they don't fit; then
+/// nothing changes.
 #[unsafe(no_mangle)]
 pub extern "C" fn iobufsmut_put_slice(parts: &mut PartsAt, src: &[u8]) -> u8
     ensures at { parts.new.at ≡ parts.old.at }

@@ -13,19 +13,19 @@ pub enum Status {
     Memory,
     /// The capacity is too large.
     BadLayout,
-    /// A sum of lengths or capacities would be too large.
+    /// A sum of lengths or capacities would be too large, or a header can't have this length or these bytes.
     TooLong,
     /// A range or an offset is outside the bytes, or the bytes are more than the spare capacity.
     OutOfRange,
     /// Fewer bytes are left than were asked for.
     EndOfBuffer,
-    /// The bytes are no varint.
+    /// The bytes are an invalid varint.
     InvalidVarint,
-    /// The length is outside the range.
+    /// The length is outside the range, or the number in a header is below what it counts.
     InvalidLength,
     /// The buffer can't be converted, and stays.
     Declined,
-    /// The kind of a bound is unknown.
+    /// The kind of a bound, or a prefix, is unknown.
     BadKind,
 }
 
