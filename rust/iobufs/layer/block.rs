@@ -184,7 +184,7 @@ impl Space {
     /// Makes the first `n` bytes of the capacity after the others readable. Panics if there are fewer.
     ///
     /// # Safety
-    /// They are written.
+    /// The caller has written them.
     #[inline]
     #[track_caller]
     pub(crate) unsafe fn fill(&mut self, n: usize) {

@@ -209,7 +209,7 @@ pub trait Encode {
     /// Panics if they are more than `usize::MAX`.
     fn encode_size(&self) -> usize;
 
-    /// Returns how many of them [`write_bufs`](Self::write_bufs) doesn't push.
+    /// Returns how many of the value's bytes [`write_bufs`](Self::write_bufs) puts inline, and doesn't push.
     ///
     /// ```
     /// # use iobufs::codec::Encode;
@@ -417,8 +417,8 @@ impl From<Error> for values::Fault {
     }
 }
 
-/// A type that is written and read as another value: a tuple of its fields, or one of several kinds. `by_parts!` makes
-/// it a value itself. `from_parts` must return the value whose `parts` were written.
+/// A type that is written and read as another value, such as a tuple of its fields, or an `Either` of kinds.
+/// `by_parts!` makes it a value itself. `from_parts` must return the value whose `parts` were written.
 ///
 /// ```
 /// use iobufs::codec::{ByParts, Decode, Encode, Written};
@@ -487,7 +487,7 @@ pub trait ByParts: Sized {
     /// Returns [`Error::Invalid`] with the type's name and a reason if it doesn't accept the parts.
     fn from_parts(parts: Self::Parts) -> Result<Self, Error>;
 
-    /// Returns the value that is written: a tuple, borrowed or not, with the bytes of `Parts`.
+    /// Returns the value that is written: one, such as a tuple of references, with the bytes of `Parts`.
     fn parts(&self) -> impl Written;
 }
 

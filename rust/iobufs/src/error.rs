@@ -27,8 +27,9 @@ pub enum Error {
     EndOfBuffer,
     /// The bytes are an invalid varint: of more than 64 bits, or not in the shortest form.
     InvalidVarint,
-    /// This length is outside the range, or a body of it can't be written with this header. Of a frame that is read, it
-    /// is the number in the header, with what a layout [`counts`](crate::Layout::counts).
+    /// This length is outside the range, or can't be the length of a frame. A frame that is read has it if the number in
+    /// its header is below what the layout [`counts`](crate::Layout::counts); the error has that number. A frame that is
+    /// written has it if the header has no form for it, or the layout has another number of bytes around the length.
     InvalidLength(usize),
     /// A byte that is neither 0 nor 1.
     InvalidBool,
@@ -45,7 +46,7 @@ impl fmt::Display for Error {
         match self {
             Error::EndOfBuffer => f.write_str("fewer bytes are left than the value has"),
             Error::InvalidVarint => f.write_str("invalid varint"),
-            Error::InvalidLength(n) => write!(f, "the length {n} is outside the range"),
+            Error::InvalidLength(n) => write!(f, "the length {n} isn't accepted"),
             Error::InvalidBool => f.write_str("invalid bool"),
             Error::InvalidEnum(tag) => write!(f, "invalid variant {tag}"),
             Error::Invalid(name, reason) => write!(f, "invalid {name}: {reason}"),

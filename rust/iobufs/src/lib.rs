@@ -6,7 +6,7 @@
 //!   `BytesMut`; [`Prefix`] says how a length is written, [`Layout`] what else a header has.
 //! - A struct or an enum of one's own: [`codec`], by [`fields!`] and [`kinds!`].
 //!
-//! A name in brackets, as `Buf`, is that of the original's trait.
+//! A name in brackets, as `Buf` or `usize::write`, is the original's trait or call.
 #![deny(unsafe_code)]
 #![warn(missing_docs, clippy::missing_errors_doc, clippy::missing_panics_doc)]
 

@@ -20,8 +20,8 @@ use std::{fmt, mem};
 /// assert_eq!(bufs.freeze(), "abc");
 /// ```
 ///
-/// It never grows: its capacity is that of its buffers. A vectored read fills it by
-/// [`io_slices_mut`](Self::io_slices_mut).
+/// It never grows: its capacity is that of its buffers. For a vectored read, call
+/// [`set_len`](Self::set_len), and then [`io_slices_mut`](Self::io_slices_mut).
 pub struct IoBufsMut(pub(crate) inner::IoBufsMut);
 
 impl IoBufsMut {
@@ -173,7 +173,8 @@ impl IoBufsMut {
         IoBufs(shared(self.0.freeze(Global)))
     }
 
-    /// Coalesces the buffers into one: a single buffer as it is, several as a copy.
+    /// Coalesces the buffers into one: a single buffer as it is. The bytes of several are copied, of two or three perhaps
+    /// into the storage of the first.
     ///
     /// ```
     /// let bufs = iobufs::IoBufsMut::from([b"ab", b"cd"].map(iobufs::IoBufMut::from));
@@ -313,7 +314,7 @@ impl From<IoBufsMut> for IoBufs {
     }
 }
 
-/// Returns a view of this: it itself, if it is one, else by way of a `Bytes`.
+/// Returns an [`IoBuf`] as it is. Converts anything else into a `Bytes`, and makes a view of that.
 fn claimed<T: Into<Bytes> + 'static>(chunk: T) -> IoBuf {
     let mut chunk = Some(chunk);
     match (&mut chunk as &mut dyn Any).downcast_mut() {

@@ -239,8 +239,8 @@ impl FrameCodec {
 }
 
 /// Takes frames from a reader: lengths, or headers of a [`Layout`], each followed by a body. A read fills the space of one
-/// block, which its bodies share: they aren't copied. A body keeps its own frame or 64 KiB, whichever is more. Copy a
-/// small body that you keep, by [`IoBuf::copy_from_slice`].
+/// block, which its bodies share: they aren't copied. A body keeps at most its own frame or 64 KiB, whichever is more.
+/// Copy a small body that you keep, by [`IoBuf::copy_from_slice`].
 ///
 /// ```
 /// use iobufs::{FrameReader, FrameWriter};
@@ -497,7 +497,7 @@ impl<W> FrameWriter<W> {
     }
 
     /// Puts a frame of this body after those that aren't sent yet; nothing is written. It allocates space for the list
-    /// of frames alone, from the second frame on.
+    /// of frames, from the second unsent frame on. Making an [`IoBufs`] of the body may allocate too.
     ///
     /// ```
     /// let mut to = iobufs::FrameWriter::new(Vec::<u8>::new(), ..=4);
@@ -610,7 +610,8 @@ impl<W: Write> FrameWriter<W> {
     ///
     /// # Errors
     /// Returns the writer's error, [`WriteZero`](ErrorKind::WriteZero) if the writer takes no byte, and
-    /// [`Other`](ErrorKind::Other) if it says that it took more than it was given: then it is given the same again.
+    /// [`Other`](ErrorKind::Other) if it says that it took more than the chunks of one vectored write have: then it is
+    /// given the same again.
     /// After an error no byte is lost or written twice, and `send` may be called again.
     ///
     /// # Panics

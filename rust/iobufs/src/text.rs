@@ -66,7 +66,8 @@ impl IoBufs {
         self.0.is_empty()
     }
 
-    /// Returns how many chunks keep an owner ([`IoBuf::from_owner`]).
+    /// Returns how many chunks have a [`Bytes`] as storage: those of an owner ([`IoBuf::from_owner`]), of a `Bytes` or a
+    /// `BytesMut`, and bodies from a [`FrameReader`](crate::FrameReader).
     ///
     /// ```
     /// let bufs = iobufs::IoBufs::from(["ab".into(), iobufs::IoBuf::from_owner(vec![1, 2])]);
@@ -133,7 +134,7 @@ impl IoBufs {
         self.0.as_single().map(IoBuf::wrap)
     }
 
-    /// Returns the byte at an offset, if there is one. It reads about log n of n chunks.
+    /// Returns the byte at an offset, if there is one. It compares about log n stored ends of n chunks.
     ///
     /// ```
     /// let bufs = iobufs::IoBufs::from(["ab".into(), "cde".into()]);
@@ -144,8 +145,8 @@ impl IoBufs {
         core::Buf::byte_at(&self.0, i)
     }
 
-    /// Returns the index of the chunk that contains an offset, and the distance from its start. It reads about log n of
-    /// n chunks.
+    /// Returns the index of the chunk that contains an offset, and the distance from its start. It compares about log n
+    /// stored ends of n chunks.
     ///
     /// ```
     /// let bufs = iobufs::IoBufs::from(["ab".into(), "cde".into()]);
@@ -394,8 +395,8 @@ impl IoBufs {
     ///
     /// # Errors
     /// Returns the writer's error, [`WriteZero`](io::ErrorKind::WriteZero) if the writer takes no byte, and
-    /// [`Other`](io::ErrorKind::Other) if it says that it took more than it was given. After an error the bytes that
-    /// weren't taken are left. An [`Interrupted`](io::ErrorKind::Interrupted) write is tried again.
+    /// [`Other`](io::ErrorKind::Other) if it says that it took more than the chunks of one vectored write have. After an
+    /// error the bytes that weren't taken are left. An [`Interrupted`](io::ErrorKind::Interrupted) write is tried again.
     pub fn write_to(&mut self, to: &mut (impl Write + ?Sized)) -> io::Result<()> {
         self.0.write_to(&mut Honest { to, took: false })
     }
@@ -490,7 +491,8 @@ impl From<IoBufs> for Bytes {
 
 impl FromIterator<IoBuf> for IoBufs {
     fn from_iter<I: IntoIterator<Item = IoBuf>>(chunks: I) -> Self {
-        let mut bufs = IoBufs::default();
+        let mut chunks = chunks.into_iter();
+        let mut bufs = chunks.find(|chunk| !chunk.is_empty()).map_or_else(IoBufs::default, IoBufs::from);
         bufs.extend(chunks);
         bufs
     }
@@ -673,7 +675,7 @@ impl Prefix {
     }
 }
 
-/// Frames of bytes that come in chunks: each is a length followed by a body.
+/// Frames of bytes that come in chunks: each is a header followed by a body.
 ///
 /// ```
 /// let mut frames = iobufs::Frames::new(iobufs::Prefix::U16Be);
@@ -749,7 +751,7 @@ impl Frames {
     ///
     /// # Errors
     /// Returns [`Error::InvalidVarint`] or [`Error::InvalidLength`] if the length is invalid or outside the range. Then
-    /// nothing changes: the connection can't be read on.
+    /// nothing changes. After `InvalidLength`, a wider range may accept the frame.
     pub fn next(&mut self, range: impl RangeBounds<usize>) -> Result<Option<IoBuf>, Error> {
         let body = self.0.next(Global, &core::RangeCfg::new(range)).map_err(fault)?;
         Ok(body.map(IoBuf))
@@ -795,7 +797,8 @@ impl Frames {
         self.0.rest().is_empty()
     }
 
-    /// Returns how many chunks keep an owner ([`IoBuf::from_owner`]).
+    /// Returns how many chunks have a [`Bytes`] as storage: those of an owner ([`IoBuf::from_owner`]), of a `Bytes` or a
+    /// `BytesMut`, and bodies from a [`FrameReader`](crate::FrameReader).
     ///
     /// ```
     /// let mut frames = iobufs::Frames::default();
@@ -813,7 +816,7 @@ impl fmt::Debug for Frames {
     }
 }
 
-/// Counts the chunks that keep an owner.
+/// Counts the chunks whose storage is a `Bytes`.
 fn owners(bufs: &inner::IoBufs) -> usize {
     (0..).map_while(|i| bufs.view_at(i)).filter(|view| view.is_shared()).count()
 }

@@ -53,7 +53,7 @@ macro_rules! chunks {
 
 /// Numbers at the front.
 macro_rules! gets {
-    ($($get:ident $little:ident $signed:ident $little_signed:ident $number:ty, $integer:ty;)*) => {
+    ($($get:ident $little:ident $signed:ident $little_signed:ident $number:ty, $integer:ty;)+) => {
         #[inline]
         #[track_caller]
         fn get_u8(&mut self) -> u8 {
@@ -129,7 +129,7 @@ macro_rules! conversions {
 conversions! {
     Bytes => IoBuf, |bytes| IoBuf(inner::IoBuf::from(kit::Bytes(bytes)));
     BytesMut => IoBuf, |bytes: BytesMut| IoBuf::from(bytes.freeze());
-    /// Takes the whole storage over, if no other handle shares it; else copies.
+    /// Takes the whole storage over, if no other handle shares it, and it is neither static nor an owner's; else copies.
     Bytes => IoBufMut, |bytes| IoBufMut::from(vec_of(bytes));
     /// Takes the whole storage over, if no other handle shares it; else copies, with the capacity.
     BytesMut => IoBufMut, |bytes: BytesMut| {

@@ -233,7 +233,7 @@ impl IoBuf {
         mem::replace(self, front)
     }
 
-    /// Keeps at most the first `len` bytes. It keeps the whole storage.
+    /// Keeps at most the first `len` bytes. It keeps the whole storage, unless `len` is 0.
     ///
     /// ```
     /// let mut view = iobufs::IoBuf::from("hello");
@@ -273,7 +273,7 @@ impl IoBuf {
     ///
     /// # Errors
     /// Returns the view if another one shares its storage, or if it was made of a static slice, an owner, a [`Bytes`] or
-    /// a `BytesMut`. [`IoBufMut::from`] copies these.
+    /// a `BytesMut`, unless it is empty and has no storage. [`IoBufMut::from`] copies these.
     #[inline]
     pub fn try_into_mut(self) -> Result<IoBufMut, Self> {
         self.0.try_into_mut(Global).map(IoBufMut).map_err(IoBuf)
@@ -388,7 +388,8 @@ impl From<IoBufMut> for IoBuf {
     }
 }
 
-/// Storage that the view alone keeps comes back, with the view's bytes moved to its front; other bytes are copied.
+/// Storage that the view alone keeps comes back, with the view's bytes moved to its front; other bytes, those of a static
+/// slice or an owner among them, are copied.
 impl From<IoBuf> for Vec<u8> {
     #[inline]
     fn from(view: IoBuf) -> Self {

@@ -159,7 +159,10 @@ fn panics_name_the_line_of_the_call() {
     }));
     let (mut view, mut bufs, mut part) = (IoBuf::from("ab"), IoBufs::from("ab"), IoBufMut::from(b"ab"));
     let (mut other, mut more, sliced, chopped) = (view.clone(), bufs.clone(), view.clone(), bufs.clone());
-    let calls: [(&str, Fails); 8] = [
+    let (mut read, mut across) = (IoBuf::from("abc"), IoBufs::from(["a".into(), "b".into()]));
+    let calls: [(&str, Fails); 10] = [
+        ("Buf::get_u32_le", Box::new(move || _ = bytes::Buf::get_u32_le(&mut read))),
+        ("Buf::get_i64 of an IoBufs", Box::new(move || _ = bytes::Buf::get_i64(&mut across))),
         ("split_to", Box::new(move || drop(view.split_to(3)))),
         ("take_owned", Box::new(move || drop(other.take_view(3)))),
         ("slice", Box::new(move || drop(sliced.slice(1..3)))),

@@ -32,6 +32,19 @@ fn chunks_of_an_iobufs() {
     assert_eq!(format!("{views:?}"), "IntoIter(IoBufs { len: 6, chunks: 2 })");
 }
 
+// Chunks that came at both ends, so that the deque begins in the middle of its space; empty ones are left out.
+#[test]
+fn clones_of_chunks_in_any_order() {
+    for n in 0..9u8 {
+        let mut text: IoBufs = [IoBuf::new(), IoBuf::from(vec![n])].into();
+        (0..n).for_each(|i| text.append(vec![i].into()));
+        (0..n).for_each(|i| text.prepend(vec![i].into()));
+        let bytes: Vec<u8> = (0..n).rev().chain([n]).chain(0..n).collect();
+        assert_eq!((text.clone(), text.chunk_count()), (bytes.into(), text.clone().chunks().len()));
+    }
+    assert!(IoBufs::from([IoBuf::new(), IoBuf::new()]).is_empty());
+}
+
 // Each call works within the fixed capacity.
 #[test]
 fn a_writable_buffer_as_a_vec() {

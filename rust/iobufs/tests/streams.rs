@@ -119,7 +119,7 @@ const READ: [(&[u8], &[u8], &str); 5] = [
     (b"\x03abc\0\x05hello", b"abc||hello|", "end"),
     (b"\x05hell", b"", "the input ends inside a frame"),
     (b"\x88", b"", "the input ends inside a frame"),
-    (b"\0\x09aaaaaaaaa", b"|", "bad frame: the length 9 is outside the range"),
+    (b"\0\x09aaaaaaaaa", b"|", "bad frame: the length 9 isn't accepted"),
     (b"\x80\0", b"", "bad frame: invalid varint"),
 ];
 
@@ -171,7 +171,7 @@ fn errors_of_reads() {
         (
             Narrow::new(b"\x09", 2),
             |it| matches!(it, FrameError::Bad(Error::InvalidLength(9))),
-            "the length 9 is outside the range",
+            "the length 9 isn't accepted",
             ErrorKind::InvalidData,
         ),
         (

@@ -34,6 +34,28 @@ fn readers() {
     read_by_trait(row);
 }
 
+/// Each number of the trait, within a chunk and across chunks, compared with a slice's.
+#[test]
+fn numbers() {
+    macro_rules! compare {
+        ($($get:ident)*) => {$(
+            let bytes: Vec<u8> = (129..145).collect();
+            let mut slice = &bytes[..];
+            let wanted = (slice.$get(), slice.len());
+            let mut view = IoBuf::from(bytes.clone());
+            assert_eq!((Buf::$get(&mut view), view.len()), wanted, stringify!($get));
+            for n in [1, 3, 16] {
+                let mut text: IoBufs = bytes.chunks(n).map(IoBuf::copy_from_slice).collect();
+                assert_eq!((Buf::$get(&mut text), text.len()), wanted, "{}, chunks of {n}", stringify!($get));
+            }
+        )*};
+    }
+    compare! {
+        get_u8 get_i8 get_u16 get_u16_le get_i16 get_i16_le get_u32 get_u32_le get_i32 get_i32_le
+        get_u64 get_u64_le get_i64 get_i64_le get_u128 get_i128_le get_f64
+    }
+}
+
 #[test]
 fn chunks() {
     let text = IoBufs::from([IoBuf::from(b"ab"), IoBuf::from(b"cd")]);

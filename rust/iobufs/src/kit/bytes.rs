@@ -1,5 +1,5 @@
 //! The kit's `bytes` over the crate `bytes`. An allocation that fails ends the process, so no call here returns an
-//! error.
+//! error for it.
 #![forbid(unsafe_code)]
 use super::base::{self, AllocError, AllocFailed, Global};
 use super::spare::show_again;

@@ -36,7 +36,7 @@ impl IoBufsMut {
     /// Makes `n` bytes of the spare capacity readable, the buffers filled in order. Panics if there are fewer.
     ///
     /// # Safety
-    /// They are written.
+    /// The caller has written them.
     #[track_caller]
     pub(crate) unsafe fn fill(&mut self, n: usize) {
         assert!(n <= self.remaining_mut(), "{}", crate::error::PAST);

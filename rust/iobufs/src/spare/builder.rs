@@ -18,7 +18,7 @@ impl Builder {
     /// Makes `n` bytes of it readable. Panics if there are fewer.
     ///
     /// # Safety
-    /// They are written.
+    /// The caller has written them.
     #[inline]
     #[track_caller]
     pub(crate) unsafe fn fill(&mut self, n: usize) {

@@ -14,7 +14,7 @@ impl IoBufMut {
     /// Makes the first `n` bytes of the spare capacity readable. Panics if there are fewer.
     ///
     /// # Safety
-    /// They are written.
+    /// The caller has written them.
     #[inline]
     #[track_caller]
     pub(crate) unsafe fn fill(&mut self, n: usize) {
