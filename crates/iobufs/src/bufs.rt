@@ -505,7 +505,7 @@ impl IoBufs {
         }
     }
 
-    /// Writes all bytes, up to `BATCH` chunks at a time, and drops those that the writer takes (own). It allocates
+    /// Writes all bytes, up to 64 chunks at a time, and drops those that the writer takes (own). It allocates
     /// nothing itself. An error is the writer's, or `ErrorKind::WriteZero` if it takes none. An error after bytes of
     /// the same write may be dropped (`write_chunks_again`). The other bytes are left, and `write_to` may be called
     /// again. An interrupted write is tried again; after 2^64 - 1 tries the error is `ErrorKind::TimedOut`.

@@ -5,8 +5,9 @@ use iobufs_frames::{FrameError, FrameReader, FrameWriter};
 use std::io::{Read, Write};
 
 // [docs: echo]
-/// Sends each frame that is read, until the input ends. The writer is flushed before a read, or an error, but not while
-/// a whole frame is held. An error loses no frame that can be sent, and sends none twice: `echo` may be called again.
+/// Sends each frame that is read, until the input ends. The writer is flushed before a read, and before an error of
+/// the reader, but not while a whole frame is held. An error loses no frame that can be sent, and sends none twice:
+/// `echo` may be called again.
 pub fn echo<R: Read + Drop, W: Write + Drop>(
     from: &mut FrameReader<R>,
     to: &mut FrameWriter<W>,

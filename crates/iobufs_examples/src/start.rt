@@ -1,5 +1,5 @@
 // [docs: start]
-// A log of entries, sent as frames: a whole crate to begin with.
+// A log of entries, sent as frames: code to begin with.
 ghost use Rattle.std.specs.Prelude.{◌≡◌, ◌++◌, [], ◌∷◌, None, Ok, Option, Result, Some, IfNone, IfOk, IfSome, OnErr, OnOk};
 ghost use Rattle.std.specs.Int.{w64, to_be_bytes};
 ghost use Rattle.std.specs.Io.KnownBytes.{Appends};

@@ -11,7 +11,7 @@ use std::alloc::Global;
 use std::io::{self, ErrorKind, Read};
 
 // [docs: fill_once]
-// Reads once into the spare capacity of the buffers, and returns how many bytes came.
+// Reads at most 512 bytes into the spare capacity of the buffers, if there is some, and returns how many came.
 #[tactic(auto, using(iobufs::proofs::CallerFacts::storing))]
 fn fill_once<R: Read>(from: &mut R, parts: &mut IoBufsMut) -> io::Result<usize>
     ensures stored { IsStored (R.remaining from.old) (R.remaining from.new) parts.old parts.new }

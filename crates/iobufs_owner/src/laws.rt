@@ -40,7 +40,8 @@ pub fn room_law()
         → All (λ reply. reply ≢ Refused Room) replies }
 {}
 
-/// A step is refused by the cause that holds, and otherwise only for memory that it is denied or for a full table.
+/// A step is refused by the first cause that holds. If none holds, it is refused only with `Memory`, if memory is
+/// denied, or with `Room`.
 pub fn cause_law()
     ensures { (w next : World) → (step : Step) → (reply : Reply) → Steps w step reply next
         → IsCaused (may_take step.act) (cause_of w step) reply }

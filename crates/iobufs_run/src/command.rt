@@ -40,12 +40,12 @@ pub enum Cmd {
         dst: usize,
         bytes: Vec<u8>,
     },
-    /// Appends bytes to a writable buffer.
+    /// Puts bytes into the spare capacity of a writable buffer.
     Put {
         target: usize,
         bytes: Vec<u8>,
     },
-    /// Appends one byte `n` times to a writable buffer.
+    /// Puts one byte `n` times into the spare capacity of a writable buffer.
     Fill {
         target: usize,
         byte: u8,

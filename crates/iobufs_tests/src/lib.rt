@@ -1,4 +1,4 @@
-// Tests of what no contract says: worked examples, success, sharing, printed text.
+// Worked examples, and tests of what no contract says: success, sharing, printed errors.
 // `callers` tests the crates over the buffers, and `owner` the owner machine.
 #![tactic(auto)]
 

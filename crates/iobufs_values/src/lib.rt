@@ -5,8 +5,8 @@
 //!   tuples. `signed` and `list`: signed numbers, and lists.
 //! - `parts`: types that are read and written as the tuple of their fields.
 //! - `kinds`: a byte for the kind followed by a value, and a value of one of two kinds.
-//! - `specs/`: `Form` has what a value has to meet, in one record; `Forms`, `Kinds`, `Listed` and `Signed` that each
-//!   value meets it.
+//! - `specs/`: `Form` has what a value has to meet, in one record; `Forms`, `Kinds`, `Listed` and `Signed` have proofs
+//!   that each value meets it.
 #![tactic(auto)]
 
 mod fault;

@@ -1,4 +1,4 @@
-// Worked examples of encoding, which no contract gives: lengths, views, and types of several fields.
+// Worked examples of encoding and decoding: lengths, numbers, views, and types of several fields.
 #![tactic(auto)]
 
 // The cases of a table, one a line.

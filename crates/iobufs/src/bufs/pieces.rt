@@ -363,7 +363,7 @@ impl Pieces {
         }
     }
 
-    /// Makes a value of the first chunk, and removes it; an only chunk leaves an empty one.
+    /// Makes a value of the first chunk, and removes it; a single chunk leaves an empty one.
     pub(super) fn take_first<T: OwnedBytes>(&mut self, alloc: Global) -> Result<T, BufError>
         ensures made { IfOk result (T.makes (piece_at self.old 0)) }
         ensures left { OnOk result (self.new ≡ behind_first self.old) }

@@ -135,7 +135,7 @@ pub trait Read: Sized {
         → IsReadAlike same a b };
 }
 
-/// A value that is read back as it was written, if the configuration admits it and no allocation fails (the codec's
+/// A value that is read back as it was written, if the configuration accepts it and no allocation fails (the codec's
 /// `Codec`).
 pub trait Codec: Write + Read {
     // Which values a configuration admits.

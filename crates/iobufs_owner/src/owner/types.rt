@@ -1,7 +1,7 @@
 //! The types of the machine: its tables, steps and replies.
 
-/// A block of storage; the bytes `base` to `base + size` are its own. In the original what a `Storage` keeps alive, a
-/// `Storage::Native` or the `Bytes` of a `Storage::External`, or what a `Descriptor` describes.
+/// A block of storage; the bytes `base` to `base + size` are its own. The original's block is what a `Storage` keeps
+/// alive, or what a `Descriptor` describes.
 #[derive(Clone, Copy, Debug, PartialEq, Eq, Drop)]
 pub struct Block {
     /// Its first address.
@@ -158,7 +158,7 @@ pub enum Refusal {
     Idle,
     /// The number was never given, or the handle is gone.
     NoHandle,
-    /// The handle is a view and has to be writable, or the reverse, or it has no block.
+    /// The handle is a view and has to be writable, or the reverse. Or it has no block, and the call requires one.
     WrongKind,
     /// An exclusive call on a handle with an unfinished clone or slice.
     Borrowed,
