@@ -35,8 +35,9 @@
  * The comment of a call that returns a status ends with one line or two:
  *   Fails: the statuses other than IOBUFS_OK, with their causes. A call that has IOBUFS_MEMORY there may allocate,
  *     and returns it if that fails; no other call allocates. "(reserved)": for a later version. The call doesn't
- *     allocate as it is. Its contract promises that only for no bytes, for those of `iobuf_from_static`, for a split
- *     or a take of all bytes, and for a builder in which no bytes were put.
+ *     allocate as it is. Its contract promises that only for bytes of `iobuf_from_static`, for no bytes (except that
+ *     `iobuf_clone` keeps the storage of an emptied view), for a split or a take of all bytes, and for a builder in
+ *     which no bytes were put.
  *   Keeps: what is unchanged after a failure.
  * The name in brackets is the original's; "own" if it has none.
  */
@@ -329,11 +330,11 @@ IOBUFS_CHECKED iobufs_status iobufs_take(struct iobufs_at *bufs, size_t n, struc
 /* Takes the n bytes after the first `skip`, which are dropped too, as one view, as iobufs_take does. (own)
  * Fails: IOBUFS_END_OF_BUFFER if there are fewer; IOBUFS_MEMORY, for the copy. */
 IOBUFS_CHECKED iobufs_status iobufs_take_after(struct iobufs_at *bufs, size_t skip, size_t n, struct iobuf_at *out);
-/* All bytes as one view, with a copy of several chunks. It is left empty, also after an error: clone it first to
+/* All bytes as one view, with a copy of several chunks. `bufs` is left empty, also after an error: clone `bufs` first to
  * keep it. (coalesce)
  * Fails: IOBUFS_BAD_LAYOUT if several chunks have more than SSIZE_MAX bytes; IOBUFS_MEMORY, for the copy. */
 IOBUFS_CHECKED iobufs_status iobufs_coalesce(struct iobufs_at *bufs, struct iobuf_at *out);
-/* The only chunk as a view; it is left empty. (try_into_single)
+/* The only chunk as a view; `bufs` is left empty. (try_into_single)
  * Fails: IOBUFS_DECLINED if there are more.
  * Keeps: the chunks. */
 IOBUFS_CHECKED iobufs_status iobufs_try_into_single(struct iobufs_at *bufs, struct iobuf_at *out);
@@ -354,7 +355,7 @@ void iobufsmut_from_mut(struct iobufmut_at *part, struct iobufsmut_at *out);
 IOBUFS_CHECKED iobufs_status iobufsmut_from_parts(struct iobufmut_at *buffers, size_t n, struct iobufsmut_at *out);
 /* The number of readable bytes. (len) */
 size_t iobufsmut_len(const struct iobufsmut_at *parts);
-/* How many bytes fit, counted from the first readable one. (capacity) */
+/* The sum of the parts' capacities; a drained part counts with its spare capacity. (capacity) */
 size_t iobufsmut_capacity(const struct iobufsmut_at *parts);
 /* How many bytes may still be put. (BufMut::remaining_mut) */
 size_t iobufsmut_remaining_mut(const struct iobufsmut_at *parts);
@@ -521,7 +522,7 @@ void iobufs_frames_drop(struct iobufs_frames_at *frames);
 /* Says how lengths are written from the next frame on, by an `enum iobufs_prefix`. Headers have nothing else then. (own)
  * Fails: IOBUFS_BAD_KIND if it is none. */
 IOBUFS_CHECKED iobufs_status iobufs_frames_set_prefix(struct iobufs_frames_at *frames, uint8_t prefix);
-/* Says how headers are laid out from the next frame on. (own)
+/* Sets the layout of the headers, from the next frame on. (own)
  * Fails: IOBUFS_BAD_KIND if `layout->prefix` is no `enum iobufs_prefix`. */
 IOBUFS_CHECKED iobufs_status iobufs_frames_set_layout(struct iobufs_frames_at *frames, const struct iobufs_layout *layout);
 /* How many bytes were fed and not taken. (own) */
@@ -576,10 +577,10 @@ void iobufs_received_drop(struct iobufs_received_at *received);
 /* An empty receive block of frames whose lengths are written as an `enum iobufs_prefix`. (own)
  * Fails: IOBUFS_BAD_KIND if it is none. */
 IOBUFS_CHECKED iobufs_status iobufs_received_new(uint8_t prefix, struct iobufs_received_at *out);
-/* An empty receive block of frames whose headers are laid out so. (own)
+/* An empty receive block of frames with this layout. (own)
  * Fails: IOBUFS_BAD_KIND if `layout->prefix` is no `enum iobufs_prefix`. */
 IOBUFS_CHECKED iobufs_status iobufs_received_with_layout(const struct iobufs_layout *layout, struct iobufs_received_at *out);
-/* Says how headers are laid out from the next frame on. (own)
+/* Sets the layout of the headers, from the next frame on. (own)
  * Fails: IOBUFS_BAD_KIND if `layout->prefix` is no `enum iobufs_prefix`; IOBUFS_DECLINED if there is no receive block. */
 IOBUFS_CHECKED iobufs_status iobufs_received_set_layout(struct iobufs_received_at *received, const struct iobufs_layout *layout);
 /* How many bytes came and were not taken. (own) */

@@ -14,8 +14,8 @@
 //! A view that is read shares the buffer's storage, if it is in one chunk. **A value is read whole: if that fails, the
 //! buffer is unchanged.**
 //!
-//! A struct of a caller is written and read as the tuple of its fields, by [`fields!`](crate::fields). An enum is a byte
-//! that says which variant it is, and then the variant's fields, by [`kinds!`](crate::kinds):
+//! A struct of a caller is written and read as the tuple of its fields, by [`fields!`](crate::fields). An enum is a
+//! byte that says which variant it is, and then the variant's fields, by [`kinds!`](crate::kinds):
 //!
 //! ```
 //! use iobufs::IoBuf;
@@ -35,8 +35,8 @@
 //! assert!(Event::read_cfg(&mut IoBuf::from(b"\x01\0\0\0\x07\x05"), &()).is_err()); // an invalid `bool`
 //! ```
 //!
-//! Both write a [`ByParts`], which types that need more implement themselves. `examples/client.rs` sends such records
-//! in frames, and keeps them in pages.
+//! Both macros write an impl of [`ByParts`]. A type that needs more implements it itself. `examples/client.rs` sends
+//! such records in frames, and keeps them in pages.
 #![forbid(unsafe_code)]
 use crate::error::{LAYOUT, PAST, fault, out_of_memory};
 use crate::kit::{Global, bytes as kit};
@@ -198,7 +198,7 @@ impl<T: Written + values::Look> Value for T {}
 /// assert_eq!((7u16, "one".to_string()).encode(), "\0\x07\x03one");
 /// ```
 pub trait Encode {
-    /// Returns the number of bytes.
+    /// Returns how many bytes the encoded value has.
     ///
     /// ```
     /// # use iobufs::codec::Encode;
@@ -568,9 +568,10 @@ macro_rules! by_parts {
     };
 }
 
-/// Makes a struct of one to six named fields, without type parameters, a value, field by field. A field's requirement is after its `=`: a range of
-/// lengths, or for a `Vec<u16>` such as `((..=8).into(), ())`. A field without one requires `()`. For more fields, write
-/// a [`ByParts`](crate::codec::ByParts) whose `Parts` has tuples in a tuple, as `((u8, u16, u32), String)`.
+/// Makes a struct of one to six named fields, without type parameters, a value, field by field. A field's requirement
+/// is after its `=`: a range of lengths, or for a `Vec<u16>` such as `((..=8).into(), ())`. A field without one
+/// requires `()`. For more fields, write a [`ByParts`](crate::codec::ByParts) whose `Parts` has tuples in a tuple, as
+/// `((u8, u16, u32), String)`.
 ///
 /// ```
 /// use iobufs::codec::{Decode, Encode};

@@ -27,9 +27,10 @@ pub enum Error {
     EndOfBuffer,
     /// The bytes are an invalid varint: of more than 64 bits, or not in the shortest form.
     InvalidVarint,
-    /// This length is outside the range, or can't be the length of a frame. A frame that is read has it if the number in
-    /// its header is below what the layout [`counts`](crate::Layout::counts); the error has that number. A frame that is
-    /// written has it if the header has no form for it, or the layout has another number of bytes around the length.
+    /// This length is outside the range, or can't be the length of a frame. A frame that is read has it if the number
+    /// in its header is below what the layout [`counts`](crate::Layout::counts); the error has that number. A frame
+    /// that is written has it if the header has no form for it, or the layout has another number of bytes around the
+    /// length.
     InvalidLength(usize),
     /// A byte that is neither 0 nor 1.
     InvalidBool,
@@ -102,7 +103,7 @@ pub(crate) fn too_short(error: TryGetError) -> ! {
     panic!("{error}")
 }
 
-/// Panics as its `IoBufs` and `IoBufsMut` do.
+/// Panics as the original's `IoBufs` and `IoBufsMut` do.
 #[cold]
 #[track_caller]
 pub(crate) fn short_chunks(error: TryGetError) -> ! {
@@ -152,7 +153,7 @@ fn failed(cause: core::BufError, bytes: Option<usize>, message: &str) -> ! {
     }
 }
 
-/// Returns what a call shared. Ends the process if an allocation failed, which is its only error.
+/// Returns the result of a call whose only error is a failed allocation. That error ends the process.
 #[inline]
 pub(crate) fn shared<T, E>(made: Result<T, E>) -> T {
     made.unwrap_or_else(|_| out_of_memory(None))

@@ -67,9 +67,9 @@ writes! {
     Builder, |self, src| self.0.write(src);
 }
 
-/// A writer whose count is an error if it is above all chunks of one write. The proved calls assume that a writer takes
-/// no more than it was given. A writer without a vectored write is given the first of the chunks alone; a count above
-/// that, and not above all, isn't found out.
+/// A writer that returns an error if the inner writer's count is above the sum of the chunks' lengths. The proved calls
+/// assume that a writer takes no more than it was given. A writer without a vectored write is given the first chunk
+/// alone; a count above that, but not above the sum, isn't noticed.
 pub(crate) struct Honest<W> {
     pub(crate) to: W,
     /// Whether it took bytes that aren't dropped yet. It stays so if the drop of an owner panics.

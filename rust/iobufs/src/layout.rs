@@ -41,19 +41,19 @@ impl Layout {
         Layout { before: 0, prefix, after: 0, counts: 0 }
     }
 
-    /// Has `n` bytes before the length.
+    /// Sets how many bytes are before the length.
     pub const fn before(mut self, n: u8) -> Self {
         self.before = n;
         self
     }
 
-    /// Has `n` bytes between the length and the body.
+    /// Sets how many bytes are between the length and the body.
     pub const fn after(mut self, n: u8) -> Self {
         self.after = n;
         self
     }
 
-    /// Counts `n` bytes in the length besides those of the body.
+    /// Sets how many bytes the length counts besides those of the body.
     pub const fn counts(mut self, n: u8) -> Self {
         self.counts = n;
         self
@@ -72,7 +72,7 @@ impl From<Prefix> for Layout {
     }
 }
 
-/// A frame with its header, as an `IoBuf` or an `IoBufs`, in the storage that it was read to.
+/// A frame with its header, as an `IoBuf` or an `IoBufs`.
 #[derive(Clone, Debug)]
 pub struct Whole<T> {
     pub(crate) header: usize,

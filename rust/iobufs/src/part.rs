@@ -9,7 +9,7 @@ use std::alloc::Layout;
 use std::mem;
 use std::num::NonZeroUsize;
 
-/// One chunk of storage to write, of a fixed capacity, which no other buffer shares.
+/// One chunk of storage to write, which no other buffer shares.
 ///
 /// ```
 /// let mut buf = iobufs::IoBufMut::with_capacity(4);
@@ -255,7 +255,7 @@ impl IoBufMut {
         self.put_slice(bytes);
     }
 
-    /// Keeps the first `len` bytes, or puts `value` until there are as many.
+    /// Keeps the first `len` bytes, or puts `value` until there are `len`.
     ///
     /// ```
     /// let mut buf = iobufs::IoBufMut::with_capacity(4);
@@ -392,7 +392,8 @@ impl From<Vec<u8>> for IoBufMut {
     }
 }
 
-/// Recovered as by `IoBuf::try_into_mut`, else copied. By way of a `Bytes`, the storage of one that nothing shares is kept:
+/// Recovers the storage as `IoBuf::try_into_mut` does, or copies. By way of a `Bytes`, storage of a `Bytes` is kept
+/// too, if no other handle shares it, and it is neither static nor an owner's:
 ///
 /// ```
 /// use bytes::Bytes;

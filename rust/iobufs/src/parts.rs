@@ -80,7 +80,7 @@ impl IoBufsMut {
         self.0.as_single_mut().map(IoBufMut::wrap_mut)
     }
 
-    /// Returns how many bytes fit, counted from the first readable one.
+    /// Returns the sum of the buffers' capacities. A drained buffer counts with its spare capacity.
     ///
     /// ```
     /// let bufs = iobufs::IoBufsMut::from([1, 2].map(iobufs::IoBufMut::with_capacity));
@@ -173,8 +173,8 @@ impl IoBufsMut {
         IoBufs(shared(self.0.freeze(Global)))
     }
 
-    /// Coalesces the buffers into one: a single buffer as it is. The bytes of several are copied, of two or three perhaps
-    /// into the storage of the first.
+    /// Coalesces the buffers into one: a single buffer as it is. The bytes of several are copied, of two or three
+    /// perhaps into the storage of the first.
     ///
     /// ```
     /// let bufs = iobufs::IoBufsMut::from([b"ab", b"cd"].map(iobufs::IoBufMut::from));
@@ -182,7 +182,7 @@ impl IoBufsMut {
     /// ```
     ///
     /// # Panics
-    /// Panics if the bytes pass `isize::MAX`. If the copy can't be allocated, the process ends.
+    /// Panics if the bytes of several pass `isize::MAX`. If the copy can't be allocated, the process ends.
     #[track_caller]
     #[must_use]
     pub fn coalesce(self) -> IoBufMut {
@@ -216,8 +216,8 @@ impl IoBufsMut {
         dst.iter_mut().zip(self.each_chunk()).map(|(slot, chunk)| *slot = IoSlice::new(chunk)).count()
     }
 
-    /// Takes the first `n` bytes (`Buf`). They are shared if they are a single buffer, or the whole first one and it has no
-    /// spare capacity; else they are copied.
+    /// Takes the first `n` bytes (`Buf`). They are shared if they are all bytes of a single buffer, or all of the first
+    /// of several, and that has no spare capacity; else they are copied.
     ///
     /// ```
     /// let mut bufs = iobufs::IoBufsMut::from([b"ab", b"cd"].map(iobufs::IoBufMut::from));

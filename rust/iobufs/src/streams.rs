@@ -22,7 +22,7 @@ use std::{error, fmt, mem};
 #[derive(Debug)]
 #[non_exhaustive]
 pub enum FrameError {
-    /// No frame begins here, whatever follows: `Error::InvalidVarint` or `Error::InvalidLength`.
+    /// No frame of the range begins here, whatever follows: `Error::InvalidVarint` or `Error::InvalidLength`.
     Bad(Error),
     /// The input ends inside a frame.
     Cut,
@@ -102,8 +102,8 @@ pub struct FrameCodec {
 }
 
 impl FrameCodec {
-    /// Makes a codec of frames with bodies of lengths in `range`, and headers that are laid out so: as a [`Prefix`], or a
-    /// [`Layout`].
+    /// Makes a codec of frames with bodies of lengths in `range`, and headers of a [`Layout`], or of a [`Prefix`]
+    /// alone.
     ///
     /// ```
     /// use iobufs::{FrameCodec, Prefix};
@@ -181,8 +181,8 @@ impl FrameCodec {
     /// ```
     ///
     /// # Errors
-    /// Returns [`Error::InvalidLength`] if the length is outside the range, or can't be written so, or headers have bytes
-    /// around their lengths. Then `dst` is unchanged.
+    /// Returns [`Error::InvalidLength`] if the length is outside the range, or no header can have it, or headers have
+    /// bytes around their lengths. Then `dst` is unchanged.
     pub fn encode(&self, body: &IoBufs, dst: &mut BytesMut) -> Result<(), Error> {
         self.begin(&[], &[], body.len(), dst)?;
         body.for_each_chunk(|chunk| dst.extend_from_slice(chunk));
@@ -202,7 +202,7 @@ impl FrameCodec {
     /// ```
     ///
     /// # Errors
-    /// Returns [`Error::InvalidLength`] if the length is outside the range, or can't be written so, or the layout has
+    /// Returns [`Error::InvalidLength`] if the length is outside the range, or no header can have it, or the layout has
     /// another number of bytes before or after the length, or more than 22. Then `dst` is unchanged.
     pub fn encode_with(&self, before: &[u8], after: &[u8], body: &IoBufs, dst: &mut BytesMut) -> Result<(), Error> {
         self.begin(before, after, body.len(), dst)?;
@@ -238,8 +238,8 @@ impl FrameCodec {
     }
 }
 
-/// Takes frames from a reader: lengths, or headers of a [`Layout`], each followed by a body. A read fills the space of one
-/// block, which its bodies share: they aren't copied. A body keeps at most its own frame or 64 KiB, whichever is more.
+/// Takes frames from a reader: lengths, or headers of a [`Layout`], each followed by a body. Reads go into one
+/// block, which the bodies share: they aren't copied. A body keeps at most its own frame or 64 KiB, whichever is more.
 /// Copy a small body that you keep, by [`IoBuf::copy_from_slice`].
 ///
 /// ```
@@ -253,7 +253,7 @@ impl FrameCodec {
 /// # Ok::<(), Box<dyn std::error::Error>>(())
 /// ```
 ///
-/// `examples/server.rs` echoes frames over TCP so.
+/// `examples/server.rs` echoes frames over TCP, with a reader and a writer.
 pub struct FrameReader<R>(inner::FrameReader<R>);
 
 impl<R> FrameReader<R> {
@@ -268,8 +268,8 @@ impl<R> FrameReader<R> {
         Self::with_prefix(from, Prefix::Varint, range)
     }
 
-    /// Makes a reader of frames with bodies of lengths in `range`, and headers that are laid out so: as a [`Prefix`], or a
-    /// [`Layout`].
+    /// Makes a reader of frames with bodies of lengths in `range`, and headers of a [`Layout`], or of a [`Prefix`]
+    /// alone.
     ///
     /// ```
     /// use iobufs::{FrameReader, Prefix};
@@ -283,7 +283,7 @@ impl<R> FrameReader<R> {
         FrameReader(shared(inner::FrameReader::with_layout(Global, from, layout, range)))
     }
 
-    /// Lays the headers out so from the next frame on.
+    /// Sets the layout by which headers are decoded, from the next frame on.
     ///
     /// ```
     /// use iobufs::{FrameReader, Prefix};
@@ -406,8 +406,8 @@ impl<R: Read> FrameReader<R> {
     ///
     /// # Errors
     /// Returns [`FrameError::Bad`] if the length is invalid or outside the range, [`FrameError::Cut`] if the input ends
-    /// inside a frame, and [`FrameError::Io`] with the error of a read. After an error no byte is lost, and `next` may be
-    /// called again.
+    /// inside a frame, and [`FrameError::Io`] with the error of a read. After an error no byte is lost, and `next` may
+    /// be called again.
     #[allow(clippy::should_implement_trait)]
     pub fn next(&mut self) -> Result<Option<IoBuf>, FrameError> {
         Ok(self.0.next()?.map(IoBuf))
@@ -448,7 +448,7 @@ impl<R: fmt::Debug> fmt::Debug for FrameReader<R> {
 /// # Ok::<(), Box<dyn std::error::Error>>(())
 /// ```
 ///
-/// `examples/server.rs` echoes frames over TCP so.
+/// `examples/server.rs` echoes frames over TCP, with a reader and a writer.
 pub struct FrameWriter<W>(inner::FrameWriter<Honest<W>>);
 
 impl<W> FrameWriter<W> {
@@ -462,8 +462,8 @@ impl<W> FrameWriter<W> {
         Self::with_prefix(to, Prefix::Varint, range)
     }
 
-    /// Makes a writer of frames with bodies of lengths in `range`, and headers that are laid out so: as a [`Prefix`], or a
-    /// [`Layout`].
+    /// Makes a writer of frames with bodies of lengths in `range`, and headers of a [`Layout`], or of a [`Prefix`]
+    /// alone.
     ///
     /// ```
     /// use iobufs::{FrameWriter, Prefix};
@@ -479,7 +479,7 @@ impl<W> FrameWriter<W> {
         FrameWriter(inner::FrameWriter::with_layout(Global, to, layout.into().inner(), RangeCfg::new(range)))
     }
 
-    /// Lays the headers out so from the next `put` on.
+    /// Sets the layout of the headers, from the next `put` on.
     ///
     /// ```
     /// use iobufs::{FrameWriter, Prefix};
@@ -508,8 +508,8 @@ impl<W> FrameWriter<W> {
     /// ```
     ///
     /// # Errors
-    /// Returns [`Error::InvalidLength`] if the length is outside the range, or can't be written so, or headers have bytes
-    /// around their lengths. Then nothing is put.
+    /// Returns [`Error::InvalidLength`] if the length is outside the range, or no header can have it, or headers have
+    /// bytes around their lengths. Then nothing is put.
     pub fn put(&mut self, body: impl Into<IoBufs>) -> Result<(), Error> {
         self.put_with(&[], &[], body)
     }
@@ -528,7 +528,7 @@ impl<W> FrameWriter<W> {
     /// ```
     ///
     /// # Errors
-    /// Returns [`Error::InvalidLength`] if the length is outside the range, or can't be written so, or the layout has
+    /// Returns [`Error::InvalidLength`] if the length is outside the range, or no header can have it, or the layout has
     /// another number of bytes before or after the length, or more than 22. Then nothing is put.
     #[inline]
     pub fn put_with(&mut self, before: &[u8], after: &[u8], body: impl Into<IoBufs>) -> Result<(), Error> {
@@ -612,7 +612,7 @@ impl<W: Write> FrameWriter<W> {
     /// Returns the writer's error, [`WriteZero`](ErrorKind::WriteZero) if the writer takes no byte, and
     /// [`Other`](ErrorKind::Other) if it says that it took more than the chunks of one vectored write have: then it is
     /// given the same again.
-    /// After an error no byte is lost or written twice, and `send` may be called again.
+    /// After another error no byte is lost or written twice, and `send` may be called again.
     ///
     /// # Panics
     /// If the `Drop` of a body's owner panics, its bytes were sent. Then nothing more is written, and each `send`

@@ -13,7 +13,7 @@ use std::iter::FusedIterator;
 use std::ops::{Range, RangeBounds};
 use std::{fmt, mem};
 
-/// Read-only bytes in chunks, of which none is copied.
+/// Read-only bytes in chunks. Joining and splitting copy none of them.
 ///
 /// ```
 /// let mut bufs = iobufs::IoBufs::from(["ab".into(), "cde".into(), "f".into()]);
@@ -22,8 +22,8 @@ use std::{fmt, mem};
 /// assert_eq!(bufs.chunk_count(), 2);
 /// ```
 ///
-/// Clones, slices, splits and appends share each chunk's storage, and may allocate a list of several chunks. Two of them
-/// are equal if their bytes are, for every chunking.
+/// Clones, slices and splits share the storage of each chunk. They and appends may allocate a list of several chunks.
+/// Two buffers are equal if their bytes are, for every chunking.
 #[derive(Default)]
 pub struct IoBufs(pub(crate) inner::IoBufs);
 
@@ -66,8 +66,8 @@ impl IoBufs {
         self.0.is_empty()
     }
 
-    /// Returns how many chunks have a [`Bytes`] as storage: those of an owner ([`IoBuf::from_owner`]), of a `Bytes` or a
-    /// `BytesMut`, and bodies from a [`FrameReader`](crate::FrameReader).
+    /// Returns how many chunks have a [`Bytes`] as storage: those of an owner ([`IoBuf::from_owner`]), of a `Bytes` or
+    /// a `BytesMut`, and bodies from a [`FrameReader`](crate::FrameReader).
     ///
     /// ```
     /// let bufs = iobufs::IoBufs::from(["ab".into(), iobufs::IoBuf::from_owner(vec![1, 2])]);
@@ -395,8 +395,9 @@ impl IoBufs {
     ///
     /// # Errors
     /// Returns the writer's error, [`WriteZero`](io::ErrorKind::WriteZero) if the writer takes no byte, and
-    /// [`Other`](io::ErrorKind::Other) if it says that it took more than the chunks of one vectored write have. After an
-    /// error the bytes that weren't taken are left. An [`Interrupted`](io::ErrorKind::Interrupted) write is tried again.
+    /// [`Other`](io::ErrorKind::Other) if it says that it took more than the chunks of one vectored write have. After
+    /// an error the bytes that weren't taken are left. An [`Interrupted`](io::ErrorKind::Interrupted) write is tried
+    /// again.
     pub fn write_to(&mut self, to: &mut (impl Write + ?Sized)) -> io::Result<()> {
         self.0.write_to(&mut Honest { to, took: false })
     }
@@ -475,7 +476,7 @@ of_one_chunk! {
     [const N: usize] &'static [u8; N]
 }
 
-/// The bytes, with a copy of several chunks.
+/// The bytes: several chunks are copied, and one is converted as an `IoBuf` is.
 impl From<IoBufs> for Vec<u8> {
     fn from(bufs: IoBufs) -> Self {
         bufs.coalesce().into()
@@ -661,7 +662,7 @@ impl Prefix {
         }
     }
 
-    /// Writes the length `n`. Returns `None` if it doesn't fit.
+    /// Encodes the length `n`. Returns `None` if it doesn't fit.
     ///
     /// ```
     /// use iobufs::Prefix;
@@ -692,7 +693,7 @@ impl Prefix {
 pub struct Frames(iobufs_frames::Frames);
 
 impl Frames {
-    /// Makes frames to which nothing was fed, with headers that are laid out so: as a [`Prefix`], or a [`Layout`].
+    /// Makes frames to which nothing was fed, with headers of a [`Layout`], or of a [`Prefix`] alone.
     ///
     /// ```
     /// assert!(iobufs::Frames::new(iobufs::Prefix::U32Be).is_empty());
@@ -701,7 +702,7 @@ impl Frames {
         Frames(iobufs_frames::Frames::with_layout(layout.into().inner()))
     }
 
-    /// Lays the headers out so from the next frame on.
+    /// Sets the layout by which headers are decoded, from the next frame on.
     ///
     /// ```
     /// use iobufs::{Frames, Prefix};
@@ -797,8 +798,8 @@ impl Frames {
         self.0.rest().is_empty()
     }
 
-    /// Returns how many chunks have a [`Bytes`] as storage: those of an owner ([`IoBuf::from_owner`]), of a `Bytes` or a
-    /// `BytesMut`, and bodies from a [`FrameReader`](crate::FrameReader).
+    /// Returns how many chunks have a [`Bytes`] as storage: those of an owner ([`IoBuf::from_owner`]), of a `Bytes` or
+    /// a `BytesMut`, and bodies from a [`FrameReader`](crate::FrameReader).
     ///
     /// ```
     /// let mut frames = iobufs::Frames::default();

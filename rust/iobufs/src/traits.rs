@@ -1,5 +1,5 @@
-//! The traits of the crate `bytes`, and conversions from and to `Bytes` and `BytesMut`. Those to a view or a `Bytes` copy
-//! nothing; one to a buffer to write copies bytes that another handle shares.
+//! The traits of the crate `bytes`, and conversions from and to `Bytes` and `BytesMut`. Those of one
+//! chunk to a view or a `Bytes` copy nothing; one to a buffer to write may copy.
 use crate::kit::bytes as kit;
 use crate::proved::iobufs_core as inner;
 use crate::{Builder, IoBuf, IoBufMut, IoBufs, IoBufsMut};
@@ -129,7 +129,8 @@ macro_rules! conversions {
 conversions! {
     Bytes => IoBuf, |bytes| IoBuf(inner::IoBuf::from(kit::Bytes(bytes)));
     BytesMut => IoBuf, |bytes: BytesMut| IoBuf::from(bytes.freeze());
-    /// Takes the whole storage over, if no other handle shares it, and it is neither static nor an owner's; else copies.
+    /// Takes the whole storage over, if no other handle shares it, and it is neither static nor an owner's; else
+    /// copies.
     Bytes => IoBufMut, |bytes| IoBufMut::from(vec_of(bytes));
     /// Takes the whole storage over, if no other handle shares it; else copies, with the capacity.
     BytesMut => IoBufMut, |bytes: BytesMut| {

@@ -10,7 +10,7 @@ use bytes::Bytes;
 use std::mem;
 use std::ops::{Bound, RangeBounds};
 
-/// Read-only bytes in one chunk. Clones, slices and both sides of a split share their storage.
+/// Read-only bytes in one chunk. Clones, slices and both sides of a split share their storage, if they have bytes.
 ///
 /// ```
 /// let mut view = iobufs::IoBuf::from(vec![1, 2, 3]);
@@ -18,9 +18,9 @@ use std::ops::{Bound, RangeBounds};
 /// assert_eq!(view.slice(1..), [3]);
 /// ```
 ///
-/// A clone, a slice and a split of a view allocate nothing, except that the first of a [`Bytes`] made of a `Vec`, or of a
-/// `BytesMut`, may allocate. The storage lives until its last view is dropped. [`IoBufs`](crate::IoBufs) joins several
-/// views; [`try_into_mut`](Self::try_into_mut) makes one writable.
+/// A clone, a slice and a split of a view allocate nothing, except that the first of a [`Bytes`] made of a `Vec`, or of
+/// a `BytesMut`, may allocate. The storage lives until its last view is dropped. [`IoBufs`](crate::IoBufs) joins
+/// several views; [`try_into_mut`](Self::try_into_mut) makes one writable.
 ///
 /// A buffer has no order and no hash, as in the original. A key of a map says which it has:
 ///
@@ -142,7 +142,7 @@ impl IoBuf {
         self.0.is_empty()
     }
 
-    /// Returns the address of the bytes. A clone has the same.
+    /// Returns the address of the bytes. If there are some, a clone has the same.
     ///
     /// ```
     /// let view = iobufs::IoBuf::from(vec![1, 2, 3]);
@@ -175,8 +175,8 @@ impl IoBuf {
         }
     }
 
-    /// Returns the view of some of its bytes, in the same storage: [`slice`](Self::slice) by a subslice. Of no bytes it is
-    /// the empty view.
+    /// Returns the view of some of its bytes, in the same storage: [`slice`](Self::slice) by a subslice. Of no bytes it
+    /// is the empty view.
     ///
     /// ```
     /// let line = iobufs::IoBuf::from("key = value");
@@ -272,8 +272,8 @@ impl IoBuf {
     /// ```
     ///
     /// # Errors
-    /// Returns the view if another one shares its storage, or if it was made of a static slice, an owner, a [`Bytes`] or
-    /// a `BytesMut`, unless it is empty and has no storage. [`IoBufMut::from`] copies these.
+    /// Returns the view if another one shares its storage, or if it was made of a static slice, an owner, a [`Bytes`]
+    /// or a `BytesMut`, unless it is empty and has no storage. [`IoBufMut::from`] copies these.
     #[inline]
     pub fn try_into_mut(self) -> Result<IoBufMut, Self> {
         self.0.try_into_mut(Global).map(IoBufMut).map_err(IoBuf)
@@ -388,8 +388,8 @@ impl From<IoBufMut> for IoBuf {
     }
 }
 
-/// Storage that the view alone keeps comes back, with the view's bytes moved to its front; other bytes, those of a static
-/// slice or an owner among them, are copied.
+/// Storage that the view alone keeps comes back, with the view's bytes moved to its front; other bytes, those of a
+/// static slice or an owner among them, are copied.
 impl From<IoBuf> for Vec<u8> {
     #[inline]
     fn from(view: IoBuf) -> Self {
