@@ -272,7 +272,7 @@ IOBUFS_CHECKED iobufs_status iobufmut_freeze(struct iobufmut_at *part, struct io
 size_t iobufs_size(void);
 /* Makes memory an empty iobufs. (IoBufs::default) */
 void iobufs_init(struct iobufs *at);
-/* Drops the bytes; it is empty then. (Drop) */
+/* Drops the bytes; the empty iobufs is left. (Drop) */
 void iobufs_drop(struct iobufs_at *bufs);
 /* An iobufs of one view, which is left empty. (From<IoBuf>) */
 void iobufs_from_view(struct iobuf_at *src, struct iobufs_at *out);
@@ -331,7 +331,7 @@ IOBUFS_CHECKED iobufs_status iobufs_take(struct iobufs_at *bufs, size_t n, struc
  * Fails: IOBUFS_END_OF_BUFFER if there are fewer; IOBUFS_MEMORY, for the copy. */
 IOBUFS_CHECKED iobufs_status iobufs_take_after(struct iobufs_at *bufs, size_t skip, size_t n, struct iobuf_at *out);
 /* All bytes as one view, with a copy of several chunks. `bufs` is left empty, also after an error: clone `bufs` first to
- * keep it. (coalesce)
+ * keep the bytes. (coalesce)
  * Fails: IOBUFS_BAD_LAYOUT if several chunks have more than SSIZE_MAX bytes; IOBUFS_MEMORY, for the copy. */
 IOBUFS_CHECKED iobufs_status iobufs_coalesce(struct iobufs_at *bufs, struct iobuf_at *out);
 /* The only chunk as a view; `bufs` is left empty. (try_into_single)
@@ -454,13 +454,13 @@ IOBUFS_CHECKED iobufs_status iobufs_builder_finish(struct iobufs_builder_at *bui
 /* The number of bytes of a varint length: at most ten. (usize::encode_size) */
 size_t iobufs_length_size(size_t n);
 /* Reads the length at the front, from lo to hi, and drops it. (usize::read_cfg)
- * Fails: IOBUFS_END_OF_BUFFER if it may continue after the end; IOBUFS_INVALID_VARINT if it is invalid;
- *   IOBUFS_INVALID_LENGTH if it is outside, which writes it.
+ * Fails: IOBUFS_END_OF_BUFFER if the length may continue after the end; IOBUFS_INVALID_VARINT if the length is invalid;
+ *   IOBUFS_INVALID_LENGTH if the length is outside: it is written to `out` then.
  * Keeps: the bytes. */
 IOBUFS_CHECKED iobufs_status iobufs_read_length(struct iobufs_at *bufs, size_t lo, size_t hi, size_t *out);
 /* Reads the length at the front of a view, as iobufs_read_length does. (Read)
- * Fails: IOBUFS_END_OF_BUFFER if it may continue after the end; IOBUFS_INVALID_VARINT if it is invalid;
- *   IOBUFS_INVALID_LENGTH if it is outside, which writes it.
+ * Fails: IOBUFS_END_OF_BUFFER if the length may continue after the end; IOBUFS_INVALID_VARINT if the length is invalid;
+ *   IOBUFS_INVALID_LENGTH if the length is outside: it is written to `out` then.
  * Keeps: the bytes. */
 IOBUFS_CHECKED iobufs_status iobuf_read_length(struct iobuf_at *src, size_t lo, size_t hi, size_t *out);
 /* Reads a length from lo to hi and the bytes after it, as one view: shared within a chunk, a copy across chunks.
@@ -553,14 +553,14 @@ IOBUFS_CHECKED iobufs_status iobufs_frames_next_whole(struct iobufs_frames_at *f
 
 /* Writes a body's length n, which is sent before the body, as an `enum iobufs_prefix` to `out`, and its size to
  * `len`: at most ten bytes. (own)
- * Fails: IOBUFS_BAD_KIND if the prefix is unknown; IOBUFS_TOO_LONG if n can't be written so; IOBUFS_OUT_OF_RANGE if
- *   it doesn't fit into `room` bytes.
+ * Fails: IOBUFS_BAD_KIND if the prefix is unknown; IOBUFS_TOO_LONG if no length of this form is n;
+ *   IOBUFS_OUT_OF_RANGE if the length doesn't fit into `room` bytes.
  * Keeps: `out` and `len`. */
 IOBUFS_CHECKED iobufs_status iobufs_frames_head(uint8_t prefix, size_t n, uint8_t *out, size_t room, size_t *len);
 /* Writes the header of a body of n bytes, which is sent before it, to `out`, and its size to `len`: at most 32 bytes. The
  * `count` bytes of `around` are those around its length: the first `layout->before` come before it, the others after. (own)
  * Fails: IOBUFS_BAD_KIND if `layout->prefix` is unknown; IOBUFS_TOO_LONG if `count` isn't `before` and `after` together, or is
- *   above 22, if the length can't be written so, or if header and body would pass SIZE_MAX; IOBUFS_OUT_OF_RANGE if the header
+ *   above 22, if no length of this form is n with `counts`, or if header and body would pass SIZE_MAX; IOBUFS_OUT_OF_RANGE if the header
  *   doesn't fit into `room` bytes.
  * Keeps: `out` and `len`. */
 IOBUFS_CHECKED iobufs_status iobufs_frames_header(const struct iobufs_layout *layout, const uint8_t *around, size_t count, size_t n,
@@ -625,8 +625,8 @@ static inline uint64_t iobufs_swap64(uint64_t n) {
 
 /* ---- one iobufs at the end of another ---- */
 
-/* Moves the chunks of `other` to the end of `bufs`, and leaves it empty. It is made of calls above: the chunks share
- * their storage until they leave `other`. (own)
+/* Moves the chunks of `other` to the end of `bufs`, and leaves `other` empty. This function is made of calls above: the
+ * chunks share their storage until they leave `other`. (own)
  * Fails: IOBUFS_TOO_LONG if the length would pass SIZE_MAX; IOBUFS_DECLINED if both are one buffer; IOBUFS_MEMORY,
  *   after which some of the first chunks have moved, and the others stay.
  * Keeps: both, except after IOBUFS_MEMORY. */
