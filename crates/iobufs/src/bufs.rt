@@ -181,7 +181,7 @@ impl IoBufs {
         }
     }
 
-    /// Takes the first `at` bytes as `split_to` does, if there are so many (own); otherwise nothing changes. If
+    /// Acts as `split_to` if there are `at` bytes; otherwise returns `None` and changes nothing (own). If
     /// allocation fails, the result is `BufError::Memory` and nothing changes.
     pub fn try_split_to(&mut self, alloc: Global, at: usize) -> Option<Result<IoBufs, BufError>>
         ensures short { result ≡ None ↔ (text_len self.old < at) }
@@ -194,7 +194,7 @@ impl IoBufs {
         Some(self.split_to(alloc, at))
     }
 
-    /// Returns the bytes of a range as `slice` does, if it is within the bytes (own).
+    /// Acts as `slice` if the range is within the bytes; otherwise returns `None` (own).
     pub fn try_slice(&self, alloc: Global, range: Range<usize>) -> Option<Result<IoBufs, BufError>>
         ensures fits { IsSome result ↔ ((range.start ≤ range.end) × (range.end ≤ text_len self.now)) }
         ensures ok { IfSome result (λ answer. IfOk answer
@@ -210,7 +210,7 @@ impl IoBufs {
         Some(self.slice(alloc, range))
     }
 
-    /// Finds the chunk that contains an offset as `locate` does, if it is within the bytes (own).
+    /// Acts as `locate` if the offset is within the bytes; otherwise returns `None` (own).
     pub fn try_locate(&self, at: usize) -> Option<Located>
         ensures inside { IsSome result ↔ (at < text_len self.now) }
         ensures index { IfSome result (λ place. place.index + 1 ≡ keys_upto self.now at) }
@@ -491,7 +491,7 @@ impl IoBufs {
     }
 
     /// Joins all chunks into one; several are copied (`IoBufs::coalesce`). Fails with `BufError::BadLayout` exactly if
-    /// several hold more than `isize::MAX` bytes.
+    /// several hold more than `isize::MAX` bytes, and with `BufError::Memory` if allocation fails.
     pub fn coalesce(self, alloc: Global) -> Result<IoBuf, BufError>
         ensures ok { IfOk result (λ view. of_view view ≡ text_coalesced self) }
         ensures single { is_single self ≡ true → IsOk result }
@@ -505,10 +505,10 @@ impl IoBufs {
         }
     }
 
-    /// Writes all bytes, up to 64 chunks at a time, and drops those that the writer takes (own). It allocates
-    /// nothing itself. An error is the writer's, or `ErrorKind::WriteZero` if it takes none. An error after bytes of
-    /// the same write may be dropped (`write_chunks_again`). The other bytes are left, and `write_to` may be called
-    /// again. An interrupted write is tried again; after 2^64 - 1 tries the error is `ErrorKind::TimedOut`.
+    /// Writes all bytes, up to 64 chunks at a time, and drops the bytes that the writer takes (own). Allocates nothing
+    /// itself. If it fails, the other bytes are left, and `write_to` may be called again. The error is the writer's, or
+    /// `ErrorKind::WriteZero` if the writer takes no byte. An interrupted write is tried again; after 2^64 - 1 tries
+    /// the error is `ErrorKind::TimedOut`. An error after bytes of one write may be dropped (`write_chunks_again`).
     #[tactic(auto, using(crate::proofs::CallerFacts::sending, crate::proofs::CallerFacts::resting))]
     pub fn write_to<W: Write>(&mut self, to: &mut W) -> io::Result<()>
         ensures sent { IsSent (W.contents to.old) (W.contents to.new) self.old.bytes self.new.bytes }

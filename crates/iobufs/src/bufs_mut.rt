@@ -216,7 +216,8 @@ impl IoBufsMut {
         self.len() == 0
     }
 
-    /// Returns how many bytes fit, counted from the first readable one (`IoBufsMut::capacity`).
+    /// Returns the sum of the buffers' capacities (`IoBufsMut::capacity`). A drained buffer counts with its spare
+    /// capacity.
     #[tactic(auto, using(crate::proofs::Parts::FewLaws::keeping))]
     pub fn capacity(&self) -> usize
         ensures sum { result ≡ parts_capacity self.now }
@@ -349,8 +350,8 @@ impl IoBufsMut {
         self.shape.single_mut()
     }
 
-    /// Returns the address of the first chunk of the readable bytes, to write there; it isn't null, even if there are
-    /// none (own, for layers).
+    /// Returns the address of the first chunk of the readable bytes for writing, which isn't null, even if no byte is
+    /// readable (own, for layers).
     pub fn chunk_ptr(&mut self) -> *mut u8
         ensures address { result ≡ null_ptr → ⊥ }
         ensures same { self.new ≡ self.old }
@@ -362,8 +363,8 @@ impl IoBufsMut {
         }
     }
 
-    /// Returns the address of the readable bytes of a buffer by its index, to write there; it isn't null, even if there
-    /// are none (own, for layers).
+    /// Returns the address of the readable bytes of a buffer by its index for writing, which isn't null, even if no
+    /// byte is readable (own, for layers).
     pub fn part_ptr(&mut self, i: usize) -> *mut u8
         requires { i < length self.old }
         ensures address { result ≡ null_ptr → ⊥ }
@@ -392,9 +393,10 @@ impl IoBufsMut {
         }
     }
 
-    /// Returns one buffer; the bytes of several become one without spare capacity (`IoBufsMut::coalesce`). That one may
-    /// have the storage of the first, if all bytes fit it, and it has at most about 4 KiB or about twice as many bytes.
-    /// Fails with `BufError::BadLayout` exactly if two or more hold more than `isize::MAX` bytes.
+    /// Returns the only buffer, or the bytes of several in one without spare capacity (`IoBufsMut::coalesce`). Up to
+    /// three may be joined in the storage of the first, if all bytes fit it, and it has at most about 4 KiB or about
+    /// twice the bytes. Fails with `BufError::BadLayout` exactly if two or more hold more than `isize::MAX` bytes, and
+    /// with `BufError::Memory` if allocation fails.
     #[tactic(auto, using(crate::proofs::Parts::Coalesced::coalescing, crate::proofs::Parts::FewLaws::freezing_few))]
     pub fn coalesce(mut self, alloc: Global) -> Result<IoBufMut, BufError>
         ensures ok { IfOk result (λ part. part ≡ parts_coalesced self) }

@@ -71,7 +71,7 @@ fn make_room(pushes: &mut Gapped, pushable: usize, len: usize) -> Result<(), Buf
 
 impl Builder {
     /// Makes a builder for this many inline bytes (`Builder::new`). Fails with `BufError::BadLayout` above
-    /// `isize::MAX`.
+    /// `isize::MAX`, and with `BufError::Memory` if allocation fails.
     #[tactic(auto, using(crate::proofs::Building::BuildLaws::building))]
     pub fn new(alloc: Global, capacity: usize) -> Result<Builder, BufError>
         ensures ok { IfOk result (λ b. b ≡ empty_building capacity) }
@@ -204,8 +204,8 @@ impl BufsMut for Builder {
 /// Encoding into chunks (`EncodeExt`).
 pub trait EncodeExt: Write {
     /// Encodes into chunks: inline bytes in one buffer of exactly their size, pushed views not copied
-    /// (`EncodeExt::encode_iobufs`). Fails with `Error::TooLong` if `encode_size` is `None`, then with
-    /// `Error::BadLayout` if more than `isize::MAX` bytes are inline.
+    /// (`EncodeExt::encode_iobufs`). Fails with `Error::TooLong` if `encode_size` is `None`, with `Error::BadLayout` if
+    /// more than `isize::MAX` bytes are inline, and with `Error::Memory` if allocation fails.
     final fn encode_iobufs(&self, alloc: Global) -> Result<IoBufs, Error>
     where
         Self: Sized,

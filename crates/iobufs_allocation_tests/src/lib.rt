@@ -1,7 +1,7 @@
-// Counts the allocations of calls, and fails those on small buffers in turn. `tests/costs` at the top of the
-// repository runs these tests with no allocation failing, then with the first one of each call, then with the second,
-// and so on. A call whose allocation fails has to report that, to leave what it borrowed as it was, and to give the
-// second time what it gives without a failure.
+// Counts the allocations of calls, and fails those on small buffers in turn. `tests/costs` at the top of the repository
+// runs these tests with no allocation failing, then with the first one of each call, then with the second, and so on. A
+// call whose allocation fails has to report that, to leave what it borrowed as it was (except `write_bufs`, which may
+// leave a prefix), and to give the second time what it gives without a failure.
 #![tactic(auto)]
 
 // The cases of a table, one a line.

@@ -20,8 +20,8 @@ use std::alloc::Global;
 use std::marker::{Model, Send};
 use std::mem;
 
-/// The handle of a builder, or of none, in the caller's memory. No builder reads as one of capacity 0, and takes
-/// nothing.
+/// The handle of a builder, or of none, in the caller's memory. A handle without a builder reads as one of capacity 0,
+/// and takes nothing.
 #[repr(C)]
 pub struct BuilderAt {
     at: *mut u8,
@@ -58,7 +58,7 @@ fn none() -> Option<Builder>
     None
 }
 
-/// Returns the size of a builder in bytes.
+/// Returns how many bytes of memory a `Builder` takes.
 #[unsafe(no_mangle)]
 pub extern "C" fn iobufs_builder_size() -> usize
     ensures value { result ≡ 120 }
@@ -84,8 +84,8 @@ pub extern "C" fn iobufs_builder_drop(builder: &mut BuilderAt)
     *builder.get() = None;
 }
 
-/// Makes a builder for `capacity` inline bytes. Returns `Status::BadLayout` or `Status::Memory` if that fails; then
-/// `out` is unchanged.
+/// Makes a builder for `capacity` inline bytes. Returns `Status::BadLayout` above `isize::MAX`, or `Status::Memory` if
+/// an allocation fails; then `out` is unchanged.
 #[unsafe(no_mangle)]
 pub extern "C" fn iobufs_builder_new(alloc: Global, capacity: usize, out: &mut BuilderAt) -> u8
     ensures at { out.new.at ≡ out.old.at }
@@ -130,7 +130,7 @@ pub extern "C" fn iobufs_builder_put_slice(builder: &mut BuilderAt, src: &[u8]) 
     }
 }
 
-/// Writes a byte `n` times. Returns `Status::OutOfRange` if they don't fit; then nothing changes.
+/// Writes a byte `n` times. Returns `Status::OutOfRange` if `n` bytes don't fit; then nothing changes.
 #[unsafe(no_mangle)]
 pub extern "C" fn iobufs_builder_put_bytes(builder: &mut BuilderAt, value: u8, n: usize) -> u8
     ensures at { builder.new.at ≡ builder.old.at }
@@ -160,8 +160,9 @@ pub extern "C" fn iobufs_builder_put_u8(builder: &mut BuilderAt, n: u8) -> u8
     }
 }
 
-/// Pushes a view without copying, and leaves its handle empty. Returns `Status::TooLong` or `Status::Memory`, or
-/// `Status::Declined` if there is no builder; then both are unchanged.
+/// Pushes a view without copying, and leaves its handle empty. Returns `Status::TooLong` if the view is longer than
+/// pushes may still add, `Status::Memory` if an allocation fails, or `Status::Declined` if there is no builder; then
+/// both are unchanged.
 #[unsafe(no_mangle)]
 pub extern "C" fn iobufs_builder_push(builder: &mut BuilderAt, piece: &mut ViewAt) -> u8
     ensures at { (builder.new.at ≡ builder.old.at) × (piece.new.at ≡ piece.old.at) }
@@ -187,8 +188,8 @@ pub extern "C" fn iobufs_builder_push(builder: &mut BuilderAt, piece: &mut ViewA
     }
 }
 
-/// Finishes the builder to an `IoBufs`; none is left. Returns `Status::Memory` if an allocation fails; then the builder
-/// is dropped, and `out` unchanged.
+/// Finishes the builder to an `IoBufs`, which is empty if there is no builder; none is left. Returns `Status::Memory`
+/// if an allocation fails; then the builder is dropped, and `out` unchanged.
 #[unsafe(no_mangle)]
 pub extern "C" fn iobufs_builder_finish(builder: &mut BuilderAt, out: &mut TextAt) -> u8
     ensures at { (builder.new.at ≡ builder.old.at) × (out.new.at ≡ out.old.at) }

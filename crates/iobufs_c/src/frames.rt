@@ -1,4 +1,4 @@
-// Frames at their places.
+// Frames, reached by their handles.
 ghost use Rattle.std.specs.Prelude.{◌≡◌, ◌⊎◌, ◌+◌, ◌≤◌, ◌<◌, ◌^◌, ◌==◌, if◌then◌else◌, ◌++◌, length, drop, nat_le, false, true, IfNone, IfSome};
 ghost use Rattle.std.specs.Borrow.{sem, Lends, full_share};
 ghost use Rattle.std.specs.Ptr.{lies_at, room_at};
@@ -37,7 +37,7 @@ impl Model for FramesAt {
     ghost also_owns = { λ h. lies_at frames_row full_share h.at h.value };
 }
 
-// Frames may go to another thread, and their place with them (proofs/frames/FramesAt/TheSendSync).
+// Frames may go to another thread with their handle (proofs/frames/FramesAt/TheSendSync).
 unsafe impl Send for FramesAt {}
 
 impl FramesAt {
@@ -59,7 +59,7 @@ fn empty() -> Frames
     Frames::default()
 }
 
-/// Returns the size of frames in bytes.
+/// Returns how many bytes of memory a `Frames` takes.
 #[unsafe(no_mangle)]
 pub extern "C" fn iobufs_frames_size() -> usize
     ensures value { result ≡ 64 }
@@ -115,8 +115,8 @@ pub extern "C" fn iobufs_frames_rest(frames: &mut FramesAt, out: &mut TextAt) ->
     }
 }
 
-/// Feeds a view at the end, and leaves its handle empty. Returns `Status::TooLong` or `Status::Memory` if that fails;
-/// then both are unchanged.
+/// Feeds a view at the end, and leaves its handle empty. Returns `Status::TooLong` if the length would be above
+/// `usize::MAX`, or `Status::Memory` if an allocation fails; then both are unchanged.
 #[unsafe(no_mangle)]
 pub extern "C" fn iobufs_frames_feed(alloc: Global, frames: &mut FramesAt, piece: &mut ViewAt) -> u8
     ensures at { (frames.new.at ≡ frames.old.at) × (piece.new.at ≡ piece.old.at) }
@@ -142,8 +142,8 @@ pub extern "C" fn iobufs_frames_feed(alloc: Global, frames: &mut FramesAt, piece
     }
 }
 
-/// Says how the lengths before the frames are written, from the next frame on. `Status::BadKind` if the kind is
-/// unknown.
+/// Sets how lengths are written, from the next frame on; a header is then its length alone. Returns `Status::BadKind`
+/// if the kind is unknown.
 #[unsafe(no_mangle)]
 pub extern "C" fn iobufs_frames_set_prefix(frames: &mut FramesAt, kind: u8) -> u8
     ensures at { frames.new.at ≡ frames.old.at }
@@ -160,7 +160,7 @@ pub extern "C" fn iobufs_frames_set_prefix(frames: &mut FramesAt, kind: u8) -> u
     Status::Done.code()
 }
 
-/// Lays the headers of the frames out so, from the next frame on. `Status::BadKind` if the kind of the prefix is
+/// Sets the layout of the headers, from the next frame on. Returns `Status::BadKind` if the kind of the prefix is
 /// unknown.
 #[unsafe(no_mangle)]
 pub extern "C" fn iobufs_frames_set_layout(frames: &mut FramesAt, layout: &LayoutInC) -> u8
@@ -178,9 +178,9 @@ pub extern "C" fn iobufs_frames_set_layout(frames: &mut FramesAt, layout: &Layou
     Status::Done.code()
 }
 
-/// Encodes a length as a prefix does, to be sent before a body, and writes how many bytes it has: at most ten. Returns
-/// `Status::BadKind` if the prefix is unknown, `Status::TooLong` if the length can't be written so,
-/// `Status::OutOfRange` if it doesn't fit into `out`. Unless it is done, nothing is written.
+/// Encodes a length in the form of a prefix, to be sent before a body, and writes how many bytes it has: at most ten.
+/// Returns `Status::BadKind` if the prefix is unknown, `Status::TooLong` if the length doesn't fit the prefix, or
+/// `Status::OutOfRange` if the encoded length doesn't fit into `out`. If it fails, nothing is written.
 #[unsafe(no_mangle)]
 pub extern "C" fn iobufs_frames_head(prefix: u8, n: usize, out: &mut [u8], len: &mut usize) -> u8
     ensures unknown { IfNone (prefix_from_c prefix) (result ≡ code_of Status.BadKind) }
@@ -276,7 +276,7 @@ fn tell_chunks(
     }
 }
 
-/// Takes the first frame, whose length is from `lo` to `hi`. Returns `Status::EndOfBuffer` if it is not whole yet,
+/// Takes the first frame, whose body has `lo` to `hi` bytes. Returns `Status::EndOfBuffer` if it is not whole yet,
 /// `Status::InvalidVarint` or `Status::InvalidLength` if no further bytes can make it whole, or `Status::Memory`; an
 /// invalid length is written to `wrong`. Unless a frame is taken, both handles are unchanged.
 #[unsafe(no_mangle)]
@@ -297,9 +297,9 @@ pub extern "C" fn iobufs_frames_next(
     tell(found, out, wrong)
 }
 
-/// Takes the first frame with its header, and writes how many bytes the header has. It has the statuses of
-/// `iobufs_frames_next`, `Status::Memory` also for a frame of several chunks. No byte is copied. Unless a frame is
-/// taken, both handles and `header` are unchanged.
+/// Takes the first frame with its header, and writes how many bytes the header has. Returns the statuses of
+/// `iobufs_frames_next`, `Status::Memory` also for a static frame of several chunks. No byte is copied. Unless a frame
+/// is taken, both handles and `header` are unchanged.
 #[unsafe(no_mangle)]
 pub extern "C" fn iobufs_frames_next_whole(
     alloc: Global,

@@ -54,10 +54,10 @@ pub(crate) fn layout_of(said: &LayoutInC) -> Option<Layout>
 
 // The bytes around the length are one slice, so that each slice is passed in registers, as rust/c/src/lib.rs needs it.
 /// Encodes the header of a body of `n` bytes, to be sent before it, and writes how many bytes the header has: at most
-/// 32. Of the bytes around its length, `layout.before` are before it, and `layout.after` after it. Returns
+/// 32. The first `layout.before` bytes of `around` are before the length, and `layout.after` bytes after it. Returns
 /// `Status::BadKind` if the prefix is unknown, `Status::TooLong` if `around` has another number of bytes, or more than
-/// 22, if the length can't be written so, or if header and body are longer than `usize::MAX`, and `Status::OutOfRange`
-/// if the header doesn't fit into `out`. Unless it is done, nothing is written.
+/// 22, if the length doesn't fit the prefix, or if header and body are longer than `usize::MAX`, and
+/// `Status::OutOfRange` if the header doesn't fit into `out`. If it fails, nothing is written.
 #[unsafe(no_mangle)]
 pub extern "C" fn iobufs_frames_header(
     layout: &LayoutInC,

@@ -86,9 +86,9 @@ pub extern "C" fn iobufs_builder_put_length(builder: &mut BuilderAt, n: usize) -
     Status::Done.code()
 }
 
-/// Reads the varint length at the front of an `IoBufs`, from `lo` to `hi`, and drops it. Returns `Status::EndOfBuffer`,
-/// `Status::InvalidVarint`, or `Status::InvalidLength`, which writes the length to `out`; after each the `IoBufs` is
-/// unchanged.
+/// Reads the varint length at the front of an `IoBufs`, from `lo` to `hi`, and drops it. Returns `Status::EndOfBuffer`
+/// or `Status::InvalidVarint` if no valid varint is there whole, or `Status::InvalidLength` for another length, which
+/// is written to `out`; then the `IoBufs` is unchanged.
 #[unsafe(no_mangle)]
 pub extern "C" fn iobufs_read_length(
     alloc: Global,
@@ -161,7 +161,8 @@ pub extern "C" fn iobuf_read_length(
 }
 
 /// Reads a varint length from `lo` to `hi` at the front of an `IoBufs`, and the bytes after it as a view. Returns a
-/// status of `iobufs_read_length`, or `Status::Memory`; then both are unchanged.
+/// status of `iobufs_read_length`, `Status::EndOfBuffer` also if fewer bytes follow, or `Status::Memory`; then both are
+/// unchanged.
 #[unsafe(no_mangle)]
 pub extern "C" fn iobufs_read_view(
     alloc: Global,

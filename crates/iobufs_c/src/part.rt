@@ -17,7 +17,8 @@ use std::alloc::Global;
 use std::marker::{Model, Send};
 use std::mem;
 
-/// The handle of a writable buffer, or of none, in the caller's memory. No buffer reads as one of capacity 0.
+/// The handle of a writable buffer, or of none, in the caller's memory. A handle without a buffer reads as an empty one
+/// of capacity 0.
 #[repr(C)]
 pub struct PartAt {
     at: *mut u8,
@@ -69,7 +70,7 @@ fn none() -> Option<IoBufMut>
     None
 }
 
-/// Returns the size of a buffer in bytes.
+/// Returns how many bytes of memory an `IoBufMut` takes.
 #[unsafe(no_mangle)]
 pub extern "C" fn iobufmut_size() -> usize
     ensures value { result ≡ 64 }
@@ -95,8 +96,8 @@ pub extern "C" fn iobufmut_drop(part: &mut PartAt)
     *part.get() = None;
 }
 
-/// Allocates an empty buffer of exactly this capacity. Returns `Status::BadLayout` or `Status::Memory` if that fails;
-/// then `out` is unchanged.
+/// Makes an empty buffer of exactly this capacity. Returns `Status::BadLayout` above `isize::MAX`, or `Status::Memory`
+/// if an allocation fails; then `out` is unchanged.
 #[unsafe(no_mangle)]
 pub extern "C" fn iobufmut_with_capacity(alloc: Global, n: usize, out: &mut PartAt) -> u8
     ensures at { out.new.at ≡ out.old.at }
@@ -108,8 +109,8 @@ pub extern "C" fn iobufmut_with_capacity(alloc: Global, n: usize, out: &mut Part
     hand_part(IoBufMut::with_capacity(alloc, n), out)
 }
 
-/// Allocates a buffer of `n` zeros. Returns `Status::BadLayout` or `Status::Memory` if that fails; then `out` is
-/// unchanged.
+/// Makes a buffer of `n` zeros. Returns `Status::BadLayout` above `isize::MAX`, or `Status::Memory` if an allocation
+/// fails; then `out` is unchanged.
 #[unsafe(no_mangle)]
 pub extern "C" fn iobufmut_zeroed(alloc: Global, n: usize, out: &mut PartAt) -> u8
     ensures at { out.new.at ≡ out.old.at }
@@ -136,7 +137,7 @@ pub extern "C" fn iobufmut_copy_from_slice(alloc: Global, src: &[u8], out: &mut 
 }
 
 /// Makes a writable buffer of a view of native storage that no other handle has, and leaves the empty view. Returns
-/// `Status::Declined` for any other view, except an empty one without storage; then both are unchanged.
+/// `Status::Declined` for any other view, except an empty static one; then both are unchanged.
 #[unsafe(no_mangle)]
 pub extern "C" fn iobuf_try_into_mut(alloc: Global, src: &mut ViewAt, out: &mut PartAt) -> u8
     ensures at { (src.new.at ≡ src.old.at) × (out.new.at ≡ out.old.at) }
@@ -216,8 +217,8 @@ pub extern "C" fn iobufmut_remaining_mut(part: &mut PartAt) -> usize
     }
 }
 
-/// Writes the address of the readable bytes, if there is a buffer, and returns how many there are. No other shares
-/// them, so the caller may write there; no contract knows what.
+/// Writes the address of the readable bytes, if there is a buffer, and returns how many bytes there are. No other
+/// buffer shares them, so the caller may overwrite them; no contract says with which bytes.
 #[unsafe(no_mangle)]
 pub extern "C" fn iobufmut_chunk(part: &mut PartAt, out: &mut *mut u8) -> usize
     ensures same { (part.new.at ≡ part.old.at) × (part.new.value ≡ part.old.value) }
@@ -246,14 +247,14 @@ pub extern "C" fn iobufmut_put_slice(part: &mut PartAt, src: &[u8]) -> u8
     }
 }
 
-// Whether `n` bytes are within the spare capacity or the bytes.
+// The number of done if `n` is at most `most`, else of `Status::OutOfRange`.
 pub(crate) fn fits(n: usize, most: usize) -> u8
     ensures { result ≡ (if nat_le n most then 0 else code_of Status.OutOfRange) }
 {
     within(n <= most)
 }
 
-/// Writes a byte `n` times. Returns `Status::OutOfRange` if they don't fit; then nothing changes.
+/// Writes a byte `n` times. Returns `Status::OutOfRange` if `n` bytes don't fit; then nothing changes.
 #[unsafe(no_mangle)]
 pub extern "C" fn iobufmut_put_bytes(part: &mut PartAt, value: u8, n: usize) -> u8
     ensures at { part.new.at ≡ part.old.at }
@@ -340,7 +341,7 @@ pub extern "C" fn iobufmut_copy_to_slice(part: &mut PartAt, dst: &mut [u8]) -> u
     }
 }
 
-/// Overwrites readable bytes from an offset on. Returns `Status::OutOfRange` if there are fewer; then nothing changes.
+/// Overwrites readable bytes from an offset on. Returns `Status::OutOfRange` if fewer follow it; then nothing changes.
 #[unsafe(no_mangle)]
 pub extern "C" fn iobufmut_write_at(part: &mut PartAt, at: usize, src: &[u8]) -> u8
     ensures at { part.new.at ≡ part.old.at }
@@ -364,8 +365,8 @@ pub extern "C" fn iobufmut_write_at(part: &mut PartAt, at: usize, src: &[u8]) ->
     Status::Done.code()
 }
 
-/// Freezes the buffer to a view; no buffer is left. Returns `Status::Memory` if an allocation fails (of a buffer
-/// without an `Arc` alone); then the buffer is dropped, and `out` unchanged.
+/// Freezes the buffer to a view, which is empty if there is no buffer; no buffer is left. Returns `Status::Memory` if
+/// an allocation fails (only of a buffer without an `Arc`); then the buffer is dropped, and `out` unchanged.
 #[unsafe(no_mangle)]
 pub extern "C" fn iobufmut_freeze(part: &mut PartAt, out: &mut ViewAt) -> u8
     ensures at { (part.new.at ≡ part.old.at) × (out.new.at ≡ out.old.at) }

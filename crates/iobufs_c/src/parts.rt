@@ -20,7 +20,8 @@ use std::alloc::{AllocError, Global};
 use std::marker::{Model, Send};
 use std::mem;
 
-/// The handle of an `IoBufsMut`, or of none, in the caller's memory. None reads as one buffer of capacity 0.
+/// The handle of an `IoBufsMut`, or of none, in the caller's memory. A handle without one reads as one buffer of
+/// capacity 0.
 #[repr(C)]
 pub struct PartsAt {
     at: *mut u8,
@@ -57,7 +58,7 @@ fn none() -> Option<IoBufsMut>
     None
 }
 
-/// Returns the size of an `IoBufsMut` in bytes.
+/// Returns how many bytes of memory an `IoBufsMut` takes.
 #[unsafe(no_mangle)]
 pub extern "C" fn iobufsmut_size() -> usize
     ensures value { result ≡ 184 }
@@ -114,8 +115,9 @@ fn take_row(alloc: Global, places: &mut [PartAt]) -> Result<Vec<IoBufMut>, Alloc
     Ok(row)
 }
 
-/// Makes an `IoBufsMut` of the buffers of several handles, which are left empty. Returns `Status::TooLong` or
-/// `Status::Memory`; if the first allocation fails, all stay, else the buffers are dropped.
+/// Makes an `IoBufsMut` of the buffers of several handles, which are left empty. Returns `Status::TooLong` if the
+/// capacities are more than `usize::MAX` in all, or `Status::Memory`; if the first allocation fails, all stay, else the
+/// buffers are dropped.
 #[unsafe(no_mangle)]
 pub extern "C" fn iobufsmut_from_parts(
     alloc: Global,
@@ -158,7 +160,7 @@ pub extern "C" fn iobufsmut_len(parts: &mut PartsAt) -> usize
     }
 }
 
-/// Returns how many bytes fit, counted from the first readable one.
+/// Returns the sum of the buffers' capacities. A drained buffer counts with its spare capacity.
 #[unsafe(no_mangle)]
 pub extern "C" fn iobufsmut_capacity(parts: &mut PartsAt) -> usize
     ensures same { (parts.new.at ≡ parts.old.at) × (parts.new.value ≡ parts.old.value) }
@@ -194,8 +196,8 @@ pub extern "C" fn iobufsmut_part_count(parts: &mut PartsAt) -> usize
     }
 }
 
-/// Writes the address of the first chunk of the readable bytes, if there is a buffer, and returns its length. No other
-/// buffer shares it, so the caller may write there; no contract knows what.
+/// Writes the address of the first chunk of the readable bytes, if there is a buffer, and returns the chunk's length.
+/// No other buffer shares the bytes, so the caller may overwrite them; no contract says with which bytes.
 #[unsafe(no_mangle)]
 pub extern "C" fn iobufsmut_chunk(parts: &mut PartsAt, out: &mut *mut u8) -> usize
     ensures same { (parts.new.at ≡ parts.old.at) × (parts.new.value ≡ parts.old.value) }
@@ -275,7 +277,7 @@ pub extern "C" fn iobufsmut_put_slice(parts: &mut PartsAt, src: &[u8]) -> u8
     }
 }
 
-/// Writes a byte `n` times. Returns `Status::OutOfRange` if they don't fit; then nothing changes.
+/// Writes a byte `n` times. Returns `Status::OutOfRange` if `n` bytes don't fit; then nothing changes.
 #[unsafe(no_mangle)]
 pub extern "C" fn iobufsmut_put_bytes(parts: &mut PartsAt, value: u8, n: usize) -> u8
     ensures at { parts.new.at ≡ parts.old.at }
@@ -305,8 +307,8 @@ pub extern "C" fn iobufsmut_put_u8(parts: &mut PartsAt, n: u8) -> u8
     }
 }
 
-/// Makes `n` bytes readable; those that were not are zero. Returns `Status::OutOfRange` above the capacity; then
-/// nothing changes.
+/// Makes `n` bytes readable, filling the buffers in order; those that were not are zero. A later buffer loses the
+/// readable bytes that `n` doesn't reach. Returns `Status::OutOfRange` above the capacity; then nothing changes.
 #[unsafe(no_mangle)]
 pub extern "C" fn iobufsmut_set_len(parts: &mut PartsAt, n: usize) -> u8
     ensures at { parts.new.at ≡ parts.old.at }
@@ -370,8 +372,8 @@ pub extern "C" fn iobufsmut_freeze(alloc: Global, parts: &mut PartsAt, out: &mut
     hand_text(parts.freeze(alloc), out)
 }
 
-/// Coalesces the buffers into one, with a copy of several; none are left. Returns `Status::BadLayout` or
-/// `Status::Memory` if that fails; then they are dropped, and `out` unchanged.
+/// Joins the buffers into one, as `IoBufsMut::coalesce` does; none are left. Returns `Status::BadLayout` if two or more
+/// hold more than `isize::MAX` bytes, or `Status::Memory`; then they are dropped, and `out` unchanged.
 #[unsafe(no_mangle)]
 pub extern "C" fn iobufsmut_coalesce(alloc: Global, parts: &mut PartsAt, out: &mut PartAt) -> u8
     ensures at { (parts.new.at ≡ parts.old.at) × (out.new.at ≡ out.old.at) }

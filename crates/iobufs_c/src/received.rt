@@ -1,4 +1,4 @@
-// Receive blocks at their places.
+// Receive blocks, reached by their handles.
 ghost use Rattle.std.specs.Prelude.{◌≡◌, ◌⊎◌, ◌≤◌, ◌<◌, ◌==◌, if◌then◌else◌, length, nat_le, Option, Some, None, false, IfNone, IfSome};
 ghost use Rattle.std.specs.Borrow.{sem, Lends, full_share};
 ghost use Rattle.std.specs.Ptr.{lies_at, room_at};
@@ -58,7 +58,7 @@ fn none() -> Option<Received>
     None
 }
 
-/// Returns the size of a receive block in bytes.
+/// Returns how many bytes of memory a `Received` takes.
 #[unsafe(no_mangle)]
 pub extern "C" fn iobufs_received_size() -> usize
     ensures value { result ≡ 120 }
@@ -84,7 +84,7 @@ pub extern "C" fn iobufs_received_drop(received: &mut ReceivedAt)
     *received.get() = None;
 }
 
-/// Makes an empty receive block of frames whose lengths are written as `prefix`. It allocates nothing. Returns
+/// Makes an empty receive block of frames whose lengths are written as `prefix`. Allocates nothing. Returns
 /// `Status::BadKind` if the prefix is unknown.
 #[unsafe(no_mangle)]
 pub extern "C" fn iobufs_received_new(alloc: Global, prefix: u8, out: &mut ReceivedAt) -> u8
@@ -102,7 +102,7 @@ pub extern "C" fn iobufs_received_new(alloc: Global, prefix: u8, out: &mut Recei
     Status::Done.code()
 }
 
-/// Makes an empty receive block of frames whose headers are laid out so, as `iobufs_received_new` does of bare lengths.
+/// Makes an empty receive block of frames with this layout; fails as `iobufs_received_new`.
 #[unsafe(no_mangle)]
 pub extern "C" fn iobufs_received_with_layout(
     alloc: Global,
@@ -123,8 +123,8 @@ pub extern "C" fn iobufs_received_with_layout(
     Status::Done.code()
 }
 
-/// Lays the headers out so from the next frame on. Returns `Status::BadKind` if the kind of the prefix is unknown, else
-/// `Status::Declined` if there is no receive block.
+/// Sets the layout of the headers, from the next frame on. Returns `Status::BadKind` if the kind of the prefix is
+/// unknown, else `Status::Declined` if there is no receive block.
 #[unsafe(no_mangle)]
 pub extern "C" fn iobufs_received_set_layout(received: &mut ReceivedAt, layout: &LayoutInC) -> u8
     ensures at { received.new.at ≡ received.old.at }
@@ -224,7 +224,7 @@ fn next_of(received: &mut Option<Received>, range: &RangeCfg) -> Result<Option<I
     }
 }
 
-/// Takes the first frame, whose length is from `lo` to `hi`. Returns `Status::EndOfBuffer` if it is not whole yet,
+/// Takes the first frame, whose body has `lo` to `hi` bytes. Returns `Status::EndOfBuffer` if it is not whole yet,
 /// `Status::InvalidVarint` or `Status::InvalidLength` if no further bytes can make it whole, or `Status::Memory`; an
 /// invalid length is written to `wrong`. Unless a frame is taken, both handles are unchanged. The body is copied only
 /// from a block above 64 KiB that isn't its frame's alone.

@@ -11,19 +11,19 @@ pub enum Status {
     Done,
     /// An allocation failed.
     Memory,
-    /// The capacity is too large.
+    /// A capacity would be above `isize::MAX`.
     BadLayout,
     /// A sum of lengths or capacities would be too large, or a header can't have this length or these bytes.
     TooLong,
     /// A range or an offset is outside the bytes, or the bytes are more than the spare capacity.
     OutOfRange,
-    /// Fewer bytes are left than were asked for.
+    /// Fewer bytes are left than are required, or a frame isn't whole.
     EndOfBuffer,
     /// The bytes are an invalid varint.
     InvalidVarint,
     /// The length is outside the range, or the number in a header is below what it counts.
     InvalidLength,
-    /// The buffer can't be converted, and stays.
+    /// The buffer can't be converted, and stays; or there is no builder or receive block.
     Declined,
     /// The kind of a bound, or a prefix, is unknown.
     BadKind,

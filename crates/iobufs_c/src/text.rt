@@ -71,7 +71,7 @@ fn empty() -> IoBufs
     IoBufs::default()
 }
 
-/// Returns the size of an `IoBufs` in bytes.
+/// Returns how many bytes of memory an `IoBufs` takes.
 #[unsafe(no_mangle)]
 pub extern "C" fn iobufs_size() -> usize
     ensures value { result ≡ 56 }
@@ -169,7 +169,7 @@ pub extern "C" fn iobufs_chunk(text: &mut TextAt, out: &mut *const u8) -> usize
 }
 
 /// Writes the index of the chunk that contains an offset, and the distance from its start. Returns `Status::OutOfRange`
-/// if the offset is past the bytes; then both are unchanged.
+/// if the offset isn't within the bytes; then both are unchanged.
 #[unsafe(no_mangle)]
 pub extern "C" fn iobufs_locate(
     text: &mut TextAt,
@@ -193,7 +193,8 @@ pub extern "C" fn iobufs_locate(
     Status::Done.code()
 }
 
-/// Appends a view, and leaves its handle empty. After `Status::TooLong` or `Status::Memory` both are unchanged.
+/// Appends a view, and leaves its handle empty. Returns `Status::TooLong` if the length would be above `usize::MAX`, or
+/// `Status::Memory`; then both are unchanged.
 #[unsafe(no_mangle)]
 pub extern "C" fn iobufs_append(alloc: Global, text: &mut TextAt, piece: &mut ViewAt) -> u8
     ensures at { (text.new.at ≡ text.old.at) × (piece.new.at ≡ piece.old.at) }
@@ -217,7 +218,7 @@ pub extern "C" fn iobufs_append(alloc: Global, text: &mut TextAt, piece: &mut Vi
     }
 }
 
-/// Prepends a view, and leaves its handle empty. After `Status::TooLong` or `Status::Memory` both are unchanged.
+/// Prepends a view, and leaves its handle empty. Fails as `iobufs_append`.
 #[unsafe(no_mangle)]
 pub extern "C" fn iobufs_prepend(alloc: Global, text: &mut TextAt, piece: &mut ViewAt) -> u8
     ensures at { (text.new.at ≡ text.old.at) × (piece.new.at ≡ piece.old.at) }
@@ -396,7 +397,8 @@ pub extern "C" fn iobufs_take_after(
 }
 
 /// Coalesces the chunks into one view, with a copy of several, and leaves an empty `IoBufs`. Returns
-/// `Status::BadLayout` or `Status::Memory` if that fails; then the bytes are dropped: clone them first to keep them.
+/// `Status::BadLayout` if several hold more than `isize::MAX` bytes, or `Status::Memory`; then the bytes are dropped:
+/// clone them first to keep them.
 #[unsafe(no_mangle)]
 pub extern "C" fn iobufs_coalesce(alloc: Global, text: &mut TextAt, out: &mut ViewAt) -> u8
     ensures at { (text.new.at ≡ text.old.at) × (out.new.at ≡ out.old.at) }

@@ -74,7 +74,7 @@ fn empty() -> IoBuf
     IoBuf::default()
 }
 
-/// Returns the size of a view in bytes.
+/// Returns how many bytes of memory an `IoBuf` takes.
 #[unsafe(no_mangle)]
 pub extern "C" fn iobuf_size() -> usize
     ensures value { result ≡ 48 }
@@ -208,7 +208,7 @@ fn bound(kind: u8, n: usize) -> Option<Bound<usize>>
     }
 }
 
-/// Returns the bytes of a range, in the same storage. Returns `Status::BadKind` for an unknown kind of bound,
+/// Makes a view of a range, in the same storage. Returns `Status::BadKind` for an unknown kind of bound,
 /// `Status::OutOfRange` if the range isn't within the bytes, or `Status::Memory`; then `out` is unchanged.
 #[unsafe(no_mangle)]
 pub extern "C" fn iobuf_slice(

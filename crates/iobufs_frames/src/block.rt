@@ -26,8 +26,8 @@ const MOST: usize = 1 << 16;
 const STEP: usize = 1 << 14;
 
 /// Bytes that were received and not taken, in one block, and space for more after them. A body that is taken shares the
-/// block, or is a copy. Unless `block_mut` enlarged the block, a body keeps at most its own frame or 64 KiB, whichever
-/// is more. Copy a small body that is kept for long.
+/// block, or is a copy. Unless `block_mut` enlarged the block, a body keeps alive at most its own frame or 64 KiB,
+/// whichever is more. Copy a small body that is kept for long.
 #[derive(Drop)]
 pub struct Received {
     layout: Layout,
@@ -83,7 +83,7 @@ fn address_from(block: &mut BytesMut, from: usize) -> *mut u8
 }
 
 impl Received {
-    /// Makes a `Received` without bytes, for frames whose headers are their lengths, written as `prefix`. It allocates
+    /// Makes a `Received` without bytes, for frames whose headers are their lengths, written as `prefix`. Allocates
     /// nothing.
     pub fn new(alloc: Global, prefix: Prefix) -> Received
         ensures { result ≡ none_received (bare prefix) }
@@ -91,7 +91,7 @@ impl Received {
         Received::with_layout(alloc, Layout::bare(prefix))
     }
 
-    /// Makes a `Received` without bytes, for frames with this layout. It allocates nothing.
+    /// Makes a `Received` without bytes, for frames with this layout. Allocates nothing.
     pub fn with_layout(alloc: Global, layout: Layout) -> Received
         ensures { result ≡ none_received layout }
     {
@@ -247,8 +247,8 @@ impl Received {
         least.max(if is_near { frame } else { twice })
     }
 
-    /// Makes sure that there is space for a read. It may move the bytes to the front of the block, enlarge the block,
-    /// or move the bytes to a new one.
+    /// Makes sure that there is space for a read. May move the bytes to the front of the block, enlarge the block, or
+    /// move the bytes to a new one. Fails with `AllocError`.
     pub fn make_space(&mut self) -> Result<(), AllocError>
         ensures bytes { self.new.bytes ≡ self.old.bytes }
         ensures layout { self.new.layout ≡ self.old.layout }
@@ -266,8 +266,8 @@ impl Received {
         Ok(())
     }
 
-    /// Writes the address of the space, if there is any, and returns how many bytes it has. They are zeros, or what the
-    /// block held before. No contract says what is written there.
+    /// Writes the address of the space into `at`, if there is any, and returns how many bytes the space has. They are
+    /// zeros, or bytes that the block held before. No contract says which bytes a caller writes there.
     pub fn lend_space(&mut self, at: &mut *mut u8) -> usize
         ensures same { self.new ≡ self.old }
         ensures space { result ≡ self.old.space }

@@ -8,8 +8,8 @@ use std::io;
 /// Why no frame is taken from a stream, or sent to one.
 #[derive(Debug, Drop, thiserror::Error)]
 pub enum FrameError {
-    /// No frame begins here, whatever follows: `Error::InvalidVarint`, or `Error::InvalidLength`. A body can't be sent:
-    /// `Error::TooLong`. Or an allocation for a frame failed: `Error::Memory`.
+    /// No frame begins here, whatever follows: `Error::InvalidVarint`, or `Error::InvalidLength`. A frame can't be sent
+    /// (see `Layout::header_within`): `Error::TooLong`. Or an allocation for a frame failed: `Error::Memory`.
     #[error("bad frame: {0}")]
     Frame(Error),
     /// The input ends inside a frame.

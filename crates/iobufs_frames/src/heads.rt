@@ -9,7 +9,7 @@ use std::marker::Model;
 // How many bytes a header has at most.
 const MOST: usize = 32;
 
-/// A header: at most 32 bytes, which are sent before a body. It allocates nothing.
+/// A header: at most 32 bytes, which are sent before a body. Needs no allocation.
 #[derive(Drop)]
 pub struct Head {
     bytes: [u8; 32],

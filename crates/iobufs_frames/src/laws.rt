@@ -12,7 +12,7 @@ ghost use Rattle.iobufs_frames.specs.declared.reader.FrameReader.{FrameReader};
 use std::io::Read;
 
 /// In a layout and a range, bytes have exactly one list of frames, one end and one rest. So `Frames::run` returns equal
-/// bodies, end and rest for every chunking, if it succeeds. A call that takes a frame takes the first of them. A proper
+/// bodies, end and rest for every chunking, if it succeeds. A call that takes a frame takes the first frame. A proper
 /// prefix of a frame is open, and a bad rest stays bad.
 pub fn frames_law()
     ensures one { (layout : Layout) → HaveOneReading layout }

@@ -81,7 +81,7 @@ pub(crate) struct Sizes {
     pub(crate) body: usize,
 }
 
-// The first `N` bytes after `skip`, if there are so many.
+// The first `N` bytes after `skip`, if there are `N`.
 #[inline(always)]
 fn front<B: Buf, const N: usize>(buf: &B, skip: u8) -> Option<[u8; N]>
     ensures { MatchOption result (length (drop skip (B.text buf.now)) < N)
@@ -218,7 +218,7 @@ impl Prefix {
         }
     }
 
-    /// Encodes a length. It allocates nothing.
+    /// Encodes a length. Allocates nothing.
     #[inline(always)]
     pub fn head(self, n: usize) -> Head
         requires { n < prefix_limit self }
@@ -230,6 +230,7 @@ impl Prefix {
     }
 
     /// Encodes a length into a buffer of its own.
+    /// Returns `BufError::Memory` if allocation fails.
     pub fn written(self, alloc: Global, n: usize) -> Result<IoBuf, BufError>
         requires { n < prefix_limit self }
         ensures view { IfOk result (λ view. view ≡ own_view (prefix_written self n)) }
@@ -366,7 +367,7 @@ impl Layout {
 
     /// Encodes the header of a body of `n` bytes; `None` if such a frame can't be sent. The causes: `n` is outside the
     /// range; the length doesn't fit (see `Prefix::fits`); `before` or `after` has another number of bytes than the
-    /// layout says; they have more than 22 in all; the frame is longer than `usize::MAX`.
+    /// layout says; both have more than 22 in all; the frame is longer than `usize::MAX`.
     #[inline(always)]
     pub fn header_within(
         self,

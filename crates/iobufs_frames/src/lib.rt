@@ -1,5 +1,5 @@
 // Frames of bytes that come in chunks, also from std's readers and to its writers: each is a header followed by a body.
-// `reader` takes whole frames out of whatever reads give. `writer` sends frames chunk by chunk, whatever writes take.
+// `reader` takes whole frames out of reads of any size. `writer` sends frames chunk by chunk, by writes of any size.
 #![tactic(auto)]
 
 ghost use Rattle.std.specs.Prelude.{◌≡◌, ◌≢◌, ◌⊎◌, ℕ, ◌+◌, ◌^◌, ◌<◌, ◌≤◌, List, ◌++◌, length, OnOk, OnErr, IfOk, IfErr, IsOk, IsErrAnd, IsOkUnless, IfNone, IfSome};
@@ -106,7 +106,7 @@ impl Frames {
 
     /// Takes the first frame, and returns its body; `None` if it is not whole yet. Fails with `Error::InvalidVarint`
     /// (of varints alone) or `Error::InvalidLength` if no further bytes can make it whole, or with `Error::Memory`,
-    /// unless the body is static. Unless a frame is taken, the rest is unchanged.
+    /// unless the body is empty or in one static chunk. Unless a frame is taken, the rest is unchanged.
     pub fn next(&mut self, alloc: Global, range: &RangeCfg) -> Result<Option<IoBuf>, Error>
         ensures next { TakesFirst self.old.layout range.now self.old.rest.bytes result self.new.rest.bytes }
         ensures left { MatchTaken result (λ body. (self.new.layout ≡ self.old.layout)
@@ -237,7 +237,8 @@ impl Frames {
     }
 
     /// Takes all frames with varint lengths of bytes that come in chunks, each as soon as it is whole. Fails with
-    /// `BufError::TooLong` only if the bytes are more than `usize::MAX`. An error drops the chunks.
+    /// `BufError::Memory`, or with `BufError::TooLong` only if the bytes are more than `usize::MAX`. An error drops the
+    /// chunks.
     pub fn run(alloc: Global, pieces: Vec<IoBuf>, range: &RangeCfg) -> Result<Run, BufError>
         ensures framed { IfOk result (λ run. HasBodies (bare Spelled) range.now (joined_bytes pieces.items)
             (bodies run.frames.items) run.stop run.rest.bytes) }
@@ -298,8 +299,8 @@ impl Frames {
 pub struct Run {
     /// The bodies of its frames, in order.
     pub frames: Vec<IoBuf>,
-    /// Why no further one follows.
+    /// Why no further frame follows.
     pub stop: End,
-    /// The bytes after them.
+    /// The bytes after the last frame.
     pub rest: IoBufs,
 }

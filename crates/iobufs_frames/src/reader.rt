@@ -19,7 +19,7 @@ pub struct FrameReader<R> {
     pub from: R,
     /// The lengths that a body may have. A change applies to the next frame, even if its length was already decoded.
     pub range: RangeCfg,
-    /// The bytes that were read from it and not taken.
+    /// The bytes that were read and not taken.
     pub held: Received,
 }
 
@@ -64,8 +64,8 @@ impl<R: Drop> FrameReader<R> {
         self.held.set_layout(layout);
     }
 
-    /// Takes the next frame if it is held whole, and returns its body; `None` if it isn't. It reads nothing, and fails
-    /// as `Received::next` does.
+    /// Takes the next frame if it is held whole, and returns its body; `None` if it isn't. Reads nothing, and fails as
+    /// `Received::next` does.
     #[inline(always)]
     pub fn try_next(&mut self) -> Result<Option<IoBuf>, Error>
         ensures { TakesHeld is_body has_bytes is_bytes_view self.old result self.new }
@@ -120,8 +120,8 @@ impl<R: Read + Drop> FrameReader<R> {
         }
     }
 
-    /// Takes the next frame, and returns its body; `None` at the end of the input. It starts no read while a whole
-    /// frame is held. After an error no byte is lost: all that was read is held, and `next` may be called again.
+    /// Takes the next frame, and returns its body; `None` at the end of the input. Starts no read while a whole frame
+    /// is held. After an error no byte is lost: all that was read is held, and `next` may be called again.
     pub fn next(&mut self) -> Result<Option<IoBuf>, FrameError>
         ensures { TakesFrame R.remaining self.old result self.new }
     {

@@ -30,31 +30,31 @@ pub struct FrameWriter<W> {
     pub layout: Layout,
     /// The lengths that a body may have. A change applies to the next `put`.
     pub range: RangeCfg,
-    /// The unsent rest of the first frame that isn't sent; without bytes if all is sent.
+    /// The rest of the first frame that isn't sent whole; without bytes if all is sent.
     pub rest: Unsent,
-    /// The frames after it, of which nothing is sent.
+    /// The frames after `rest`, of which nothing is sent.
     pub more: VecDeque<Unsent>,
-    /// Whether nothing was sent since it was set: a `send` that has bytes clears it. Set it after `to.flush()` to spare
-    /// the next one.
+    /// Whether nothing was sent since this was set: a `send` that has bytes clears it. Set it after `to.flush()`, to
+    /// spare the next flush.
     pub is_flushed: bool,
 }
 
 impl<W: Drop> FrameWriter<W> {
-    /// Makes a writer of frames with varint lengths. It allocates nothing.
+    /// Makes a writer of frames with varint lengths. Allocates nothing.
     pub fn new(alloc: Global, to: W, range: RangeCfg) -> FrameWriter<W>
         ensures { BeginsWriting to (bare Spelled) range result }
     {
         FrameWriter::with_prefix(alloc, to, Prefix::Spelled, range)
     }
 
-    /// Makes a writer of frames whose headers are their lengths, written as `prefix`. It allocates nothing.
+    /// Makes a writer of frames whose headers are their lengths, written as `prefix`. Allocates nothing.
     pub fn with_prefix(alloc: Global, to: W, prefix: Prefix, range: RangeCfg) -> FrameWriter<W>
         ensures { BeginsWriting to (bare prefix) range result }
     {
         FrameWriter::with_layout(alloc, to, Layout::bare(prefix), range)
     }
 
-    /// Makes a writer of frames with this layout. It allocates nothing.
+    /// Makes a writer of frames with this layout. Allocates nothing.
     pub fn with_layout(alloc: Global, to: W, layout: Layout, range: RangeCfg) -> FrameWriter<W>
         ensures { BeginsWriting to layout range result }
     {
@@ -70,9 +70,9 @@ impl<W: Drop> FrameWriter<W> {
     }
 
     /// Puts a frame of this body after those that aren't sent; nothing is sent yet. The body's chunks aren't copied.
-    /// Fails with `BufError::TooLong` if the body's length is outside the range or doesn't fit (see `Prefix::fits`), if
-    /// the frame is longer than `usize::MAX`, or if the layout has bytes around the length. Fails with
-    /// `BufError::Memory` if allocation fails; nothing is allocated if all is sent.
+    /// Fails with `BufError::TooLong` if the body's length is outside the range, if the length in the header doesn't
+    /// fit (see `Prefix::fits`), if the frame is longer than `usize::MAX`, or if the layout has bytes around the
+    /// length. Fails with `BufError::Memory` if allocation fails; nothing is allocated if all is sent.
     pub fn put(&mut self, body: IoBufs) -> Result<(), Refused<IoBufs>>
         ensures { PutsFrame [] [] self.old body result self.new }
     {
@@ -80,8 +80,8 @@ impl<W: Drop> FrameWriter<W> {
     }
 
     /// Acts as `put`, with a header that has these bytes before its length, and these after it. Fails with
-    /// `BufError::TooLong` or `BufError::Memory` as `put` does. The layout has to have as many bytes before the length
-    /// and after it, at most 22 in all.
+    /// `BufError::TooLong` or `BufError::Memory` as `put` does, and with `BufError::TooLong` also if the layout has
+    /// another number of bytes before the length or after it, or more than 22 in all.
     #[inline(always)]
     pub fn put_with(
         &mut self,

@@ -27,7 +27,7 @@ pub struct Fields {
     pub size: u64,
     /// The alignment of the block.
     pub align: u64,
-    /// The bytes of the block after the view; 0 in a writable handle.
+    /// How many bytes the block has after the view; 0 in a writable handle.
     pub tail: u64,
 }
 
@@ -90,7 +90,7 @@ impl Format {
             && fits(size, self.size_bits)
     }
 
-    /// Returns whether there is a word of these fields, as `pack` gives it.
+    /// Returns whether `pack` returns a word of these fields.
     pub fn fits(&self, size: u64, align: u64, tail: u64) -> bool
         requires { IsPowerOfTwo align }
         ensures value { (log : ℕ) → align ≡ 2 ^ log → result
@@ -101,7 +101,7 @@ impl Format {
         self.has_room(size, align.trailing_zeros(), tail)
     }
 
-    /// Returns the word of these fields, or `None` if one doesn't fit or the size is 0.
+    /// Returns the word of these fields, or `None` if a field doesn't fit or the size is 0.
     pub fn pack(&self, size: u64, align: u64, tail: u64) -> Option<u64>
         requires { IsPowerOfTwo align }
         ensures sum { (log : ℕ) → align ≡ 2 ^ log → SomeIff result
@@ -138,7 +138,7 @@ impl Format {
         }
     }
 
-    /// Returns the word with another tail, or `None` if that doesn't fit.
+    /// Returns the word with another tail, or `None` if the tail doesn't fit.
     pub fn with_tail(&self, word: u64, tail: u64) -> Option<u64>
         requires { IsWord self.now.align_bits self.now.tail_bits self.now.size_bits word }
         ensures sum { (size log old : ℕ)

@@ -26,7 +26,7 @@ pub fn growing_law()
         → Runs m.state steps replies next.state }
 {}
 
-/// The replies of a run lead to its tables: to words, counts, records and logs.
+/// The steps and replies of a run determine its tables: words, counts, records and logs.
 pub fn tables_law()
     ensures { (m next : Seen) → (steps : List Step) → (replies : List Reply) → GrowingRuns m steps replies next
         → TellsTables m.state steps replies next.state }

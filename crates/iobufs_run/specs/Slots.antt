@@ -131,7 +131,7 @@ writable (Part part) = part.spare
 writable (Parts parts) = parts_spare parts
 writable _ = 0
 
--- how many bytes can be filled, counted from the first readable one
+-- the capacity of a buffer, or the sum of those of several
 abbrev pub slot_capacity : Slot → ℕ
 slot_capacity (Part part) = part_capacity part
 slot_capacity (Parts parts) = parts_capacity parts

@@ -9,8 +9,8 @@ use std::alloc::AllocError;
 use std::fmt;
 use std::ops::Bound;
 
-/// A command on named buffers. `dst` is a destination, `src` a source, `target` a buffer that is changed or shown in
-/// place.
+/// A command on named buffers. `dst` is a destination, `src` a source, `target` a buffer that is changed, shown or
+/// freed in place.
 #[derive(Debug, Drop)]
 pub enum Cmd {
     /// Makes an empty `IoBufMut` of this capacity and alignment.
@@ -51,7 +51,8 @@ pub enum Cmd {
         byte: u8,
         n: usize,
     },
-    /// Makes `n` bytes of a writable buffer readable; those that were not are zero.
+    /// Makes `n` bytes readable; those that were not are zero. An `IoBufsMut` is filled in order: its later buffers
+    /// lose readable bytes that `n` doesn't reach.
     SetLen {
         target: usize,
         n: usize,
@@ -209,9 +210,9 @@ pub struct Piece {
 pub enum Refusal {
     /// A name is not in the table.
     NoName,
-    /// A source holds nothing, or another kind than the command takes.
+    /// A source or a target holds nothing, or another kind than the command takes.
     WrongKind,
-    /// A destination is in use, or a source is listed twice.
+    /// A destination is in use and isn't consumed, or a source is listed twice.
     InUse,
     /// A length, range or offset doesn't fit the buffer.
     OutOfRange,
@@ -219,9 +220,10 @@ pub enum Refusal {
     BadLayout,
     /// As `BufError::TooLong`.
     TooLong,
-    /// The view can't become writable: its storage is shared, static, or that of a `Bytes`. It stays.
+    /// The view can't become writable, and stays: its storage is shared, that of a `Bytes`, or static with bytes.
     Declined,
-    /// No view was read, for this reason, which is not `Error::Memory`.
+    /// A view can't be decoded, for this reason. `Error::TooLong`: an encoded view would be too long. Never
+    /// `Error::Memory`.
     Codec(Error),
     /// An allocation failed.
     Memory,

@@ -3,7 +3,7 @@ ghost use Rattle.iobufs_run.specs.Choices.{NoOtherChoices, OnlyWants, RefusalsKe
 
 /// Two steps of the same command on the same names, neither refused with `Memory`, have the same outcome, except for
 /// the capacity after adopted bytes and whether a native view is recovered. A step is refused with `Memory` only if the
-/// command may be and is otherwise executed.
+/// command may allocate and no other cause holds.
 pub fn choices_law()
     ensures same { NoOtherChoices }
     ensures memory { OnlyWants }

@@ -127,7 +127,7 @@ fn done(alloc: Global, slots: &mut [Slot], cmd: &Cmd) -> Outcome
     }
 }
 
-// Whether a number can say how long what is held is, or how much it can hold; which is always so.
+// Whether the length or the capacity of a slot's buffer fits a `usize`, which is always so.
 fn is_well_formed(slot: &Slot) -> bool
     ensures always { result ≡ true }
     ensures slot { IsSlot slot.now }
@@ -141,7 +141,7 @@ fn is_well_formed(slot: &Slot) -> bool
     }
 }
 
-// Whether this is so of each name.
+// Whether each slot is well formed.
 fn are_well_formed(slots: &[Slot]) -> bool
     ensures always { result ≡ true }
     ensures slots { AreSlots slots.now }
@@ -195,7 +195,8 @@ impl Table {
         }
     }
 
-    /// Executes commands in order, with a reply for each. Fails with `BufError::Memory` before the first.
+    /// Executes commands in order, with a reply for each. Fails with `BufError::Memory`, before the first command, if
+    /// allocation fails.
     pub fn run(&mut self, cmds: &[Cmd]) -> Result<Vec<Reply>, BufError>
         ensures run { IfOk result (λ replies. Run self.old cmds.now replies.items self.new) }
         ensures unchanged { OnErr result (self.new ≡ self.old) }

@@ -18,10 +18,10 @@ pub enum Fault {
     /// This byte is of no kind of the value.
     #[error("InvalidEnum")]
     InvalidEnum(u8),
-    /// A type of a layer above doesn't admit the parts. No value of this crate fails so.
+    /// A type of a layer above doesn't admit the parts. No value of this crate fails with it.
     #[error("Invalid")]
     Invalid,
-    /// This number of bytes follows a value that should be all.
+    /// This number of bytes remains after a value that has to be all.
     #[error("ExtraData")]
     ExtraData(usize),
 }

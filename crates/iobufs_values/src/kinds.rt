@@ -33,7 +33,7 @@ pub struct Kind<const TAG: u8, T> {
 }
 
 /// A value of one of two kinds, by its first byte (own). Nest it for more, as `Either<A, Either<B, C>>`; nesting adds
-/// no byte. If a byte is of both, the first kind is decoded.
+/// no byte. If a byte is of both kinds, the first kind is decoded.
 #[derive(Debug, PartialEq, Eq, Drop)]
 pub enum Either<A, B> {
     First(A),

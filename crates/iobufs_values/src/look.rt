@@ -57,8 +57,8 @@ pub trait Look: EncodeSize + Sized {
         Ok(value)
     }
 
-    /// Decodes all bytes as one value (`decode_cfg`). Fails with `Fault::ExtraData`, which has the number of bytes, if
-    /// some remain.
+    /// Decodes all bytes as one value (`decode_cfg`). Fails as `look` does, or with `Fault::ExtraData` and the number
+    /// of bytes that remain.
     final fn decode_cfg<B: Peek>(alloc: Global, buf: &B, cfg: &Self::Cfg) -> Result<Self, Fault>
     where
         Self: Drop,
@@ -80,8 +80,8 @@ pub trait Look: EncodeSize + Sized {
     }
 }
 
-/// Makes known that a reader's length fits a `usize`, and so does each offset within it. The prover knows it only of a
-/// length that was read, so this reads it.
+/// Makes known that a reader's length fits a `usize`, and so does each offset within it. The prover knows this only of
+/// a length that was read.
 pub(crate) fn has_len<B: Peek>(buf: &B)
     ensures { length (B.text buf.now) < 2 ^ 64 }
 {

@@ -44,8 +44,8 @@ pub trait ByParts: Sized {
         Ok(Self::from_parts(all))
     }
 
-    /// Decodes all bytes as one value (`decode_cfg`). Fails with `Fault::ExtraData`, which has the number of bytes, if
-    /// some remain.
+    /// Decodes all bytes as one value (`decode_cfg`). Fails as `Look::look` does, or with `Fault::ExtraData` and the
+    /// number of bytes that remain.
     final fn decode_cfg<B: Peek>(
         alloc: Global,
         buf: &B,
@@ -92,7 +92,7 @@ where
     fn into_parts(self) -> Self::Parts
         ensures { result ≡ Self.parts self };
 
-    /// Encodes into chunks, an `IoBufs` as `X`, as `EncodeExt` does with the fields; views are pushed and not copied.
+    /// Encodes the fields into chunks, an `IoBufs` as `X`, and fails, as `EncodeExt::encode_iobufs` does.
     final fn encode_iobufs<X: FromText>(self, alloc: Global) -> Result<X, Error>
         ensures pieces { IfOk result (λ made. X.as_text made ≡ finished
             (building_after (empty_building (items_inline (Self.Parts.items (Self.parts self))))
@@ -111,7 +111,7 @@ where
         Ok(X::from_text(text))
     }
 
-    /// Encodes into one buffer of exactly the value's size, as `Encode` does with the fields.
+    /// Encodes the fields into one buffer of exactly their size, and fails, as `Encode::encode` does.
     final fn encode(self, alloc: Global) -> Result<IoBufMut, Error>
         ensures ok { IfOk result (λ part. part ≡ record { filled = Self.Parts.written (Self.parts self); spare = 0 }) }
         ensures too_long { 2 ^ 64 ≤ length (Self.Parts.written (Self.parts self)) → result ≡ Err Error.TooLong }

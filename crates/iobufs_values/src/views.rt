@@ -66,7 +66,7 @@ impl Look for IoBuf {
 
     ghost same = { λ x y. x.bytes ≡ y.bytes };
 
-    /// Cannot fail with `Error::Memory` if the bytes are static.
+    /// Cannot fail with `Error::Memory` if the bytes are in one static chunk.
     fn look<B: Peek>(
         alloc: Global,
         buf: &B,
@@ -96,7 +96,7 @@ impl Look for Bytes {
 
     ghost admits = { λ range bytes. (length bytes < 2 ^ 64) × (in_range range (length bytes) ≡ true) };
 
-    /// Cannot fail with `Error::Memory` if the bytes are static.
+    /// Cannot fail with `Error::Memory` if the bytes are in one static chunk.
     fn look<B: Peek>(
         alloc: Global,
         buf: &B,

@@ -199,7 +199,7 @@ impl Pieces {
         }
     }
 
-    /// Adds a chunk at the end, which gives this length. If there was no row, one is made, with space for four.
+    /// Adds a chunk at the end, for a length of `len`. If there was no row, one is made, with space for four.
     pub(super) fn push_back(
         &mut self,
         alloc: Global,

@@ -191,7 +191,7 @@ impl IoBufs {
         self.advance(n);
     }
 
-    // Takes bytes of the first chunk, and drops them and those before them.
+    // Takes `n` bytes of the first chunk after the first `skip`, and drops the first `skip + n`.
     #[inline(always)]
     fn take_inside<T: OwnedBytes>(
         &mut self,

@@ -1,7 +1,7 @@
 // Bytes put into space that is reserved for them.
 ghost use Rattle.std.specs.Prelude.{◌≡◌, ◌+◌, ◌≤◌, ◌++◌, length, vec_capacity, vec_len};
 
-/// Puts bytes after others that have space for them. The test always holds, as that of `IoBufMut::put_slice`.
+/// Appends bytes to a `Vec` that has space for them. The test always holds, as that of `IoBufMut::put_slice`.
 #[inline(always)]
 pub(crate) fn put_reserved(copy: &mut Vec<u8>, bytes: &[u8])
     requires { vec_len copy.old + length bytes.now ≤ vec_capacity copy.old }

@@ -188,7 +188,7 @@ impl Row {
         self.get(i).unwrap()
     }
 
-    /// Adds a chunk at the end, which gives this length.
+    /// Adds a chunk at the end, for a length of `len`.
     pub(super) fn push_back(&mut self, piece: IoBuf, len: usize) -> Result<(), AllocFailed<IoBuf>>
         requires some { 0 < length piece.bytes }
         requires total { len ≡ length (pieces_bytes self.old.views) + length piece.bytes }

@@ -41,7 +41,7 @@ pub trait Ends {
         ensures { result ≡ probed self.now };
 }
 
-/// Finds the first end above the offset by bisection (own). It takes as many probes as the number of ends has binary
+/// Finds the first end above the offset by bisection (own). Takes as many probes as the number of ends has binary
 /// digits, or one fewer.
 pub fn find_end<E: Ends>(ends: &mut E) -> usize
     requires { E.probed ends.old ≡ 0 }

@@ -33,8 +33,8 @@ pub fn write_again<W: Write>(to: &mut W, bytes: &[u8]) -> io::Result<usize>
 }
 
 /// Writes these chunks by one `write_vectored`, and again if a signal interrupts it (own, for layers). Fails as
-/// `write_again` does. Rattle's `write_vectored` calls `write` for each chunk: an error after bytes of the same call is
-/// dropped, and the next write returns it if it lasts.
+/// `write_again` does. Rattle's `write_vectored` calls `write` for each chunk: an error after written bytes is dropped,
+/// and the next write fails if its cause lasts.
 #[tactic(auto, using(crate::proofs::CallerFacts::again))]
 #[inline(always)]
 pub fn write_chunks_again<W: Write>(to: &mut W, chunks: &[IoSlice<'_>]) -> io::Result<usize>

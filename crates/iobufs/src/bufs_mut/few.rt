@@ -482,7 +482,7 @@ impl Few {
         Ok(bytes)
     }
 
-    /// The bytes of the first parts that hold some, of at most `max`.
+    /// The bytes of the first parts that hold some, at most `max` parts.
     pub(super) fn chunks(&self, alloc: Global, max: usize) -> Result<Vec<&[u8]>, AllocError>
         ensures { IfOk result (λ chunks. map (λ chunk. chunk.now) chunks.items ≡ take max (parts_chunks self.now)) }
     {

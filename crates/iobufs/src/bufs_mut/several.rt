@@ -21,7 +21,7 @@ use std::collections::VecDeque;
 use std::marker::Model;
 use std::mem;
 
-/// One part or more in a deque, with how many bytes they hold and how many fit. With two or more, each can hold a byte.
+/// One part or more in a deque, with the sums of their lengths and capacities. With two or more, each can hold a byte.
 /// Drained ones are after the others, so that `chunk` and `advance` begin with the others:
 ///
 /// ```text
@@ -338,7 +338,7 @@ impl Several {
         Ok(bytes)
     }
 
-    /// The bytes of the first parts that hold some, of at most `max`.
+    /// The bytes of the first parts that hold some, at most `max` parts.
     #[tactic(auto, using(crate::proofs::Parts::PartChunks::reading))]
     pub(super) fn chunks(&self, alloc: Global, max: usize) -> Result<Vec<&[u8]>, AllocError>
         ensures { IfOk result (λ chunks. map (λ chunk. chunk.now) chunks.items ≡ take max (parts_chunks self.now)) }
@@ -515,7 +515,7 @@ fn put(parts: &mut VecDeque<IoBufMut>, full: usize, src: &[u8])
     }
 }
 
-// Puts one byte up to `n` times, and returns how often it remains.
+// Puts one byte up to `n` times, and returns how many times are left.
 pub(super) fn put_bytes_share(part: &mut IoBufMut, value: u8, n: usize) -> usize
     ensures put { part.new ≡ part_put part.old (take part.old.spare (replicate n value)) }
     ensures left { result ≡ n - part.old.spare }

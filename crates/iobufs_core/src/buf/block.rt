@@ -1,5 +1,5 @@
-// Storage that is filled and then shared. In the Rust crate `rust/iobufs/layer/block.rs` takes the place of this file.
-// It keeps the count of the handles after the bytes, if there is room.
+// Storage that is filled and then shared. In the Rust crate `rust/iobufs/layer/block.rs` takes the place of this file,
+// and keeps the count of the handles after the bytes, if there is room.
 ghost use Rattle.std.specs.Prelude.{◌≡◌, ◌≤◌, ◌∷◌, [], length, drop, IfOk, IsTrue, MatchResult};
 ghost use Rattle.std.specs.Borrow.{Lends, Array, sem, u8 as byte};
 ghost use Rattle.iobufs_core.specs.Native.{IsLimit, space_of, space_overwritten, space_resized};
@@ -12,7 +12,7 @@ use std::marker::Model;
 use std::mem;
 use std::sync::Arc;
 
-/// An `Arc` of an empty `Vec`, so that sharing storage allocates nothing. It is made with the storage, or left if
+/// An `Arc` of an empty `Vec`, so that sharing storage allocates nothing: made with the storage, or left over if
 /// storage is taken back. Adopted storage has none.
 #[derive(Drop)]
 pub(super) struct Shell {
@@ -105,7 +105,7 @@ impl Space {
         self.storage.capacity()
     }
 
-    /// Returns `true` if `n` bytes fit. If they don't, no clause says what it returns.
+    /// Returns `true` if `n` bytes fit. If they don't, its clause allows both values.
     pub(super) fn has_room(&self, n: usize) -> bool
         ensures { n ≤ self.now.spare → IsTrue result }
     {

@@ -1,5 +1,5 @@
 // The bytes of a view, with a share of their storage. In the Rust crate `rust/iobufs/layer/held.rs` takes the place of
-// this file, and keeps their address.
+// this file, and keeps the address of the bytes.
 ghost use Rattle.std.specs.Prelude.{ℕ, ◌↔◌, ◌≡◌, ◌≤◌, length, IfOk, IsErr, IsOk, IsTrue, MatchResult, OnErr, OnOk};
 ghost use Rattle.iobufs_core.specs.Native.{native_advanced, native_cut};
 ghost use Rattle.iobufs_core.specs.View.{IsFreelyShared, IsView, bytes_mark, native_mark, static_mark, view_advanced, view_front};

@@ -249,7 +249,7 @@ impl IoBufMut {
         }
     }
 
-    // Acts as `with_capacity`, and takes over the shell of `spent`.
+    // Acts as `with_capacity`, with the shell of `spent` if storage is allocated.
     fn with_capacity_from(
         alloc: Global,
         n: usize,
@@ -272,9 +272,9 @@ impl IoBufMut {
         Ok(IoBufMut::from_space(space, 0, shell))
     }
 
-    /// Returns the bytes of three buffers in one, without spare capacity (own, for layers). The others are copied into
-    /// the storage of the first if all fit its capacity, and it has at most about 4 KiB or about twice as many bytes.
-    /// Otherwise all are copied into new storage. Fails as `with_capacity`.
+    /// Returns the bytes of three buffers in one, without spare capacity (own, for layers). The second and third are
+    /// copied after the first if its capacity takes all bytes, and its storage has at most about 4 KiB or about twice
+    /// the bytes. Otherwise all are copied into new storage. Fails as `with_capacity`.
     #[tactic(auto, using(crate::proofs::LayoutLaws::bad_layout_one))]
     pub fn coalesced(
         alloc: Global,

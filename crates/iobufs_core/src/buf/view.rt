@@ -167,7 +167,7 @@ impl IoBuf {
         if from == to {
             return Ok(IoBuf::default());
         }
-        // The same call twice: the second is for native storage alone.
+        // One call for each of two cases: the second is for native storage alone.
         if self.held.is_static() || self.held.is_shared() {
             return Ok(IoBuf {
                 held: self.held.share(from, to)?,
@@ -178,7 +178,7 @@ impl IoBuf {
         })
     }
 
-    /// Returns the bytes of a range as `slice` does, if it is within the bytes (own).
+    /// Acts as `slice` if the range is within the bytes; otherwise returns `None` (own).
     #[inline(always)]
     pub fn try_slice(&self, lo: Bound<usize>, hi: Bound<usize>) -> Option<Result<IoBuf, BufError>>
         ensures fits { IsSome result ↔ IsTrue (range_fits lo hi (length self.now.bytes)) }
@@ -224,8 +224,8 @@ impl IoBuf {
         })
     }
 
-    /// Recovers the storage for writing, or returns the view (`IoBuf::try_into_mut`). It recovers native storage that
-    /// no other buffer shares: tested, not proved.
+    /// Recovers the storage for writing, or returns the view (`IoBuf::try_into_mut`). Native storage that no other
+    /// buffer shares is recovered: tested, not proved.
     #[inline(always)]
     pub fn try_into_mut(self, alloc: Global) -> Result<IoBufMut, IoBuf>
         ensures { IsRecovery self result }
@@ -254,8 +254,8 @@ impl IoBuf {
         Ok(Vec::from_slice(alloc, self.as_ref())?)
     }
 
-    /// Converts into a `Bytes` (`Bytes::from`). It copies the bytes of native storage that is shared, or that has
-    /// capacity after the view. If allocation fails, the view comes back.
+    /// Converts into a `Bytes` (`Bytes::from`). Copies the bytes of native storage that is shared, or that has capacity
+    /// after the view. If allocation fails, the view comes back.
     pub fn into_bytes(self, alloc: Global) -> Result<Bytes, IoBuf>
         ensures same { MatchResult result (λ bytes. bytes ≡ self.bytes) (λ view. view ≡ self) }
         ensures static_text { self.mark ≡ static_mark → IsOk result }
@@ -275,7 +275,7 @@ impl IoBuf {
         }
     }
 
-    /// Takes the first `at` bytes as `split_to` does, if there are so many (own); otherwise nothing changes.
+    /// Acts as `split_to` if the view has `at` bytes; otherwise returns `None` and changes nothing (own).
     #[inline(always)]
     pub fn try_split_to(&mut self, at: usize) -> Option<Result<IoBuf, BufError>>
         ensures short { result ≡ None ↔ (length self.old.bytes < at) }

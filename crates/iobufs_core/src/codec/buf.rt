@@ -38,8 +38,7 @@ pub trait Buf {
         requires { n ≤ length (text self.old) }
         ensures { self.new ≡ advanced self.old n };
 
-    /// Drops the first `n` bytes as `advance` does, and returns whether there are so many (own); otherwise nothing
-    /// changes.
+    /// Acts as `advance` if `n` bytes remain, and returns whether they do (own); otherwise nothing changes.
     #[inline(always)]
     fn try_advance(&mut self, n: usize) -> bool
     where

@@ -8,7 +8,8 @@ use std::alloc::Global;
 /// Encoding into one buffer (the codec's `Encode`).
 pub trait Encode: Write {
     /// Encodes into one buffer of exactly the value's size (`Encode::encode`). Fails with `Error::TooLong` if
-    /// `encode_size` is `None`, then with `Error::BadLayout` above `isize::MAX` bytes.
+    /// `encode_size` is `None`, with `Error::BadLayout` if the size is above `isize::MAX`, and with `Error::Memory` if
+    /// allocation fails.
     #[tactic(auto, using(crate::proofs::LayoutLaws::good_layout, crate::proofs::LayoutLaws::large_layout))]
     final fn encode(&self, alloc: Global) -> Result<IoBufMut, Error>
     where

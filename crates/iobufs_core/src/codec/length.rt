@@ -157,7 +157,7 @@ pub(super) fn length_in<B: Buf>(buf: &B, range: &RangeCfg) -> Result<Spelled, Er
     length_behind(buf, 0, range)
 }
 
-/// Reads the varint after the first `skip` bytes, and returns it with its number of bytes (own). All bytes stay.
+/// Decodes the varint after the first `skip` bytes, and returns the number and the varint's size (own). All bytes stay.
 /// Fails with `Error::EndOfBuffer`, `Error::InvalidVarint` or `Error::InvalidLength`, as reading a length does.
 pub fn peek_length<B: Buf>(buf: &B, skip: usize, range: &RangeCfg) -> Result<(usize, usize), Error>
     requires { skip ≤ length (B.text buf.now) }

@@ -30,7 +30,7 @@ pub trait Peek: OwnedBuf {
         requires { skip + length dst.old ≤ length (Self.text self.now) }
         ensures { dst.new ≡ take (length dst.old) (drop skip (Self.text self.now)) };
 
-    /// Acts as `peek_owned` if there are so many bytes (own).
+    /// Acts as `peek_owned` if there are `skip + n` bytes; otherwise returns `None` (own).
     fn try_peek_owned<T: OwnedBytes>(
         &self,
         alloc: Global,
@@ -54,7 +54,7 @@ pub trait Peek: OwnedBuf {
         Some(self.peek_owned(alloc, skip, n))
     }
 
-    /// Acts as `peek_slice` if there are so many bytes, and returns whether there are (own); otherwise nothing changes.
+    /// Acts as `peek_slice` if the bytes are there, and returns whether they are (own); otherwise nothing changes.
     fn try_peek_slice(&self, skip: usize, dst: &mut [u8]) -> bool
     where
         Self: Sized,

@@ -69,7 +69,7 @@ impl Read for Bytes {
 
     ghost dropping = { λ bytes. by_copy (length (bytes_written bytes)) ∷ [] };
 
-    /// Cannot fail with `Error::Memory` if the bytes are static.
+    /// Cannot fail with `Error::Memory` if the bytes are in one static chunk.
     fn read_cfg<B: OwnedBuf>(alloc: Global, buf: &mut B, range: &RangeCfg) -> Result<Bytes, Error>
         ensures answer { IsBytesRead (B.marked buf.old) range.now result }
         ensures left { IfOk result (λ bytes. buf.new ≡ dropped B.advanced B.copied buf.old

@@ -31,8 +31,8 @@ pub trait BufsMut: BufMut {
     // From one value to another by these puts and pushes, all of which fit.
     ghost done: { Self → List PutOrPush → Self → Type 0 };
 
-    /// Appends a view (`BufsMut::push`). Fails with `BufError::TooLong` exactly if it is longer than pushes may still
-    /// add.
+    /// Appends a view (`BufsMut::push`), or returns it: with `BufError::TooLong` exactly if it is longer than pushes
+    /// may still add, else with `BufError::Memory`.
     fn push(&mut self, view: IoBuf) -> Result<(), Refused<IoBuf>>
         ensures ok { OnOk result (done self.old (push_item view ∷ []) self.new) }
         ensures unchanged { OnErr result (self.new ≡ self.old) }
@@ -43,8 +43,8 @@ pub trait BufsMut: BufMut {
             → IfErr result (λ refused. refused.cause ≡ BufError.Memory) }
         ensures nothing { length view.bytes ≡ 0 → IsOk result };
 
-    /// Appends a `Bytes` (`BufsMut::push`). Fails with `BufError::TooLong` exactly if it is longer than pushes may
-    /// still add.
+    /// Appends a `Bytes` (`BufsMut::push`), or returns it: with `BufError::TooLong` exactly if it is longer than pushes
+    /// may still add, else with `BufError::Memory`.
     fn push_bytes(&mut self, bytes: Bytes) -> Result<(), Refused<Bytes>>
         ensures ok { OnOk result (done self.old (push_item (view_of_bytes bytes) ∷ []) self.new) }
         ensures unchanged { OnErr result (self.new ≡ self.old) }
@@ -97,8 +97,9 @@ pub trait Write: EncodeSize {
         requires { length (Self.written self.now) ≤ B.room buf.old }
         ensures { B.filled buf.old (Self.written self.now) buf.new };
 
-    /// Puts and pushes the encoded bytes (`Write::write_bufs`). If it fails, `buf` keeps the bytes that were written up
-    /// to there. Cannot fail if no byte is pushed.
+    /// Puts and pushes the encoded bytes (`Write::write_bufs`). Fails with `Error::Memory`, or with `Error::TooLong` if
+    /// the pushed bytes are more than pushes may still add; then `buf` keeps a prefix of the encoded bytes. Cannot fail
+    /// if no byte is pushed.
     fn write_bufs<B: BufsMut>(&self, buf: &mut B) -> Result<(), Error>
         requires { items_inline (Self.items self.now) ≤ B.room buf.old }
         ensures ok { OnOk result (B.done buf.old (Self.items self.now) buf.new) }
@@ -251,7 +252,7 @@ impl Read for IoBuf {
 
     ghost same = { λ x y. x.bytes ≡ y.bytes };
 
-    /// Cannot fail with `Error::Memory` if the bytes are static.
+    /// Cannot fail with `Error::Memory` if the bytes are in one static chunk.
     #[inline(always)]
     fn read_cfg<B: OwnedBuf>(alloc: Global, buf: &mut B, range: &RangeCfg) -> Result<IoBuf, Error>
         ensures answer { IsViewRead (B.marked buf.old) range.now result }

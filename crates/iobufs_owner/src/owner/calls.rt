@@ -1,5 +1,5 @@
-//! The threads' unfinished calls, and for each handle how many of them borrow it. So a step looks at no other thread's
-//! call.
+//! The threads' unfinished calls, and for each handle how many of them borrow it, so that a step looks at no other
+//! thread's call.
 ghost use Rattle.std.specs.Prelude.{◌≡◌, ℕ, ◌+◌, ◌^◌, ◌<◌, ◌≤◌, length, slice_index, slice_set, replicate, if◌then◌else◌, IfOk, IfSome, IsOk, OnErr, OnOk, None};
 ghost use Rattle.iobufs_owner.specs.Lending as lending;
 ghost use Rattle.iobufs_owner.specs.Lending.{is_lent, lends};

@@ -9,7 +9,7 @@ ghost use Rattle.iobufs_owner.specs.ShortCalls.{demote_of};
 use crate::owner::{Handle, Machine, Record, Reply, Word};
 
 impl Machine {
-    /// A view's record is freed, where it counts the view alone and a descriptor can stand in its place.
+    /// A view's record is freed, if it counts the view alone, the block is native, and a descriptor can take its place.
     pub(super) fn demote(&mut self, h: usize) -> Reply
         ensures reply { result ≡ (demote_of self.old.state h).reply }
         ensures state { self.new.state ≡ (demote_of self.old.state h).state }

@@ -27,7 +27,7 @@ fn frozen(x: Handle, word: Word) -> Handle
 }
 
 impl Machine {
-    /// A writable handle becomes a view; an empty one lets its block go.
+    /// A writable handle becomes a view; an empty one frees its block.
     pub(super) fn freeze(&mut self, h: usize, memory: bool) -> Result<Reply, Full>
         ensures { Took self.old (freeze_of self.old.state h memory) result self.new }
     {

@@ -1,4 +1,4 @@
-//! Handles as a call asks for them: there, of the right kind, and not borrowed.
+//! Handles as a call requires them: there, of the right kind, and not borrowed.
 ghost use Rattle.std.specs.Prelude.{◌≡◌, ◌+◌, ◌^◌, ◌<◌, length, IfOk, IfSome};
 ghost use Rattle.iobufs_owner.specs.declared.owner.types.Kind.TheVariants.{View};
 ghost use Rattle.iobufs_owner.specs.Lending.{lend_of, lend_any_of, lend_owning_of, lend_owning_view_of, Lends};

@@ -11,7 +11,7 @@ ghost use Rattle.iobufs_owner.specs.Sound.{LiesIn};
 use crate::owner::room::{room_for_block, room_for_handle, room_for_record};
 use crate::owner::{Block, Full, Handle, Kind, Machine, Record, Refusal, Reply, Word};
 
-/// Whether a block may lie here.
+/// Whether a block may have this base, size and alignment.
 fn is_place(base: u64, size: u64, align: u64) -> bool
     ensures yes { result ≡ true → IsPlace base size align }
     ensures no { result ≡ false → IsPlace base size align → ⊥ }
@@ -59,7 +59,7 @@ fn are_apart(blocks: &[Block], base: u64, size: u64) -> bool
 }
 
 impl Machine {
-    /// Whether a new block may lie here.
+    /// Whether a new block may be here.
     fn is_good_place(&self, base: u64, size: u64, align: u64) -> bool
         ensures yes { result ≡ true → IsGoodPlace self.now.state.tables.blocks base size align }
         ensures no { result ≡ false → IsGoodPlace self.now.state.tables.blocks base size align → ⊥ }
@@ -135,7 +135,7 @@ impl Machine {
         self.add_recorded(block, x)
     }
 
-    /// A view of so many bytes without block, as the next handle.
+    /// A view of `len` bytes without block, as the next handle.
     pub(super) fn add_detached(&mut self, len: u64) -> Result<Reply, Full>
         ensures { Took self.old (made self.old.state (detached_handle len)) result self.new }
     {

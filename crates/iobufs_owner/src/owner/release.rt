@@ -26,7 +26,7 @@ fn after_count(count: u64, r: usize) -> Pending
 }
 
 impl Machine {
-    /// A drop begins: the handle is gone. What it holds alone is freed at once, but for a view with a record.
+    /// A drop begins: the handle is gone. A block that it holds alone is freed at once, except by a view with a record.
     pub(super) fn drop_handle(&mut self, thread: usize, h: usize) -> Reply
         requires there { thread < length self.old.state.calls }
         requires idle { call_at self.old.state thread ≡ None }
@@ -98,7 +98,7 @@ impl Machine {
         Reply::More
     }
 
-    /// A drop lets go; who saw the count at 1 will free.
+    /// A drop subtracts its holder; the drop that saw the count at 1 frees.
     pub(super) fn subtract(&mut self, thread: usize, r: usize) -> Reply
         requires { call_at self.old.state thread ≡ Some (Subtract r) }
         ensures reply { result ≡ (subtract_of self.old.state thread r).reply }

@@ -8,7 +8,7 @@ use iobufs_core::codec::BufError;
 use std::alloc::AllocError;
 
 impl Machine {
-    // Whether each table has memory for so many entries more, and its log and what else grows with it.
+    // Whether each table has memory for this many entries more, and its log and what else grows with it.
     fn has_room(&self, blocks: usize, handles: usize, records: usize) -> bool
         ensures yes { result ≡ true → RoomFor self.now.room self.now.state blocks handles records }
         ensures no { RoomFor self.now.room self.now.state blocks handles records → result ≡ true }
@@ -23,9 +23,9 @@ impl Machine {
             && records <= self.freed_records.capacity() - all_records
     }
 
-    /// Makes space for this many entries more in each table and its log. If it fails, nothing has changed, capacities
-    /// included. A table that grows becomes at least twice as large, so space for one entry before each step costs
-    /// little.
+    /// Makes space for this many entries more in each table and its log. If it fails, returns `BufError::Memory` and
+    /// changes nothing, not even capacities. A table that grows becomes at least twice as large, so space for one entry
+    /// before each step costs little.
     pub fn reserve(&mut self, blocks: usize, handles: usize, records: usize) -> Result<(), BufError>
         ensures state { self.new.state ≡ self.old.state }
         ensures room { KeepsRoom self.old.room self.new.room }
@@ -62,7 +62,7 @@ impl Machine {
     }
 }
 
-// Memory for so many entries more than the first table has, for it and for one beside it.
+// Memory for `more` entries more than the first table has, for it and for one beside it.
 fn grown<T: Copy, B: Copy>(
     table: &Vec<T>,
     beside: &Vec<B>,
@@ -86,7 +86,7 @@ fn grown<T: Copy, B: Copy>(
     Ok((larger(table, entries)?, larger(beside, entries)?))
 }
 
-// The entries of a table with memory for so many in all, where the table has less: then for at least twice as many as
+// The entries of a table in memory for `entries` in all, if the table has less: then for at least twice as many as
 // before, so that a table that grows often is copied seldom.
 fn larger<T: Copy>(table: &Vec<T>, entries: usize) -> Result<Option<Vec<T>>, AllocError>
     ensures items { IfOk result (λ larger. IfSome larger (λ new. new.items ≡ table.now.items)) }

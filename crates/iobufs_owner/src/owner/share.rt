@@ -176,7 +176,7 @@ impl Machine {
         Ok(Reply::More)
     }
 
-    /// The record is put in the descriptor's place, where that still stands; else another record stands there.
+    /// The record takes the descriptor's place, if that is unchanged; else another record has taken it.
     pub(super) fn race(
         &mut self,
         thread: usize,

@@ -39,7 +39,7 @@ pub enum Kind {
 pub enum Word {
     /// Nothing.
     Empty,
-    /// A block alone, which the packed word describes. In the original `Descriptor`.
+    /// The only share of a block, which the packed word describes. In the original `Descriptor`.
     Descriptor(u64),
     /// A share of the block that the record of this number counts.
     Record(usize),
@@ -76,14 +76,14 @@ pub struct Share {
 pub enum Pending {
     /// A clone or slice has loaded this descriptor, and makes a record.
     Loaded(Share, u64),
-    /// It has made the record of this number, and tries to put it in the descriptor's place.
+    /// A clone or slice has made the record of this number, and tries to put it in the descriptor's place.
     Ready(Share, u64, usize),
-    /// It adds a holder to the record of this number.
+    /// A clone or slice adds a holder to the record of this number.
     Add(Share, usize),
     /// A drop subtracts its holder from the record of this number.
     Subtract(usize),
-    /// A drop frees the record of this number and its block. A count of 0 says that it has let go; a count of 1 is its
-    /// own.
+    /// A drop frees the record of this number and its block. If the count is 0, the drop has subtracted its holder; if
+    /// it is 1, it counts the drop alone.
     Release(usize),
 }
 
@@ -111,9 +111,9 @@ pub enum Call {
     Put(usize, u64),
     /// Drops this many bytes from the front of a handle.
     Advance(usize, u64),
-    /// Makes a writable handle a view.
+    /// Makes a writable handle a view; an empty one frees its block.
     Freeze(usize),
-    /// Makes a view writable that alone holds its native block.
+    /// Makes a view writable if it alone holds its native block, or has neither block nor bytes.
     TryIntoMut(usize),
     /// Moves this many first bytes of a view into a view of their own.
     SplitTo(usize, u64),
@@ -126,21 +126,21 @@ pub enum Call {
     Clone(usize),
     /// Makes a view of the bytes from the first number to the second, in several steps if it has some and a block.
     Slice(usize, u64, u64),
-    /// Drops the handle, and frees its block if no other handle holds it; in several steps for a shared view.
+    /// Drops the handle, and frees its block if no other handle holds it; in several steps for a view with a record.
     Drop(usize),
 }
 
-/// A thread begins a call, or goes on with its unfinished one. The flag says whether the step may take memory.
+/// A thread begins a call, or goes on with its unfinished one. The flag says whether the step may allocate.
 #[derive(Clone, Copy, Debug, PartialEq, Eq, Drop)]
 pub enum Act {
     /// The first step of a call.
     Begin(Call, bool),
-    /// A further step of the unfinished one.
+    /// A further step of the unfinished call.
     Go(bool),
 }
 
-/// One step of one thread, which goes by its number. It represents at most one atomic access to a word or a count of
-/// the original.
+/// One step of one thread, which goes by its number. A step represents at most one atomic access to a word or a count
+/// of the original.
 #[derive(Clone, Copy, Debug, PartialEq, Eq, Drop)]
 pub struct Step {
     /// The thread.
@@ -154,7 +154,7 @@ pub struct Step {
 pub enum Refusal {
     /// The thread has an unfinished call.
     Busy,
-    /// The thread has none to go on with, or doesn't exist.
+    /// The thread has no unfinished call to go on with, or doesn't exist.
     Idle,
     /// The number was never given, or the handle is gone.
     NoHandle,
@@ -166,9 +166,9 @@ pub enum Refusal {
     OutOfRange,
     /// No block may be there.
     BadPlace,
-    /// The step needs memory, and its flag denies it. An unfinished call is ended.
+    /// The step has to allocate, and its flag denies it. An unfinished call is ended.
     Memory,
-    /// One holder more, if the count is above the ceiling. An unfinished call is ended.
+    /// The step would add a holder, and the count is above the ceiling. An unfinished call is ended.
     Ceiling,
     /// A table that the step adds an entry to is full, or has 2^32 entries.
     Room,
@@ -187,10 +187,10 @@ pub enum Reply {
     More,
     /// The call is done.
     Done,
-    /// A view that may not become writable, or that keeps the word it has; nothing has changed.
+    /// The view can't become writable, or its record can't become a descriptor; nothing has changed.
     Declined,
     /// Whether the handle is the only holder of its block.
     Unique(bool),
-    /// The step wasn't taken.
+    /// The step isn't executed.
     Refused(Refusal),
 }

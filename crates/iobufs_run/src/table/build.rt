@@ -89,7 +89,7 @@ fn pass(items: &[Item], capacity: usize) -> bool
     false
 }
 
-// Whether the capacity and the pushed views are more than a length can say.
+// Whether the sum of the capacity and the lengths of the pushed views doesn't fit a `usize`.
 fn are_too_long(slots: &[Slot], capacity: usize, items: &[Item]) -> bool
     ensures { result ≡ is_too_long (capacity + total_extent slots.now (pushed_names items.now)) }
 {
@@ -133,7 +133,7 @@ fn building(slots: &[Slot], dst: usize, capacity: usize, items: &[Item]) -> Resu
     Ok(())
 }
 
-// Pushes the view that a name holds, which leaves the name.
+// Pushes the view that a name holds, and frees the name.
 fn push(slots: &mut [Slot], name: usize, builder: &mut Builder) -> Result<(), Refusal>
     requires view { of Kind.View (slot_named slots.old name) ≡ true }
     requires fits { extent (slot_named slots.old name) ≤ room_for_pushes builder.old }

@@ -1,4 +1,4 @@
-// The causes that several commands have in common, each told in its order. None of these allocates.
+// The causes that several commands have in common, each tested in its order. No test allocates.
 ghost use Rattle.std.specs.Prelude.{◌≡◌, ◌≢◌, ◌<◌, ◌≤◌, true, false, length, [], ◌∷◌, IfErr, MatchResult, Some, None};
 ghost use Rattle.iobufs_run.specs.Causes.{any_kind, first_cause, free_name as free_name_causes, lent as lent_causes, move_causes as moved_causes, one_of};
 ghost use Rattle.iobufs_run.specs.Slots.{is_free as free, is_one_of as of_one, slot_named};

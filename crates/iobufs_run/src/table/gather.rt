@@ -16,7 +16,7 @@ use iobufs::bufs_mut::IoBufsMut;
 use iobufs_core::buf::IoBufMut;
 use std::alloc::Global;
 
-// Whether a name stands twice in a list.
+// Whether a name is in a list twice.
 fn has_twice(names: &[usize]) -> bool
     ensures { result ≡ twice names.now }
 {
@@ -52,7 +52,7 @@ pub(super) fn holds(slots: &[Slot], name: usize, kind: Kind) -> bool
     }
 }
 
-// How much the buffer of a name counts among others that it is put together with.
+// The capacity of a name's `IoBufMut`, else how many bytes can be read from what the name holds.
 pub(super) fn extent_at(slots: &[Slot], name: usize) -> usize
     ensures { result ≡ extent (slot_named slots.now name) }
 {
@@ -141,7 +141,7 @@ fn strung(alloc: Global, row: Vec<IoBufMut>) -> Result<IoBufsMut, Refusal>
     Ok(IoBufsMut::from_parts(alloc, row.into_iter())?)
 }
 
-// Takes the parts of these names, and strings them together.
+// Takes the parts of these names, and concatenates them.
 fn take_parts(alloc: Global, slots: &mut [Slot], sources: &[usize]) -> Result<IoBufsMut, Refusal>
     requires parts { list_all (λ src. of Kind.Part (slot_named slots.old src)) sources.now ≡ true }
     requires once { twice sources.now ≡ false }

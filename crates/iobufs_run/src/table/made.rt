@@ -42,7 +42,7 @@ pub(super) fn of_bytes(alloc: Global, slots: &mut [Slot], dst: usize, bytes: &Ve
     Ok(Reply::Done)
 }
 
-// A view or an `IoBufs` again.
+// A clone of a view or of an `IoBufs`.
 fn cloned(slot: &Slot) -> Result<Slot, Refusal>
     ensures ok { IfOk result (λ clone. clone ≡ slot.now) }
     ensures err { IfErr result (λ refusal. (refusal ≡ Refusal.Memory)

@@ -176,7 +176,7 @@ pub(super) fn freeze(alloc: Global, slots: &mut [Slot], src: usize, dst: usize) 
     Ok(Reply::Done)
 }
 
-// Takes the view that a slot holds as a part, which leaves the slot. It stays where it can't be written.
+// Recovers the view of a slot for writing, and frees the slot. A view that can't be written stays.
 fn recover_slot(alloc: Global, slot: &mut Slot) -> Result<IoBufMut, Refusal>
     ensures ok { IfOk result (λ part. (Slot.Part part ≡ slot_recovered slot.old) × (slot.new ≡ Slot.Free)
         × (is_fixed_view slot.old ≡ false)) }

@@ -56,7 +56,8 @@ impl Gapped {
         self.entries.is_empty()
     }
 
-    /// Reserves entries for a gap, a chunk and the bytes after them; the first time, for two gaps and two chunks.
+    /// Reserves three entries: for a gap, a chunk, and the bytes after them. If there is no entry yet, reserves five:
+    /// for two gaps, two chunks, and the bytes after them.
     pub(crate) fn make_room(&mut self) -> Result<(), AllocError>
         ensures same { self.new.segments ≡ self.old.segments }
         ensures more { self.old.room ≤ self.new.room }
@@ -68,7 +69,7 @@ impl Gapped {
         self.entries.try_reserve(3)
     }
 
-    /// Adds a gap and a chunk; no gap if it is for no bytes.
+    /// Adds a gap for `run` bytes and a chunk; no gap if `run` is 0.
     pub(crate) fn push(&mut self, run: usize, view: IoBuf)
         requires some { 0 < length view.bytes }
         requires room { length self.old.segments + 3 ≤ self.old.room }
