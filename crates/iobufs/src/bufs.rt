@@ -413,8 +413,8 @@ impl IoBufs {
         Ok(IoBufs { pieces })
     }
 
-    /// Keeps at most the first `len` bytes (own; `BytesMut::truncate`). If bytes go, it leaves what `split_to` returns
-    /// for `len`.
+    /// Keeps at most the first `len` bytes (own; `BytesMut::truncate`). If bytes go, leaves what `split_to` returns for
+    /// `len`.
     /// If allocation fails, returns `BufError::Memory` and changes nothing.
     pub fn truncate(&mut self, alloc: Global, len: usize) -> Result<(), BufError>
         ensures kept { OnOk result (len < text_len self.old → self.new ≡ text_split_front self.old len) }

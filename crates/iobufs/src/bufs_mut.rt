@@ -350,8 +350,8 @@ impl IoBufsMut {
         self.shape.single_mut()
     }
 
-    /// Returns the address of the first chunk of the readable bytes for writing, which isn't null, even if no byte is
-    /// readable (own, for layers).
+    /// Returns the address of the first chunk of the readable bytes, for writing (own, for layers). The address isn't
+    /// null, even if no byte is readable.
     pub fn chunk_ptr(&mut self) -> *mut u8
         ensures address { result ≡ null_ptr → ⊥ }
         ensures same { self.new ≡ self.old }
@@ -363,8 +363,8 @@ impl IoBufsMut {
         }
     }
 
-    /// Returns the address of the readable bytes of a buffer by its index for writing, which isn't null, even if no
-    /// byte is readable (own, for layers).
+    /// Returns the address of the readable bytes of a buffer by its index, for writing (own, for layers). The address
+    /// isn't null, even if no byte is readable.
     pub fn part_ptr(&mut self, i: usize) -> *mut u8
         requires { i < length self.old }
         ensures address { result ≡ null_ptr → ⊥ }
@@ -503,8 +503,8 @@ impl Buf for IoBufsMut {
         self.advance(dst.len());
     }
 
-    /// Takes the first `n` bytes, and leaves what `advance` leaves. It may take them with their storage if they are all
-    /// bytes of a buffer without spare capacity, and copies them otherwise.
+    /// Takes the first `n` bytes, and leaves what `advance` leaves. May take the bytes with their storage if they are
+    /// all bytes of a buffer without spare capacity; otherwise copies them.
     #[tactic(auto, using(crate::proofs::Parts::PartChunks::reading, crate::proofs::Parts::FewLaws::keeping))]
     fn copy_to_bytes(&mut self, alloc: Global, n: usize) -> Result<Bytes, BufError> {
         if n == 0 {

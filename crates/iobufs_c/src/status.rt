@@ -15,11 +15,11 @@ pub enum Status {
     BadLayout,
     /// A sum of lengths or capacities would be too large, or a header can't have this length or these bytes.
     TooLong,
-    /// A range or an offset is outside the bytes, or the bytes are more than the spare capacity.
+    /// A length, a range or an offset doesn't fit the buffer.
     OutOfRange,
     /// Fewer bytes are left than are required, or a frame isn't whole.
     EndOfBuffer,
-    /// The bytes are an invalid varint.
+    /// A varint is invalid.
     InvalidVarint,
     /// The length is outside the range, or the number in a header is below what it counts.
     InvalidLength,

@@ -108,7 +108,7 @@ pub extern "C" fn iobufs_from_view(src: &mut ViewAt, out: &mut TextAt)
     *out.get() = IoBufs::from(view);
 }
 
-/// Returns whether two `IoBufs` hold the same bytes, for every chunking.
+/// Returns whether two `IoBufs` hold equal bytes, for every chunking.
 #[unsafe(no_mangle)]
 pub extern "C" fn iobufs_eq(text: &mut TextAt, other: &mut TextAt) -> bool
     ensures same { (text.new.at ≡ text.old.at) × (text.new.value ≡ text.old.value) }
@@ -119,7 +119,7 @@ pub extern "C" fn iobufs_eq(text: &mut TextAt, other: &mut TextAt) -> bool
     text.get() == other.get()
 }
 
-/// Clones an `IoBufs`, in the same storage. Returns `Status::Memory` if an allocation fails; then `out` is unchanged.
+/// Clones an `IoBufs`, sharing its storage. Returns `Status::Memory` if an allocation fails; then `out` is unchanged.
 #[unsafe(no_mangle)]
 pub extern "C" fn iobufs_clone(text: &mut TextAt, out: &mut TextAt) -> u8
     ensures same { (text.new.at ≡ text.old.at) × (text.new.value ≡ text.old.value) }

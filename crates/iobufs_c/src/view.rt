@@ -121,7 +121,7 @@ pub extern "C" fn iobuf_chunk(src: &mut ViewAt, out: &mut *const u8) -> usize
     chunk.len()
 }
 
-/// Returns whether two views hold the same bytes.
+/// Returns whether two views hold equal bytes.
 #[unsafe(no_mangle)]
 pub extern "C" fn iobuf_eq(src: &mut ViewAt, other: &mut ViewAt) -> bool
     ensures same { (src.new.at ≡ src.old.at) × (src.new.value ≡ src.old.value) }
@@ -133,7 +133,8 @@ pub extern "C" fn iobuf_eq(src: &mut ViewAt, other: &mut ViewAt) -> bool
     bytes == others
 }
 
-/// Clones a view, in the same storage. Returns `Status::Memory` if that fails; then `out` is unchanged.
+/// Clones a view, sharing its storage. Returns `Status::Memory` if the storage can't count one more owner; then `out`
+/// is unchanged.
 #[unsafe(no_mangle)]
 pub extern "C" fn iobuf_clone(src: &mut ViewAt, out: &mut ViewAt) -> u8
     ensures same { (src.new.at ≡ src.old.at) × (src.new.value ≡ src.old.value) }
@@ -162,7 +163,7 @@ pub extern "C" fn iobuf_advance(src: &mut ViewAt, n: usize) -> u8
     within(src.get().try_advance(n))
 }
 
-/// Splits the first bytes off, in the same storage. Returns `Status::OutOfRange` if there are fewer, or
+/// Splits the first bytes off, sharing their storage. Returns `Status::OutOfRange` if there are fewer, or
 /// `Status::Memory`; then both are unchanged.
 #[unsafe(no_mangle)]
 pub extern "C" fn iobuf_split_to(src: &mut ViewAt, at: usize, out: &mut ViewAt) -> u8
@@ -208,7 +209,7 @@ fn bound(kind: u8, n: usize) -> Option<Bound<usize>>
     }
 }
 
-/// Makes a view of a range, in the same storage. Returns `Status::BadKind` for an unknown kind of bound,
+/// Makes a view of a range, sharing its storage. Returns `Status::BadKind` for an unknown kind of bound,
 /// `Status::OutOfRange` if the range isn't within the bytes, or `Status::Memory`; then `out` is unchanged.
 #[unsafe(no_mangle)]
 pub extern "C" fn iobuf_slice(

@@ -6,7 +6,7 @@ ghost use Rattle.std.specs.Io.KnownBytes.{Keeps, WriteAppends};
 use iobufs_core::codec::BufMut;
 use std::io::{self, Write};
 
-/// Makes any writable buffer one of std's writers (`bytes::BufMut::writer`). An `IoBufsMut` needs it: it is no
+/// Makes any writable buffer one of std's writers (`bytes::BufMut::writer`). `IoBufsMut` needs this, because it isn't a
 /// `bytes::BufMut`.
 #[derive(Drop)]
 pub struct Writer<B> {

@@ -11,9 +11,9 @@ ghost use Rattle.iobufs_frames.specs.declared.reader.FrameReader.{FrameReader};
 
 use std::io::Read;
 
-/// In a layout and a range, bytes have exactly one list of frames, one end and one rest. So `Frames::run` returns equal
-/// bodies, end and rest for every chunking, if it succeeds. A call that takes a frame takes the first frame. A proper
-/// prefix of a frame is open, and a bad rest stays bad.
+/// In a layout and a range, bytes have exactly one list of frames, one end and one rest. For every chunking
+/// `Frames::run` returns equal bodies, end and rest, if it succeeds. A call that takes a frame takes the first frame. A
+/// proper prefix of a frame is open, and a bad rest stays bad.
 pub fn frames_law()
     ensures one { (layout : Layout) → HaveOneReading layout }
     ensures some { (layout : Layout) (range : RangeCfg) (text : List ℕ) → HasFrames layout range text }
@@ -25,8 +25,8 @@ pub fn frames_law()
     ensures bad { (layout : Layout) → BadStaysBad layout }
 {}
 
-/// If a reader's bytes are known, the frame that it takes is the first of all that it holds and may still read, and the
-/// others are left.
+/// If a reader's bytes are known, a `FrameReader` takes the first frame of all that it holds and may still read, and
+/// leaves the others.
 pub fn reader_law<R: Read + Drop>()
     ensures body { (old new : FrameReader R) (result : Result (Option View) FrameError)
         → TakesFrame R.remaining old result new → IsFirstOfAll is_body has_bytes R.remaining old result new }

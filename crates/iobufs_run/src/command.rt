@@ -1,4 +1,4 @@
-// The commands, and what is answered to them.
+// The commands, and the replies to them.
 ghost use Rattle.iobufs_run.specs.Refusals.{refusal_of, codec_refusal};
 ghost use Rattle.iobufs_run.specs.declared.command.Refusal.TheVariants.{Memory};
 ghost use Rattle.std.specs.Prelude.{◌≡◌};

@@ -1,6 +1,6 @@
 //! Commands on named buffers, and the theorem over every list of them.
 //!
-//! - `command`: what is asked and answered (`Cmd`, `Reply`, `Refusal`).
+//! - `command`: the commands and their replies (`Cmd`, `Reply`, `Refusal`).
 //! - `table`: `Table`, with a function for each command, and one for `Append` and `Prepend`, in the file of what it
 //!   works on (`parts`, `made`, `views`, `texts`, `gather`, `build`, `shown`, `slots`); `causes` has the tests that
 //!   several commands share.

@@ -481,8 +481,8 @@ impl Row {
         Ok(piece.view)
     }
 
-    /// Takes the first bytes, up to an offset. It allocates a deque for the side with fewer chunks, or for either if
-    /// they have equally many.
+    /// Takes the first bytes, up to an offset. Allocates a deque for the side with fewer chunks, or for either if they
+    /// have equally many.
     pub(super) fn split_front(
         &mut self,
         alloc: Global,

@@ -52,8 +52,8 @@ pub fn write_chunks_again<W: Write>(to: &mut W, chunks: &[IoSlice<'_>]) -> io::R
 }
 
 impl IoBufs {
-    /// Fills `dst` with the first chunks that hold bytes, and returns their number (`Buf::chunks_vectored`). It
-    /// allocates nothing.
+    /// Fills `dst` with the first chunks that hold bytes, and returns their number (`Buf::chunks_vectored`). Allocates
+    /// nothing.
     pub fn fill_slices<'a>(&'a self, dst: &mut [IoSlice<'a>]) -> usize
         ensures room { length dst.new ≡ length dst.old }
         ensures chunks { map io_slice_bytes (take result dst.new) ≡ take (length dst.old) (text_chunks self.now) }

@@ -150,8 +150,8 @@ impl IoBuf {
         }
     }
 
-    /// Returns the bytes of a range, in the same storage; an empty range gives the default view (`IoBuf::slice`). Test
-    /// the range by `fits_range`.
+    /// Returns the bytes of a range, sharing their storage; an empty range gives the default view (`IoBuf::slice`).
+    /// Test the range by `fits_range`.
     /// Returns `BufError::Memory` if the storage can't count one more owner.
     #[inline(always)]
     pub fn slice(&self, lo: Bound<usize>, hi: Bound<usize>) -> Result<IoBuf, BufError>

@@ -60,8 +60,8 @@ pub trait Buf {
         ensures bytes { dst.new ≡ take (length dst.old) (text self.old) }
         ensures rest { self.new ≡ advanced self.old (length dst.old) };
 
-    /// Takes the first `n` bytes (`Buf::copy_to_bytes`). An `IoBuf` or `IoBufs` copies nothing if they are in one chunk
-    /// that is a `Bytes` or static.
+    /// Takes the first `n` bytes (`Buf::copy_to_bytes`). An `IoBuf` or `IoBufs` copies nothing if these bytes are in
+    /// one chunk that is a `Bytes` or static.
     /// If allocation fails, returns `BufError::Memory` and changes nothing.
     fn copy_to_bytes(&mut self, alloc: Global, n: usize) -> Result<Bytes, BufError>
         requires { n ≤ length (text self.old) }

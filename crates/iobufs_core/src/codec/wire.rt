@@ -31,8 +31,8 @@ pub trait BufsMut: BufMut {
     // From one value to another by these puts and pushes, all of which fit.
     ghost done: { Self → List PutOrPush → Self → Type 0 };
 
-    /// Appends a view (`BufsMut::push`), or returns it: with `BufError::TooLong` exactly if it is longer than pushes
-    /// may still add, else with `BufError::Memory`.
+    /// Appends a view (`BufsMut::push`). If it fails, returns the view: with `BufError::TooLong` exactly if it is
+    /// longer than pushes may still add, else with `BufError::Memory`.
     fn push(&mut self, view: IoBuf) -> Result<(), Refused<IoBuf>>
         ensures ok { OnOk result (done self.old (push_item view ∷ []) self.new) }
         ensures unchanged { OnErr result (self.new ≡ self.old) }
@@ -43,8 +43,8 @@ pub trait BufsMut: BufMut {
             → IfErr result (λ refused. refused.cause ≡ BufError.Memory) }
         ensures nothing { length view.bytes ≡ 0 → IsOk result };
 
-    /// Appends a `Bytes` (`BufsMut::push`), or returns it: with `BufError::TooLong` exactly if it is longer than pushes
-    /// may still add, else with `BufError::Memory`.
+    /// Appends a `Bytes` (`BufsMut::push`). If it fails, returns the `Bytes`: with `BufError::TooLong` exactly if it is
+    /// longer than pushes may still add, else with `BufError::Memory`.
     fn push_bytes(&mut self, bytes: Bytes) -> Result<(), Refused<Bytes>>
         ensures ok { OnOk result (done self.old (push_item (view_of_bytes bytes) ∷ []) self.new) }
         ensures unchanged { OnErr result (self.new ≡ self.old) }

@@ -65,7 +65,7 @@ fn count(borrowers: &mut Vec<usize>, handle: Option<usize>)
 }
 
 impl Calls {
-    /// Makes room for the calls of this many threads, which have none.
+    /// Makes space for the calls of this many threads, none of which has one.
     pub(super) fn new(alloc: Global, threads: usize) -> Result<Calls, AllocError>
         ensures items { IfOk result (λ calls. calls.items ≡ replicate threads None) }
         ensures handles { IfOk result (λ calls. calls.handles ≡ 0) }

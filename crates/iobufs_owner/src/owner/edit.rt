@@ -68,7 +68,7 @@ impl Machine {
         }
     }
 
-    /// A view without block becomes writable where it is empty.
+    /// A view without block becomes writable if it is empty.
     fn recover_empty(&mut self, h: usize, x: Handle) -> Reply
         requires lent { Lends self.old.state h View x }
         requires word { x.word ≡ Empty }
@@ -107,7 +107,7 @@ impl Machine {
         Reply::Done
     }
 
-    /// A view with a record becomes writable to the end of its block where it is the only one that the record counts.
+    /// A view with a record becomes writable to the end of its native block, if the record counts the view alone.
     fn recover_counted(&mut self, h: usize, x: Handle, r: usize) -> Reply
         requires lent { Lends self.old.state h View x }
         requires word { x.word ≡ Counted r }

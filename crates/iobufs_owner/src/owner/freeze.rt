@@ -95,8 +95,8 @@ impl Machine {
         Reply::Done
     }
 
-    /// A writable handle with a descriptor becomes a view: its tail goes into the word where it fits, else a record
-    /// takes the word's place.
+    /// A writable handle with a descriptor becomes a view: its tail goes into the word if it fits, else a record takes
+    /// the word's place.
     fn freeze_described(
         &mut self,
         h: usize,

@@ -8,7 +8,7 @@ ghost use Rattle.iobufs_owner.specs.State.{handle_at};
 use crate::owner::{Handle, Kind, Machine, Refusal, Word};
 
 impl Machine {
-    /// The handle of this number, where it was given and isn't gone.
+    /// The handle of this number, if it was given and isn't gone.
     pub(super) fn find(&self, h: usize) -> Option<Handle>
         ensures value { result ≡ handle_at self.now.state h }
         ensures known { IfSome result (λ _. h < length self.now.state.handles) }

@@ -67,7 +67,7 @@ impl Machine {
         is_place(base, size, align) && are_apart(&self.blocks, base, size)
     }
 
-    /// A new block with a writable handle, which holds it by a descriptor where its fields fit, else by a record.
+    /// A new block with a writable handle, which holds it by a descriptor if its fields fit, else by a record.
     pub(super) fn new_block(
         &mut self,
         base: u64,

@@ -1,4 +1,4 @@
-//! Room in the machine's tables, as it is made: in all of them, or in none.
+//! Space in the machine's tables, as it is made: in all of them, or in none.
 ghost use Rattle.std.specs.Prelude.{◌≡◌, ◌⊎◌, ◌+◌, ◌*◌, ◌^◌, ◌<◌, ◌≤◌, length, vec_capacity, None, true, IfOk, IfSome, IsOk, IsOkUnless, OnErr, OnOk};
 ghost use Rattle.iobufs_owner.specs.Reserved.{RoomFor};
 ghost use Rattle.iobufs_owner.specs.State.{KeepsRoom};

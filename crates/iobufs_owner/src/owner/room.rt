@@ -1,4 +1,4 @@
-//! Room in the machine's tables, as a step looks for it.
+//! Space in the machine's tables, as a step requires it.
 ghost use Rattle.std.specs.Prelude.{◌≡◌, min, ◌+◌, ◌^◌, ◌<◌, ◌≤◌, length, vec_len, vec_capacity, OnOk, OnErr};
 ghost use Rattle.iobufs_owner.specs.Reserved.{blocks_of, new_blocks};
 ghost use Rattle.iobufs_owner.specs.State.{IsFull};
@@ -8,7 +8,7 @@ use crate::owner::types::{Act, Block, Call, Freed, Full, Handle, Record, Step};
 /// A table may have this many entries.
 const MOST: usize = 1 << 32;
 
-/// Whether a table has room for one entry more.
+/// Whether a table has space for one entry more.
 fn room_for_one<T>(table: &Vec<T>) -> Result<(), Full>
     ensures room { OnOk result (vec_len table.now < vec_capacity table.now) }
     ensures few { OnOk result (vec_len table.now < 2 ^ 32) }
@@ -21,7 +21,7 @@ fn room_for_one<T>(table: &Vec<T>) -> Result<(), Full>
     }
 }
 
-/// Whether there is room for one handle more.
+/// Whether there is space for one handle more.
 pub(super) fn room_for_handle(handles: &Vec<Option<Handle>>) -> Result<(), Full>
     ensures room { OnOk result (vec_len handles.now < vec_capacity handles.now) }
     ensures few { OnOk result (length handles.now.items < 2 ^ 32) }
@@ -30,7 +30,7 @@ pub(super) fn room_for_handle(handles: &Vec<Option<Handle>>) -> Result<(), Full>
     room_for_one(handles)
 }
 
-/// Whether there is room for one record more, and for each record in the log of freed ones.
+/// Whether there is space for one record more, and for each record in the log of freed ones.
 pub(super) fn room_for_record(records: &Vec<Record>, freed: &Vec<usize>) -> Result<(), Full>
     ensures room { OnOk result (vec_len records.now < vec_capacity records.now) }
     ensures few { OnOk result (length records.now.items < 2 ^ 32) }
@@ -46,7 +46,7 @@ pub(super) fn room_for_record(records: &Vec<Record>, freed: &Vec<usize>) -> Resu
     }
 }
 
-/// Whether there is room for one block more, and for each block in the log of freed ones.
+/// Whether there is space for one block more, and for each block in the log of freed ones.
 pub(super) fn room_for_block(blocks: &Vec<Block>, freed: &Vec<Freed>) -> Result<(), Full>
     ensures room { OnOk result (vec_len blocks.now < vec_capacity blocks.now) }
     ensures few { OnOk result (length blocks.now.items < 2 ^ 32) }

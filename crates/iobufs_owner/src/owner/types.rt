@@ -82,8 +82,8 @@ pub enum Pending {
     Add(Share, usize),
     /// A drop subtracts its holder from the record of this number.
     Subtract(usize),
-    /// A drop frees the record of this number and its block. If the count is 0, the drop has subtracted its holder; if
-    /// it is 1, it counts the drop alone.
+    /// A drop frees the record of this number and its block. If the count is 0, the drop has subtracted its holder; a
+    /// count of 1 is that holder.
     Release(usize),
 }
 

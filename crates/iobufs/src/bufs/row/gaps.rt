@@ -12,8 +12,8 @@ use std::alloc::{AllocError, Global};
 use std::collections::VecDeque;
 use std::marker::Model;
 
-/// A row in the making: chunks that stand, and gaps before them for bytes that are to come. A gap is a chunk without
-/// bytes, and its end says how many are to come:
+/// A row in the making: chunks, and gaps before them for bytes that are to come. A gap is a chunk without bytes, and
+/// its end says how many are to come:
 ///
 /// ```text
 /// pushed | gap 2 | X | gap 1 | Y |
