@@ -197,7 +197,7 @@ IOBUFS_CHECKED iobufs_status iobuf_slice(const struct iobuf_at *src, uint8_t lo_
  * Keeps: the view. */
 IOBUFS_CHECKED iobufs_status iobuf_try_into_mut(struct iobuf_at *src, struct iobufmut_at *out);
 
-/* ---- iobufmut (IoBufMut): a buffer to write, of a fixed capacity. None reads as one of capacity 0 ---- */
+/* ---- iobufmut (IoBufMut): a buffer to write, which never grows. A handle without one reads as one of capacity 0 ---- */
 
 /* The library's size of a `struct iobufmut`. */
 size_t iobufmut_size(void);
@@ -225,7 +225,7 @@ size_t iobufmut_capacity(const struct iobufmut_at *part);
 /* How many bytes may still be put. (BufMut::remaining_mut) */
 size_t iobufmut_remaining_mut(const struct iobufmut_at *part);
 /* Writes a pointer to the readable bytes, as iobuf_chunk does, and returns how many there are; they may be
- * overwritten there. If there is no buffer, it writes none. (AsRef, AsMut) */
+ * overwritten there. If there is no buffer, no pointer is written. (AsRef, AsMut) */
 size_t iobufmut_chunk(struct iobufmut_at *part, uint8_t **out);
 /* Appends bytes. (BufMut::put_slice)
  * Fails: IOBUFS_OUT_OF_RANGE if they don't fit. */
@@ -339,7 +339,7 @@ IOBUFS_CHECKED iobufs_status iobufs_coalesce(struct iobufs_at *bufs, struct iobu
  * Keeps: the chunks. */
 IOBUFS_CHECKED iobufs_status iobufs_try_into_single(struct iobufs_at *bufs, struct iobuf_at *out);
 
-/* ---- iobufsmut (IoBufsMut): several writable buffers as one. None reads as one part of capacity 0 ---- */
+/* ---- iobufsmut (IoBufsMut): writable buffers (parts) as one. A handle without any reads as one part of capacity 0 ---- */
 
 /* The library's size of a `struct iobufsmut`. */
 size_t iobufsmut_size(void);
@@ -361,8 +361,8 @@ size_t iobufsmut_capacity(const struct iobufsmut_at *parts);
 size_t iobufsmut_remaining_mut(const struct iobufsmut_at *parts);
 /* The number of parts. (own) */
 size_t iobufsmut_part_count(const struct iobufsmut_at *parts);
-/* Writes a pointer to the first chunk of the readable bytes, as iobuf_chunk does, and returns its length; it may be
- * overwritten there. If there are no parts, it writes none. (Buf::chunk) */
+/* Writes a pointer to the first chunk of the readable bytes, as iobuf_chunk does, and returns the chunk's length; its
+ * bytes may be overwritten there. If there are no parts, no pointer is written. (Buf::chunk) */
 size_t iobufsmut_chunk(struct iobufsmut_at *parts, uint8_t **out);
 /* Fills a list of n for readv (or writev) with the first chunks of the readable bytes, and returns how many it
  * filled. To read into parts, set their length first. (Buf::chunks_vectored) */
@@ -566,7 +566,7 @@ IOBUFS_CHECKED iobufs_status iobufs_frames_head(uint8_t prefix, size_t n, uint8_
 IOBUFS_CHECKED iobufs_status iobufs_frames_header(const struct iobufs_layout *layout, const uint8_t *around, size_t count, size_t n,
     uint8_t *out, size_t room, size_t *len);
 
-/* ---- iobufs_received (Received): frames of bytes that are read into one block. None reads as one that holds nothing ---- */
+/* ---- iobufs_received (Received): frames of bytes that are read into one block. A handle without one reads as one that holds nothing ---- */
 
 /* The library's size of a `struct iobufs_received`. */
 size_t iobufs_received_size(void);
