@@ -198,7 +198,7 @@ impl IoBufMut {
     /// ```
     ///
     /// # Safety
-    /// The caller must have written each of the first `n` bytes, by a put or at
+    /// Each of the first `n` bytes must be readable before the call, or have been written at
     /// [`as_mut_ptr`](Self::as_mut_ptr).
     ///
     /// # Panics

@@ -216,8 +216,8 @@ impl IoBufsMut {
         dst.iter_mut().zip(self.each_chunk()).map(|(slot, chunk)| *slot = IoSlice::new(chunk)).count()
     }
 
-    /// Takes the first `n` bytes (`Buf`). They are shared if they are all bytes of a single buffer, or all of the first
-    /// of several, and that has no spare capacity; else they are copied.
+    /// Takes the first `n` bytes (`Buf`). If they are all bytes of a single buffer, they are shared. Of several buffers,
+    /// the bytes of one without spare capacity may be shared, if it holds just these. All others are copied.
     ///
     /// ```
     /// let mut bufs = iobufs::IoBufsMut::from([b"ab", b"cd"].map(iobufs::IoBufMut::from));
