@@ -16,7 +16,8 @@ WORD = re.compile(r"[\w-]+")
 def definitions(text):
     """The relations of a file of specs/, each with its name and its rows: equations, or fields that aren't values."""
     for block in re.split(r"\n\n+", text):
-        head, *lines = [line for line in block.splitlines() if line.strip() and not line.strip().startswith("--")] or [""]
+        lines = [line for line in block.splitlines() if line.strip() and not line.strip().startswith("--")]
+        head, *lines = lines or [""]
         start = STARTS.match(head)
         rows = []
         for line in lines if start else []:
