@@ -181,16 +181,15 @@ impl Space {
         &mut self.storage.0.spare_capacity_mut()[..n]
     }
 
-    /// Makes the first `n` bytes of the capacity after the others readable. Panics if there are fewer.
+    /// Makes the first `n` bytes of the capacity after the others readable.
     ///
     /// # Safety
-    /// The caller has written them.
+    /// There are `n` bytes of capacity, and the caller has written them.
     #[inline]
-    #[track_caller]
     pub(crate) unsafe fn fill(&mut self, n: usize) {
-        assert!(n <= self.spare(), "{OUTSIDE}");
+        debug_assert!(n <= self.spare(), "{OUTSIDE}");
         let len = self.storage.0.len() + n;
-        // SAFETY: the limit is within the capacity, and the caller wrote the bytes.
+        // SAFETY: the limit is within the capacity, and the caller tested `n` and wrote the bytes.
         unsafe { self.storage.0.set_len(len) }
     }
 

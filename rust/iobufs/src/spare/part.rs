@@ -19,7 +19,7 @@ impl IoBufMut {
     #[track_caller]
     pub(crate) unsafe fn fill(&mut self, n: usize) {
         assert!(n <= self.space.spare(), "{}", crate::error::PAST);
-        // SAFETY: the caller's duty.
+        // SAFETY: the test above, and the caller's duty.
         unsafe { self.space.fill(n) }
     }
 
