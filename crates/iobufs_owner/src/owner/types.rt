@@ -126,7 +126,7 @@ pub enum Call {
     Clone(usize),
     /// Makes a view of the bytes from the first number to the second, in several steps if it has some and a block.
     Slice(usize, u64, u64),
-    /// Drops the handle, and frees its block if no other handle holds it; in several steps for a view with a record.
+    /// Drops the handle; the last holder frees the block. Takes several steps for a view with a record.
     Drop(usize),
 }
 
@@ -160,7 +160,7 @@ pub enum Refusal {
     NoHandle,
     /// The handle is a view and has to be writable, or the reverse. Or it has no block, and the call requires one.
     WrongKind,
-    /// An exclusive call on a handle with an unfinished clone or slice.
+    /// An unfinished clone or slice borrows the handle, and the call is neither.
     Borrowed,
     /// A length or range doesn't fit the handle.
     OutOfRange,
