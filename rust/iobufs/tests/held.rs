@@ -189,6 +189,19 @@ fn a_large_body_is_not_copied() {
     }
 }
 
+/// Once a body above a block is dropped, its reader holds nothing of it, also before the next read.
+#[test]
+fn a_large_block_is_not_kept() {
+    let mut to = FrameWriter::new(Vec::new(), ..);
+    to.put(vec![7; 1 << 20]).unwrap();
+    to.send().unwrap();
+    let (wire, before) = (to.into_inner(), HELD.get());
+    let mut from = FrameReader::new(Few(&wire, 60_000), ..);
+    assert_eq!(from.next().unwrap().unwrap().len(), 1 << 20);
+    let held = HELD.get() - before;
+    assert!(held < BLOCK as isize, "{held} bytes are held");
+}
+
 // Once the list of frames has space, a frame is put and sent without an allocation, and so is read what a block holds.
 #[test]
 fn allocations_of_frames() {
