@@ -3,11 +3,11 @@ use std::path::Path;
 use std::{env, fs};
 
 /// Crates with tests.
-const TESTED: [&str; 5] = ["iobuf", "iobufs_examples", "iobufs_caller_tests", "iobufs_tests", "iobufs_wire_tests"];
+const TESTED: [&str; 4] = ["iobuf", "iobufs_caller_tests", "iobufs_tests", "iobufs_wire_tests"];
 /// Tests whose allocations fail, which std doesn't report to the crate `bytes`.
 const OF_ALLOCATIONS: &str = "iobufs_allocation_tests";
 /// Callers of crates that the layer hasn't: futures, tokio, tokio-util, http-body. `rust/tokio` has tests of these.
-const LEFT_OUT: [&str; 3] = ["iobufs_examples/framed_tests.rt", "iobufs_examples/polled.rt", "iobufs_examples/web.rt"];
+const LEFT_OUT: [&str; 3] = ["iobufs_caller_tests/framed.rt", "iobufs_examples/polled.rt", "iobufs_examples/web.rt"];
 
 fn main() -> Result<(), String> {
     let (top, out) = (Path::new("../.."), env::var_os("OUT_DIR").expect("cargo says where"));

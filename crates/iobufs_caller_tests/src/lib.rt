@@ -11,6 +11,8 @@ macro_rules! rows {
 #[cfg(test)]
 mod calls;
 #[cfg(test)]
+mod framed;
+#[cfg(test)]
 mod frames;
 #[cfg(test)]
 mod pool;
@@ -18,5 +20,7 @@ mod pool;
 mod same;
 #[cfg(test)]
 mod scale;
+#[cfg(test)]
+mod sessions;
 #[cfg(test)]
 mod streams;

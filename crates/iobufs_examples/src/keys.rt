@@ -9,10 +9,8 @@ ghost use Rattle.std.proofs.Common.{rules};
 
 use iobufs_core::buf::IoBuf;
 use std::cmp::Ordering;
-use std::collections::HashMap;
 use std::hash::{Hash, Hasher};
 use std::marker::Model;
-use std::test::Fail;
 
 /// A key: a view, whose value is its bytes. It is compared and hashed by them, and shares them.
 #[derive(Drop)]
@@ -82,20 +80,4 @@ impl Hash for Key {
     fn hash<H: Hasher>(&self, state: &mut H) {
         self.view.as_ref().hash(state);
     }
-}
-
-#[test]
-fn values_are_found_by_equal_bytes(rt: HostRuntime) -> Result<(), Fail> {
-    let alloc = rt.alloc();
-    let mut store = HashMap::new(alloc);
-    for key in [b"one".as_slice(), b"two".as_slice()] {
-        store.insert(Key::from(IoBuf::from(key)), IoBuf::from(key))?;
-    }
-    let copy = Key::from(IoBuf::copy_from_slice(alloc, b"two")?);
-    assert_eq!(rt;
-        store.get(&copy).map(|value| value.as_ref()),
-        Some(b"two".as_slice())
-    );
-    assert!(rt; Key::from(IoBuf::from(b"one".as_slice())) < copy);
-    Ok(())
 }

@@ -3,7 +3,6 @@
 //! - `frame`: a frame codec. `echo`: frames sent back. `store`, `fill`: writable buffers, and one filled from a reader.
 //!   `cipher`: chunks changed in place. `keys`: views as keys of a map. `pool`, a caller of the machine: the memory of
 //!   freed blocks.
-//! - `sessions`, tests: six protocols whose headers are more than a length.
 //! - `web`: bodies of HTTP messages. `polled`: senders to an async writer.
 //! - `start`: a log of entries, a crate to begin with.
 //! - `note`, `request`: messages, and an enum, read by their parts. `alike`: code that is generic in the value and in
@@ -16,16 +15,12 @@ pub mod cipher;
 pub mod echo;
 pub mod fill;
 pub mod frame;
-#[cfg(test)]
-mod framed_tests;
 pub mod keys;
 pub mod note;
 pub mod polled;
 pub mod pool;
 pub mod records;
 pub mod request;
-#[cfg(test)]
-mod sessions;
 pub mod start;
 pub mod store;
 pub mod web;

@@ -11,12 +11,9 @@ use iobufs::bufs::IoBufs;
 use iobufs_core::buf::IoBuf;
 use iobufs_core::codec::{BufError, Error, RangeCfg};
 use iobufs_frames::laws::frames_law;
-use iobufs_frames::{End, FrameError, FrameWriter, Frames, Run};
+use iobufs_frames::{FrameError, FrameWriter, Frames, Run};
 use std::alloc::Global;
-use std::fs::{self, File};
 use std::io::Write;
-use std::process::Abort;
-use std::test::Fail;
 
 /// Appends a record, once the one before it is sent; `to.send` sends it. What an error leaves is sent by the next call.
 pub fn append<W: Write + Drop>(to: &mut FrameWriter<W>, body: IoBufs) -> Result<(), FrameError>
@@ -38,29 +35,3 @@ pub fn records(alloc: Global, file: Vec<IoBuf>, range: &RangeCfg) -> Result<Run,
     frames_law();
     Frames::run(alloc, file, range)
 }
-
-#[test]
-fn a_cut_file_has_the_records_before_the_cut(rt: HostRuntime) -> Result<(), Fail> {
-    let alloc = rt.alloc();
-    let range = RangeCfg { lo: 0, hi: 8 };
-    let mut to = FrameWriter::new(alloc, File::create(&rt, "records")?, range);
-    for text in [b"ab".as_slice(), b"cde".as_slice()] {
-        append(&mut to, IoBufs::from(text)).expect(&rt, "a record is appended");
-    }
-    to.send()?;
-    let file = fs::read(&rt, "records")?;
-    assert_eq!(rt; file.as_slice(), b"\x02ab\x03cde".as_slice());
-    for (len, whole, rest) in CUTS {
-        let cut = IoBuf::copy_from_slice(alloc, &file[..len])?;
-        let run = records(alloc, Vec::from_array(alloc, [cut])?, &range)?;
-        assert_eq!(rt;
-            (run.frames.len(), run.rest.len(), run.stop),
-            (whole, rest, End::Open)
-        );
-    }
-    Ok(())
-}
-
-// How many bytes of the file are left, how many records these have, and how many bytes follow.
-#[cfg(test)]
-const CUTS: [(usize, usize, usize); 5] = [(0, 0, 0), (2, 0, 2), (3, 1, 0), (6, 1, 3), (7, 2, 0)];

@@ -1,4 +1,3 @@
-// [docs: start]
 // A log of entries, sent as frames: code to begin with.
 ghost use Rattle.std.specs.Prelude.{◌≡◌, ◌++◌, [], ◌∷◌, None, Ok, Option, Result, Some, IfNone, IfOk, IfSome, OnErr, OnOk};
 ghost use Rattle.std.specs.Int.{w64, to_be_bytes};
@@ -136,41 +135,3 @@ pub fn receive<R: Read + Drop>(
     let entry = decoded(alloc, &body)?;
     Ok(Some(entry))
 }
-
-#[test]
-fn entries_come_back(rt: HostRuntime) {
-    let range = RangeCfg { lo: 0, hi: 1 << 17 };
-    let mut to = FrameWriter::new(rt.alloc(), Vec::new(rt.alloc()), range);
-    for number in 0..3 {
-        let entry = Entry {
-            number,
-            flags: 1,
-            key: IoBuf::from(b"key".as_slice()),
-            value: IoBuf::from(b"value".as_slice()),
-        };
-        put(rt.alloc(), &mut to, entry).expect(&rt, "an entry is put");
-        to.send().expect(&rt, "an entry is sent");
-    }
-    let sent = to.to.as_slice();
-    let mut from = FrameReader::new(rt.alloc(), sent, range).expect(&rt, "space for a read");
-    for number in 0..3 {
-        let entry = receive(rt.alloc(), &mut from)
-            .expect(&rt, "an entry")
-            .expect(&rt, "an entry");
-        assert_eq!(rt;
-            (
-                entry.number,
-                entry.flags,
-                entry.key.as_ref(),
-                entry.value.as_ref()
-            ),
-            (number, 1, b"key".as_slice(), b"value".as_slice())
-        );
-    }
-    assert!(rt;
-        receive(rt.alloc(), &mut from)
-            .expect(&rt, "the end")
-            .is_none()
-    );
-}
-// [docs end]

@@ -1,7 +1,6 @@
 // Frames over async readers and writers: the kit's `FramedRead` and `FramedWrite` with the codec, and `poll_frame`.
 ghost use Rattle.std.specs.Prelude.{◌≡◌, length, IfOk, ⊤};
 
-use crate::polled::poll_frame;
 use futures::task::{Context, Poll};
 use futures::test::MockTask;
 use futures::{FutureExt, Sink, StreamExt, ready};
@@ -9,6 +8,7 @@ use iobufs::bufs::IoBufs;
 use iobufs_codec::FrameCodec;
 use iobufs_core::buf::IoBuf;
 use iobufs_core::codec::RangeCfg;
+use iobufs_examples::polled::poll_frame;
 use iobufs_frames::{FrameError, FrameWriter, Prefix};
 use std::alloc::Global;
 use std::io::{self, ErrorKind};
