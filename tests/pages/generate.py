@@ -301,7 +301,7 @@ def differences():
 OF_BOTH = r"mean \*\*([\d.]+)\*\*, median [\d.]+, (\d+) above 1"
 MEAN = re.compile(
     rf"^- (\d+) (rows in which|comparable).*: time {OF_BOTH}; instructions {OF_BOTH}"
-    r"(?:; time mean of single rounds ([\d.]+ to [\d.]+))?", re.M
+    r"(?:; time mean of single rounds (\d+\.\d+ to \d+\.\d+))?", re.M
 )
 SLOWEST = re.compile(r"^- Slowest by time (.*?);", re.M)  # - Slowest by time `put_u8_64k_freeze` 3.06, ..; fastest
 MEASURED = re.compile(r"of commit (\w+);")  # Written by `bench/compare` on .. of commit 7ad1b7e7; least of 5 rounds
