@@ -308,12 +308,15 @@ MEASURED = re.compile(r"of commit (\w+);")  # Written by `bench/compare` on .. o
 
 
 def speed():
-    """The means of bench/RESULTS.md."""
+    """The means of bench/RESULTS.md, and its slowest workloads."""
+    results = RESULTS.read_text()
     yield "||workloads|instructions|above 1|time|above 1|\n|---|--:|--:|--:|--:|--:|"
-    for n, (rows, kind, time, slower, instructions, more, single) in enumerate(MEAN.findall(RESULTS.read_text())):
+    for n, (rows, kind, time, slower, instructions, more, single) in enumerate(MEAN.findall(results)):
         steps = "with the same steps" if kind.startswith("rows") else "all comparable"
         time += f" ({single})" if single else ""
         yield f"|{('Rattle', 'the Rust crate')[n // 2]}, {steps}|{rows}|{instructions}|{more}|{time}|{slower}|"
+    slow = SLOWEST.findall(results)
+    yield f"\nThe slowest by time: in Rattle {slow[0]}; in the Rust crate {slow[-1]}."
 
 
 def slowest():
