@@ -1,13 +1,17 @@
 //! Writes the Rust of the proved C library, and of the crates that it uses, for `src/lib.rs`.
+use std::fs;
 use std::path::Path;
-use std::{env, fs};
+
+pub fn write(here: &Path, to: &Path) -> Result<(), String> {
+    let top = here.join("../..");
+    strip::write_crates(&strip::crates_of("iobufs_c", &top)?, strip::Also::default(), &top.join("crates"), to)?;
+    fs::copy(here.join("src/built.rs"), to.join("iobufs_c/built.rs")).expect("the folder is there");
+    Ok(())
+}
 
 fn main() -> Result<(), String> {
-    let (top, out) = (Path::new("../.."), env::var_os("OUT_DIR").expect("cargo says where"));
-    let crates = strip::crates_of("iobufs_c", top)?;
-    strip::write_crates(&crates, strip::Also::default(), &top.join("crates"), Path::new(&out))?;
+    let [here, to] = strip::folders();
     println!("cargo:rerun-if-changed=src/built.rs");
     println!("cargo:rustc-cdylib-link-arg=-Wl,-soname,libiobufs.so.0");
-    fs::copy("src/built.rs", Path::new(&out).join("iobufs_c/built.rs")).expect("the folder is there");
-    Ok(())
+    write(&here, &to)
 }

@@ -1,9 +1,12 @@
 //! Writes the Rust of the proved program, and of the crates that it uses, for `src/main.rs`.
-use std::env;
 use std::path::Path;
 
+pub fn write(here: &Path, to: &Path) -> Result<(), String> {
+    let top = here.join("../..");
+    strip::write_crates(&strip::crates_of("iobuf", &top)?, strip::Also::default(), &top.join("crates"), to)
+}
+
 fn main() -> Result<(), String> {
-    let (top, out) = (Path::new("../.."), env::var_os("OUT_DIR").expect("cargo says where"));
-    let crates = strip::crates_of("iobuf", top)?;
-    strip::write_crates(&crates, strip::Also::default(), &top.join("crates"), Path::new(&out))
+    let [here, to] = strip::folders();
+    write(&here, &to)
 }

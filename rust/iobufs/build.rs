@@ -1,5 +1,5 @@
 //! Writes the Rust of the proved buffers, frames and values for `src/lib.rs`.
-use std::path::{Path, PathBuf};
+use std::path::Path;
 
 #[allow(dead_code)]
 #[path = "strip/lib.rs"]
@@ -7,7 +7,7 @@ mod strip;
 
 const CRATES: [&str; 4] = ["iobufs_core", "iobufs", "iobufs_frames", "iobufs_values"];
 /// Proved files that have a private module by hand.
-const SPARES: [(&str, &str); 6] = [
+pub const SPARES: [(&str, &str); 6] = [
     ("iobufs_core/buf/part.rt", "part.rs"),
     ("iobufs/bufs_mut.rt", "bufs_mut.rs"),
     ("iobufs/bufs_mut/few.rt", "few.rs"),
@@ -16,13 +16,19 @@ const SPARES: [(&str, &str); 6] = [
     ("iobufs_values/list.rt", "list.rs"),
 ];
 
-fn main() -> Result<(), String> {
-    let folder = |name| PathBuf::from(std::env::var_os(name).expect("cargo says where"));
-    let (here, out) = (folder("CARGO_MANIFEST_DIR"), folder("OUT_DIR"));
+pub fn write(here: &Path, to: &Path) -> Result<(), String> {
+    // `rust/package` puts the sources into `proved`.
+    let (packed, crates) = (here.join("proved"), here.join("../../crates"));
+    if packed.is_dir() && crates.join("iobufs_core/src").is_dir() {
+        return Err(format!("{}: the sources are in {} too: remove one", packed.display(), crates.display()));
+    }
     let files = SPARES.map(|(_, file)| here.join("src/spare").join(file));
     let spares: Vec<_> = SPARES.iter().zip(&files).map(|((of, _), file)| (*of, file.as_path())).collect();
     let also = strip::Also { spares: &spares, ..Default::default() };
-    // `rust/package` puts the sources into `proved`.
-    let sources = Path::new(if here.join("proved").is_dir() { "proved" } else { "../../crates" });
-    strip::write_crates(&CRATES, also, sources, &out)
+    strip::write_crates(&CRATES, also, if packed.is_dir() { &packed } else { &crates }, to)
+}
+
+fn main() -> Result<(), String> {
+    let [here, to] = strip::folders();
+    write(&here, &to)
 }

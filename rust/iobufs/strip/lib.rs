@@ -27,7 +27,7 @@ mod lexer;
 
 use lexer::Token;
 use std::path::{Path, PathBuf};
-use std::{fs, io};
+use std::{env, fs, io};
 
 /// Proved files in whose place a module of `crate::kit` is, which has the same calls.
 pub const BY_HAND: [(&str, &str); 2] = [("iobufs_core/buf/block.rt", "block"), ("iobufs_core/buf/held.rt", "held")];
@@ -47,6 +47,11 @@ pub struct Also<'a> {
     /// Whether these are tests: an error shows what `#[error(..)]` says, and kinds of error that Rust 1.85 hasn't are
     /// `Other`.
     pub is_tests: bool,
+}
+
+/// Returns the folders of a build script: its package's, and the one that it writes to.
+pub fn folders() -> [PathBuf; 2] {
+    ["CARGO_MANIFEST_DIR", "OUT_DIR"].map(|name| env::var_os(name).expect("cargo says where").into())
 }
 
 /// Returns the crates that a crate of the repository uses, by its row of `crates.txt`, and itself.

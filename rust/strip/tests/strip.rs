@@ -7,7 +7,7 @@ const CRATES: [&str; 2] = ["one", "two"];
 const HEAD: &str = "use crate::kit::prelude::*; ";
 
 /// A source, and what is left of it, but for the import before its first item. `\n` where lines stay empty.
-const LEFT: [(&str, &str); 40] = [
+const LEFT: [(&str, &str); 41] = [
     ("fn f() {\n    g();\n    h();\n}\n", "#[inline] fn f() {\n    g();\n    h();\n}\n"),
     (
         "fn f(n: u8) -> u8\n    requires { n < 9 }\n{\n    n\n}\n",
@@ -123,16 +123,23 @@ const LEFT: [(&str, &str); 40] = [
         "#[inline] fn f(n: u8, f: &mut fmt::Formatter<'_>) -> fmt::Result {}\n",
     ),
     ("fn f<W: fmt::Write>(f: &mut W) {}\n", "#[inline] fn f<W: fmt::Write>(f: &mut W) {}\n"),
+    (
+        "mod a;\nconst B: u8 = -(a + b) * *(c + &d) ^ !(e | f) << (g - 1);\n",
+        "mod a;\nconst B: u8 = -(a + b) * *(c + &d) ^ !(e | f) << (g - 1);\n",
+    ),
 ];
 
 #[test]
 fn what_is_left() {
     for (source, left) in LEFT {
-        assert_eq!(rust_of(source, "one", &CRATES, false).unwrap().strip_prefix(HEAD), Some(left), "{source}");
+        // Errors that tests show have a table of their own.
+        for is_tests in [false, true].into_iter().take(if source.contains("#[error") { 1 } else { 2 }) {
+            assert_eq!(rust_of(source, "one", &CRATES, is_tests).unwrap().strip_prefix(HEAD), Some(left), "{source}");
+        }
     }
 }
 
-/// The same of tests.
+/// Likewise of tests.
 const LEFT_OF_TESTS: [(&str, &str); 4] = [
     (
         "mod a;\n#[derive(thiserror::Error)]\nenum E {\n    #[error(\"a\")]\n    A,\n    #[error(\"b {0} {1}\")]\n    B(u8, u8),\n}\n",

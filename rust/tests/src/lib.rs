@@ -12,6 +12,13 @@ mod kit {
     }
 }
 
+/// Tests that have to fail, through the same generator and runner.
+#[allow(unused_variables)]
+#[forbid(unsafe_code)]
+mod failing {
+    include!(concat!(env!("OUT_DIR"), "/failing.rs"));
+}
+
 #[allow(dead_code, unused_imports, unused_macros, unused_variables, unstable_name_collisions, clippy::all)]
 #[forbid(unsafe_code)]
 mod proved {
