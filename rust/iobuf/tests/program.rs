@@ -6,6 +6,8 @@ use std::fs::{self, File};
 use std::io::{Read, Seek, Write};
 use std::path::{Path, PathBuf};
 use std::process::{Child, Command, Stdio};
+use std::sync::mpsc;
+use std::time::Duration;
 use std::{env, thread};
 
 const USAGE: &str = "usage: iobuf buf or iobuf owner\n";
@@ -305,17 +307,22 @@ fn many_chunks() {
     assert_prints("chunks", "buf", format!("static 0 0 2\ngather 1 0\n{appends}{asked}"), &printed);
 }
 
-/// Inputs in pieces: after each piece the replies to its whole lines are there.
+/// Inputs in pieces: after each piece the replies to its whole lines are there, within ten seconds.
 fn assert_flushed(half: &str, pieces: &[(&str, &str)]) {
     let mut child = start_half(half).spawn().expect("it starts");
-    let (mut stdin, mut stdout) = (child.stdin.take().expect("a pipe"), child.stdout.take().expect("a pipe"));
+    let (mut stdin, stdout) = (child.stdin.take().expect("a pipe"), child.stdout.take().expect("a pipe"));
+    let (to, replies) = mpsc::channel();
+    thread::spawn(move || stdout.bytes().map_while(Result::ok).for_each(|byte| drop(to.send(byte))));
     for (piece, wanted) in pieces {
         stdin.write_all(piece.as_bytes()).expect("it is read");
-        let mut reply = vec![0; wanted.len()];
-        stdout.read_exact(&mut reply).expect("a reply");
-        assert_eq!(reply, wanted.as_bytes(), "{piece}");
+        let next = |_| replies.recv_timeout(Duration::from_secs(10)).ok();
+        let reply: Vec<u8> = (0..wanted.len()).map_while(next).collect();
+        if reply != wanted.as_bytes() {
+            child.kill().expect("it still runs");
+        }
+        assert_eq!(String::from_utf8_lossy(&reply), *wanted, "{piece}");
     }
-    drop((stdin, stdout));
+    drop(stdin);
     assert_ran(half, ended(child), "", "", 0);
 }
 

@@ -5,10 +5,10 @@
 //! Prints the nanoseconds an operation of each, or with `--sums` what one run of each saw, and its operations.
 use bytes::BufMut as _;
 use iobufs::codec::{Decode as _, Encode as _};
-use iobufs::{Builder, IoBuf, IoBufMut, IoBufs, IoBufsMut};
-use std::env;
+use iobufs::{Builder, FrameWriter, IoBuf, IoBufMut, IoBufs, IoBufsMut, Prefix};
 use std::hint::black_box;
 use std::time::Instant;
+use std::{env, io};
 
 #[path = "bench/everyday.rs"]
 mod everyday;
@@ -358,7 +358,8 @@ fn decoded(number: usize, len: usize, piece: usize, read: fn(&mut IoBufs) -> u64
 fn parts_put(n: usize, len: usize) -> Run {
     let piece = pattern(len);
     let empty = |_| (0..n).map(|_| IoBufMut::with_capacity(256)).collect();
-    let mut rows: Vec<IoBufsMut> = (0..[512, 64][usize::from(n > 3)]).map(empty).collect();
+    let copies = [512, 64, 1][usize::from(n > 3) + usize::from(n > 64)];
+    let mut rows: Vec<IoBufsMut> = (0..copies).map(empty).collect();
     let turns = 256 * n / len;
     let (ns, operations, _) = timed(rows.len() * turns, || {
         for row in &mut rows {
@@ -367,6 +368,33 @@ fn parts_put(n: usize, len: usize) -> Run {
         0
     });
     (ns, operations, rows.iter().map(|row| row.len() as u64).sum())
+}
+
+/// Puts 64 bytes at a time into the chunks that `chunk_mut` gives.
+fn parts_chunk_mut(n: usize) -> Run {
+    let mut row: IoBufsMut = (0..n).map(|_| IoBufMut::with_capacity(256)).collect();
+    timed(4 * n, || {
+        while row.has_remaining_mut() {
+            row.chunk_mut()[..64].copy_from_slice(black_box(&[7; 64]));
+            // SAFETY: 64 bytes are written.
+            unsafe { row.advance_mut(64) };
+        }
+        row.len() as u64
+    })
+}
+
+/// Frames of 100 bytes: so many are put, and then sent.
+fn frames_out(puts: usize) -> Run {
+    let (view, frames) = (native(100), 960);
+    let mut to = FrameWriter::with_prefix(io::sink(), Prefix::U32Be, ..);
+    let _shared = view.clone();
+    timed(frames, || {
+        for _ in 0..frames / puts {
+            (0..puts).for_each(|_| to.put(black_box(&view).clone()).expect("it is put"));
+            to.send().expect("it is sent");
+        }
+        frames as u64
+    })
 }
 
 fn parts_freeze(n: usize) -> Run {
@@ -459,6 +487,11 @@ fn workloads() -> Vec<Workload> {
         add(format!("parts{n}_coalesce"), Box::new(move || parts_coalesce(n, 8)));
         add(format!("parts{n}_coalesce_full"), Box::new(move || parts_coalesce(n, 256)));
         add(format!("parts{n}_freeze"), Box::new(move || parts_freeze(n)));
+    }
+    add("parts4096_put64".into(), Box::new(|| parts_put(4096, 64)));
+    add("parts4096_chunk_mut".into(), Box::new(|| parts_chunk_mut(4096)));
+    for puts in [1, 4, 16] {
+        add(format!("frames_out{puts}"), Box::new(move || frames_out(puts)));
     }
     all
 }

@@ -1,11 +1,15 @@
-//! Allocations of calls for owners: no more than what they take or drop needs, also of many chunks.
-use iobufs::{Frames, IoBuf, IoBufs};
+//! Allocations of calls: no more than what they take, give or drop needs, also of many chunks.
+use bytes::{Bytes, BytesMut};
+use iobufs::{FrameCodec, FrameReader, FrameWriter, Frames, IoBuf, IoBufMut, IoBufs, IoBufsMut, Prefix};
 use std::alloc::{GlobalAlloc, Layout, System};
 use std::cell::Cell;
+use std::io::Read;
 
 thread_local! {
-    /// The bytes that this thread has allocated.
+    /// How often this thread has allocated, how many bytes, and how many of these it hasn't freed.
+    static COUNT: Cell<usize> = const { Cell::new(0) };
     static ALLOCATED: Cell<usize> = const { Cell::new(0) };
+    static HELD: Cell<isize> = const { Cell::new(0) };
 }
 
 struct Counting;
@@ -16,12 +20,15 @@ static COUNTING: Counting = Counting;
 // SAFETY: it hands each call on.
 unsafe impl GlobalAlloc for Counting {
     unsafe fn alloc(&self, layout: Layout) -> *mut u8 {
+        COUNT.set(COUNT.get() + 1);
         ALLOCATED.set(ALLOCATED.get() + layout.size());
+        HELD.set(HELD.get() + layout.size() as isize);
         // SAFETY: the caller's duty.
         unsafe { System.alloc(layout) }
     }
 
     unsafe fn dealloc(&self, at: *mut u8, layout: Layout) {
+        HELD.set(HELD.get() - layout.size() as isize);
         // SAFETY: the caller's duty.
         unsafe { System.dealloc(at, layout) }
     }
@@ -34,6 +41,22 @@ fn allocated<R>(call: impl FnOnce() -> R) -> usize {
     let spent = ALLOCATED.get() - before;
     drop(result);
     spent
+}
+
+/// How many bytes are held once a call has ended that its result keeps.
+fn held<R>(call: impl FnOnce() -> R) -> isize {
+    let before = HELD.get();
+    let result = call();
+    let more = HELD.get() - before;
+    drop(result);
+    more
+}
+
+/// How often a call allocates.
+fn allocations<R>(call: impl FnOnce() -> R) -> usize {
+    let before = COUNT.get();
+    drop(call());
+    COUNT.get() - before
 }
 
 const CHUNKS: usize = 100_000;
@@ -103,4 +126,72 @@ fn heads_of_adopted_vectors() {
     let sent = IoBuf::from(vec![3; 9]);
     std::thread::spawn(move || assert_eq!((sent, adopted(9)), (vec![3; 9].into(), 32))).join().unwrap();
     assert_eq!(adopted(9), 32);
+}
+
+/// No bytes keep no storage. The thread may keep the place of a head.
+#[test]
+fn empty_slices() {
+    let slices: [fn() -> IoBuf; 4] = [
+        || IoBuf::from(Bytes::from(vec![1; 65_536])).slice(9..9),
+        || IoBuf::from(vec![1; 65_536]).slice(9..9),
+        || IoBuf::from_owner(vec![1; 65_536]).slice(9..9),
+        || {
+            let mut emptied = IoBuf::from(Bytes::from(vec![1; 65_536]));
+            emptied.advance(65_536);
+            emptied.clone()
+        },
+    ];
+    let kept = slices.map(held);
+    assert!(kept.iter().all(|it| *it <= 32), "{kept:?}");
+}
+
+/// A frame is encoded into space that is reserved at once.
+#[test]
+fn encoded_frames() {
+    let codec = FrameCodec::new(Prefix::U32Be, ..);
+    let body: IoBufs = (0..16).map(|n| IoBuf::from(vec![n; 65_536])).collect();
+    let mut dst = BytesMut::new();
+    assert_eq!(allocations(|| codec.encode(&body, &mut dst).unwrap()), 1);
+    assert_eq!((dst.len(), dst.capacity() < dst.len() + 64), (4 + (1 << 20), true));
+    assert_eq!(allocations(|| codec.encode_slice(&[7; 1 << 20], &mut BytesMut::new()).unwrap()), 1);
+}
+
+/// What a reader holds is handed out without a copy.
+#[test]
+fn parts_of_readers() {
+    let mut from = FrameReader::new(&b"\x02okGET /"[..], ..=1024);
+    from.next().unwrap().unwrap();
+    assert_eq!(allocated(|| from.into_parts().1.len()), 0);
+}
+
+/// A writer has no queue while all is sent, a short one with two frames, and of the frames nothing once they are sent.
+#[test]
+fn queues_of_writers() {
+    let put = |to: &mut FrameWriter<_>| to.put(IoBuf::from_static(b"hello")).unwrap();
+    let mut to = FrameWriter::new(std::io::sink(), ..=1024);
+    assert_eq!(allocated(|| put(&mut to)), 0);
+    let more = held(|| put(&mut to));
+    assert!(more <= 2048, "{more} bytes for a second frame");
+    to.send().unwrap();
+    assert_eq!(held(|| (0..100).for_each(|_| (put(&mut to), to.send().unwrap()).1)), 0);
+    let mut idle = FrameWriter::new(std::io::sink(), ..=1024);
+    let kept = held(|| {
+        (0..2).for_each(|_| put(&mut idle));
+        idle.send().unwrap();
+        idle
+    });
+    assert!(kept <= 2048, "{kept} bytes of an idle writer");
+}
+
+/// A read takes from all buffers.
+#[test]
+fn reads_of_buffers() {
+    let parts = |n: u8| (0..n).map(|i| IoBufMut::from(vec![i; 3])).collect::<Vec<_>>();
+    for n in 1..6 {
+        let (mut from, mut dst) = (IoBufsMut::from(parts(n)), [9; 32]);
+        assert_eq!((from.read(&mut dst[..7]).unwrap(), from.read(&mut dst[7..]).unwrap()), {
+            let all = 3 * usize::from(n);
+            (all.min(7), all.saturating_sub(7))
+        });
+    }
 }

@@ -267,3 +267,9 @@ impl proved::Write for Half {
 fn a_sum_of_sizes_is_checked() {
     (Half, Half).encode_size();
 }
+
+#[test]
+#[should_panic(expected = "length overflow")]
+fn a_sum_of_sizes_is_checked_for_the_inline_size() {
+    (Half, Half).encode_inline_size();
+}

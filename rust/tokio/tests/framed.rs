@@ -106,6 +106,35 @@ fn frames_are_read_as_by_a_reader() {
     }
 }
 
+/// A stream that is cut at any place: the frames before the cut, and then an error unless it is between two frames.
+#[test]
+fn cut_streams_are_no_ends() {
+    let text = b"\0\x03abc\0\0\0\x02de";
+    let ends = [0, 5, 7, 11];
+    for cut in 0..=text.len() {
+        let whole = ends.iter().rposition(|end| *end <= cut).unwrap();
+        let (mut bodies, mut frames) = (BytesMut::from(&text[..cut]), BytesMut::from(&text[..cut]));
+        let (mut codec, mut with_headers) =
+            (FrameCodec::new(Prefix::U16Be, ..), FrameCodec::new(Prefix::U16Be, ..).whole());
+        for wanted in ends.windows(2).take(whole) {
+            let frame = with_headers.decode_eof(&mut frames).unwrap().unwrap();
+            assert_eq!(frame.get_ref(), &text[wanted[0]..wanted[1]]);
+            assert_eq!(codec.decode_eof(&mut bodies).unwrap().unwrap(), text[wanted[0] + 2..wanted[1]]);
+        }
+        let is_cut = !ends.contains(&cut);
+        assert_eq!(matches!(codec.decode_eof(&mut bodies), Err(FrameError::Cut)), is_cut, "{cut}");
+        assert_eq!(matches!(with_headers.decode_eof(&mut frames), Err(FrameError::Cut)), is_cut, "{cut}");
+        assert_eq!([&bodies[..], &frames[..]], [&text[ends[whole]..cut]; 2]);
+        assert!(
+            is_cut
+                || matches!(
+                    (codec.decode_eof(&mut bodies), with_headers.decode_eof(&mut frames)),
+                    (Ok(None), Ok(None))
+                )
+        );
+    }
+}
+
 #[test]
 fn frames_are_written_as_by_a_writer() {
     let bodies: [IoBufs; 4] =

@@ -263,6 +263,7 @@ fn of_builders(answers: &mut Answers) {
 
 /// All answers.
 fn answers() -> Answers {
+    let hook = std::panic::take_hook();
     std::panic::set_hook(Box::new(|_| {}));
     let mut answers = Vec::new();
     of_views(&mut answers);
@@ -270,5 +271,7 @@ fn answers() -> Answers {
     of_lists(&mut answers);
     of_lists_to_write(&mut answers);
     of_builders(&mut answers);
+    // A difference is printed.
+    std::panic::set_hook(hook);
     answers
 }
