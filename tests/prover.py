@@ -23,6 +23,8 @@ TOLD = re.compile(r"(?:fn|impl) (\S+?): (proved|no holes|depends on a hole|not p
 NAMED = re.compile(r"error: (?:`[^`]*`: )(.*)")  # An error with a name: error: `ends`: `bytes` is not in scope
 # What the prover says of a text that it can't read: `bytes` is not in scope
 UNREAD = re.compile(r"is not in scope|has no field|is no name|operand is missing|expected the end|cannot continue")
+LEMMA = re.compile(r": error: `([^`]+)`: ")  # A lemma that it refuses: error: `views_alike`: expected type
+MADE = "expected type `Unit {0}`"  # What it says of a lemma that makes something in whose place nothing is
 # A goal: it is not proved that the result is less than n (`ends`)
 OPEN = re.compile(r"it is not proved that .*\(`([^`]+)`\)")
 QUOTED = re.compile(r"`([^`]+)`")  # A name in backticks: `ends`
@@ -45,6 +47,16 @@ def stale(crate):
 
 
 # ---- a copy in which it reads few functions
+
+
+def copy_to(room, crate, changes):
+    """A copy of the crate's sources in which each FILE has NEW in place of OLD."""
+    for part in ("src", "specs", "proofs"):
+        if (CRATES / crate / part).is_dir():
+            shutil.copytree(CRATES / crate / part, room / part)
+    for file, old, new in changes:
+        (room / file).write_text((room / file).read_text().replace(old, new))
+    return room
 
 
 def functions(crate):
@@ -112,16 +124,30 @@ def put_holes(crate, kept, room):
         )
 
 
+def refused_lemmas(crate, change, file):
+    """The lemmas that it refuses if FILE has NEW in place of OLD, among those of a file of specs/ or proofs/ and of the
+    files that this one imports. A function without a proof names the file, so that nothing else is read. A lemma that
+    makes what is weakened isn't counted."""
+    name = functions(crate)[0]
+    module = f"Rattle.{crate}.{file.removesuffix('.antt').replace('/', '.')}"
+    with tempfile.TemporaryDirectory(prefix="law-") as folder:
+        room = copy_to(Path(folder), crate, [change])
+        put_loops(crate, set(), room)
+        put_holes(crate, [], room)
+        proof = room.joinpath("proofs", *name.split("::"), "Proof.antt")
+        proof.write_text(f"use {module} as Law\n{proof.read_text()}")
+        words = rattle("check", crate, "--allow-holes", "--only", name)
+        said = subprocess.run(words, cwd=room, capture_output=True, text=True, errors="replace")
+    lines = (said.stdout + said.stderr).splitlines()
+    found = [LEMMA.search(it) for it in lines if it.startswith(("./proofs/", "./specs/")) and MADE not in it]
+    return {it[1] for it in found if it}
+
+
 def check(crate, changes, wanted):
     """What it says of these functions, or of all if there are none, in a copy of the crate's sources in which each FILE
     has NEW in place of OLD."""
     with tempfile.TemporaryDirectory(prefix="mutant-") as name:
-        room = Path(name)
-        for part in ("src", "specs", "proofs"):
-            if (CRATES / crate / part).is_dir():
-                shutil.copytree(CRATES / crate / part, room / part)
-        for file, old, new in changes:
-            (room / file).write_text((room / file).read_text().replace(old, new))
+        room = copy_to(Path(name), crate, changes)
         if wanted:
             put_loops(crate, {it.split("::")[-1] for it in wanted}, room)
             put_holes(crate, wanted, room)

@@ -1,10 +1,13 @@
 """The generated parts of the pages: `PARTS[NAME]` makes what is between `<!-- generated: NAME -->` and its end."""
 import re
-
+import sys
 from functools import cache
 
 from pages.tree import CRATES, MARKED, OWNER, ROOT, STOP, by_layer, declarations, direct, layer, purpose, uses
 from pages.trusted import contracts
+
+sys.path.insert(0, str(ROOT / "bench"))
+import results  # noqa: E402
 
 # ---- docs/API.md
 
@@ -249,14 +252,14 @@ def matrix():
     refused = sum(int(number) for it in rows for number in it[:3])
     failed = f"Allocations of the kit's program that `tests/refuse` fails: {refused}, in sessions of {len(rows)} files."
     resting = sum("\nrests: " in edit for crate in uses() for edit in edits(crate))
-    open_rows = len((ROOT / "tests/unguarded").read_text().splitlines())
+    laws = sum(file.read_text().count("\npart: ") for file in (ROOT / "tests/mutants").glob("*.laws"))
     yield f"\n{totals[4]} mutants, {named} of them named, {resting} with a definition that they rest on. {failed}"
-    yield f"Parts of relations of five crates that public contracts name, and no mutant rests on: {open_rows}."
+    left = (ROOT / "tests/unguarded").read_text().splitlines()[0].removeprefix("# ")
+    yield f"Laws rest on {laws} parts of definitions. No mutant and no law rests on {left} that contracts name."
 
 
 # What the prover alone reads of a source, up to the brace that ends it: ensures ok {    pub ghost value = {
 CONTRACT = re.compile(r"^ *(?:(?:pub )?ghost|ensures|requires|#!?\[tactic)\b.*\n(?:^ {8,}.*\n)*", re.M)
-RESULTS = ROOT / "bench/RESULTS.md"
 # A proved file in whose place another is compiled: ("iobufs_core/buf/held.rt", "held")
 REPLACED = re.compile(r'\("([\w/]+\.rt)", "\w+"\)')
 RUST_CRATES = ("iobufs_core", "iobufs", "iobufs_frames", "iobufs_values")
@@ -297,33 +300,37 @@ def differences():
         yield f"|{shown}|{then}|{here}|{reason}|{count}|"
 
 
-# A mean of bench/RESULTS.md: - 88 comparable rows: time mean **0.68**, .. 27 above 1; instructions mean **0.77**, ..
-OF_BOTH = r"mean \*\*([\d.]+)\*\*, median [\d.]+, (\d+) above 1"
-MEAN = re.compile(
-    rf"^- (\d+) (rows in which|comparable).*: time {OF_BOTH}; instructions {OF_BOTH}"
-    r"(?:; time mean of single rounds (\d+\.\d+ to \d+\.\d+))?", re.M
-)
-SLOWEST = re.compile(r"^- Slowest by time (.*?);", re.M)  # - Slowest by time `put_u8_64k_freeze` 3.06, ..; fastest
-MEASURED = re.compile(r"of commit (\w+);")  # Written by `bench/compare` on .. of commit 7ad1b7e7; least of 5 rounds
-
-
 def speed():
-    """The means of bench/RESULTS.md, and its slowest workloads."""
-    results = RESULTS.read_text()
+    """The means of bench/results.csv, and its slowest workloads."""
+    rows = results.read()[1]
     yield "||workloads|instructions|above 1|time|above 1|\n|---|--:|--:|--:|--:|--:|"
-    for n, (rows, kind, time, slower, instructions, more, single) in enumerate(MEAN.findall(results)):
-        steps = "with the same steps" if kind.startswith("rows") else "all comparable"
-        time += f" ({single})" if single else ""
-        yield f"|{('Rattle', 'the Rust crate')[n // 2]}, {steps}|{rows}|{instructions}|{more}|{time}|{slower}|"
-    slow = SLOWEST.findall(results)
-    yield f"\nThe slowest by time: in Rattle {slow[0]}; in the Rust crate {slow[-1]}."
+    for table, build in results.BUILDS.items():
+        for said, some in results.sets_of(table, rows):
+            of = results.means(some)
+            time = f"{of.time:.2f} ({min(of.rounds):.2f} to {max(of.rounds):.2f})"
+            yield f"|{build}, {said}|{of.count}|{of.instructions:.2f}|{of.more}|{time}|{of.slower}|"
+    slow = [f"in {build} {results.slowest(table, rows)}" for table, build in results.BUILDS.items()]
+    yield f"\nThe slowest by time: {'; '.join(slow)}."
+
+
+def faults_of_results():
+    """What bench/RESULTS.md has otherwise than bench/results.csv, and workloads that this lacks or invents."""
+    if results.PAGE.read_text() != "\n".join(results.page()) + "\n":
+        yield "bench/compare --counts would change it"
+    named = (CRATES / "iobufs_bench/args").read_text().split()[1:]
+    measured = [row.name for row in results.read()[1] if row.table == "kit"]
+    arms = re.findall(r'^ *"(\w+)" =>', (CRATES / "iobufs_bench/src/workloads.rt").read_text(), re.M)
+    yield from (f"{name} isn't in both lists of workloads" for name in sorted({*named} ^ {*measured}))
+    # An arm may be the end of a name: of text64_walk it is walk. Others are those of further tables.
+    ends = lambda arm: any(f"_{name}".endswith(f"_{arm}") for name in named)
+    others = (ROOT / "bench/compare").read_text()
+    yield from (f"{arm} isn't run" for arm in arms if not ends(arm) and arm not in others)
 
 
 def slowest():
-    """The slowest workloads of the Rust crate by time, at the commit that was measured."""
-    results = RESULTS.read_text()
-    slow, measured = SLOWEST.findall(results)[-1], MEASURED.search(results)[1]
-    yield f"At commit {measured}, the slowest by time, as multiples of the original's: {slow}."
+    """The slowest workloads of the Rust crate by time, and when they were timed."""
+    said, rows = results.read()
+    yield f"{said[0]} The slowest, as multiples of the original's: {results.slowest('rust', rows)}."
 
 
 def crates():
