@@ -401,7 +401,7 @@ IOBUFS_CHECKED iobufs_status iobufsmut_copy_to_slice(struct iobufsmut_at *parts,
 /* The parts that hold bytes as the chunks of one iobufs, not copied; none are left. (freeze)
  * Fails: IOBUFS_MEMORY, for the deque, and the parts are dropped. */
 IOBUFS_CHECKED iobufs_status iobufsmut_freeze(struct iobufsmut_at *parts, struct iobufs_at *out);
-/* The parts as one buffer; the bytes of several are copied, of two or three perhaps into the first one's storage. None
+/* The parts as one buffer; the bytes of several are copied, perhaps into the first one's storage. None
  * are left, also after an error. (coalesce)
  * Fails: IOBUFS_BAD_LAYOUT if several have more than SSIZE_MAX bytes; IOBUFS_MEMORY, for the copy. */
 IOBUFS_CHECKED iobufs_status iobufsmut_coalesce(struct iobufsmut_at *parts, struct iobufmut_at *out);

@@ -7,10 +7,9 @@ mod strip;
 
 const CRATES: [&str; 4] = ["iobufs_core", "iobufs", "iobufs_frames", "iobufs_values"];
 /// Proved files that have a private module by hand.
-pub const SPARES: [(&str, &str); 6] = [
+pub const SPARES: [(&str, &str); 5] = [
     ("iobufs_core/buf/part.rt", "part.rs"),
     ("iobufs/bufs_mut.rt", "bufs_mut.rs"),
-    ("iobufs/bufs_mut/few.rt", "few.rs"),
     ("iobufs/bufs_mut/several.rt", "several.rs"),
     ("iobufs/builder.rt", "builder.rs"),
     ("iobufs_values/list.rt", "list.rs"),

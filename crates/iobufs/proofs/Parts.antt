@@ -3,7 +3,6 @@ pub mod Coalesced
 pub mod DrainShapes
 pub mod DrainTurns
 pub mod Examples
-pub mod FewLaws
 pub mod Frozen
 pub mod FullLaws
 pub mod OrderLaws
@@ -16,7 +15,6 @@ pub mod Visited
 pub use Coalesced.*
 pub use DrainShapes.*
 pub use DrainTurns.*
-pub use FewLaws.*
 pub use Frozen.*
 pub use FullLaws.*
 pub use OrderLaws.*

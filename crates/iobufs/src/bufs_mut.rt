@@ -14,12 +14,10 @@ ghost use Rattle.std.specs.Fn.{CalledAtMut};
 ghost use Rattle.iobufs.specs.PartLimits.{IsRowRefusedAt};
 ghost use Rattle.iobufs_core.specs.declared.codec.base.BufError.{BufError};
 
-mod few;
 mod several;
 
 use crate::bufs::IoBufs;
 use bytes::Bytes;
-use few::Few;
 use iobufs_core::buf::{IoBufMut, address_mut};
 use iobufs_core::codec::{Buf, BufError, BufMut};
 use several::{Several, take_whole, visit_part};
@@ -47,11 +45,10 @@ impl Drop for IoBufsMut {
     }
 }
 
-// One part, or up to three in place, which need no allocation of their own; or a deque, made for more.
+// One part, or a deque of two or more.
 #[derive(Drop)]
 enum Shape {
     One(IoBufMut),
-    Few(Few),
     Many(Several),
 }
 
@@ -61,8 +58,8 @@ impl Shape {
     ghost use Rattle.iobufs.specs.Inside.PartShape.{IsShape, shape_parts, shape_single};
 
     // One more part, which can hold a byte; one that can't makes way for it. A first deque has space for `expected`,
-    // and at least for eight.
-    #[tactic(auto, using(crate::proofs::Parts::PartRuns::growing, crate::proofs::Parts::FewLaws::growing_few))]
+    // and at least for two.
+    #[tactic(auto, using(crate::proofs::Parts::PartRuns::growing))]
     fn with_part(self, alloc: Global, part: IoBufMut, expected: usize) -> Result<Shape, BufError>
         requires built { IsShape self }
         requires more { 0 < part_capacity part }
@@ -70,20 +67,14 @@ impl Shape {
         ensures parts { IfOk result (λ shape. shape_parts shape ≡ kept_parts (shape_parts self ++ part ∷ [])) }
         ensures built { IfOk result IsShape }
         ensures memory { IsOkUnless result BufError.Memory }
-        ensures few { length (shape_parts self) < 3 → IsOk result }
+        ensures first { length (shape_parts self) < 2 → parts_capacity (shape_parts self) ≡ 0 → IsOk result }
     {
         match self {
             Shape::One(first) => {
                 if first.capacity() == 0 {
                     return Ok(Shape::One(part));
                 }
-                Ok(Shape::Few(Few::of_two(alloc, first, part)))
-            }
-            Shape::Few(mut few) => {
-                let Some(part) = few.push(part) else {
-                    return Ok(Shape::Few(few));
-                };
-                Ok(Shape::Many(few.with_fourth(part, expected)?))
+                Ok(Shape::Many(Several::of_two(alloc, first, part, expected)?))
             }
             Shape::Many(mut row) => {
                 row.push(part)?;
@@ -99,11 +90,6 @@ impl Shape {
     {
         match self {
             Shape::One(_) => {}
-            Shape::Few(parts) => {
-                if let Some(part) = parts.take_single() {
-                    *self = Shape::One(part);
-                }
-            }
             Shape::Many(parts) => {
                 if let Some(part) = parts.take_single() {
                     *self = Shape::One(part);
@@ -113,7 +99,6 @@ impl Shape {
     }
 
     // May take the first `n` bytes with their storage, if a part without spare capacity holds just these.
-    #[tactic(auto, using(crate::proofs::Parts::FewLaws::keeping))]
     fn take_front(&mut self, alloc: Global, n: usize) -> Result<Option<Bytes>, BufError>
         requires { 0 < n }
         ensures front { IfOk result (λ front. IfSome front (λ bytes.
@@ -125,7 +110,6 @@ impl Shape {
     {
         match self {
             Shape::One(part) => take_whole(alloc, part, n),
-            Shape::Few(parts) => parts.take_front(alloc, n),
             Shape::Many(parts) => parts.take_front(alloc, n),
         }
     }
@@ -170,7 +154,7 @@ impl IoBufsMut {
 
     /// Collects the buffers that can hold a byte; if there are none, one of capacity 0 (`FromIterator`). Fails with
     /// `BufError::TooLong` if the capacities up to some buffer are more than `usize::MAX`, or with `BufError::Memory`.
-    /// Up to three buffers need no allocation.
+    /// One buffer needs no allocation.
     pub fn from_parts<I: Iterator<Item = IoBufMut>>(
         alloc: Global,
         mut items: I,
@@ -198,13 +182,12 @@ impl IoBufsMut {
     }
 
     /// Returns the number of readable bytes (`IoBufsMut::len`).
-    #[tactic(auto, using(crate::proofs::Parts::PartLaws::sums, crate::proofs::Parts::FewLaws::keeping))]
+    #[tactic(auto, using(crate::proofs::Parts::PartLaws::sums))]
     pub fn len(&self) -> usize
         ensures { result ≡ length (parts_filled self.now) }
     {
         match &self.shape {
             Shape::One(part) => part.len(),
-            Shape::Few(parts) => parts.len(),
             Shape::Many(parts) => parts.len(),
         }
     }
@@ -218,14 +201,12 @@ impl IoBufsMut {
 
     /// Returns the sum of the buffers' capacities (`IoBufsMut::capacity`). A drained buffer counts with its spare
     /// capacity.
-    #[tactic(auto, using(crate::proofs::Parts::FewLaws::keeping))]
     pub fn capacity(&self) -> usize
         ensures sum { result ≡ parts_capacity self.now }
         ensures parts { IsParts self.now }
     {
         match &self.shape {
             Shape::One(part) => part.capacity(),
-            Shape::Few(parts) => parts.capacity(),
             Shape::Many(parts) => parts.capacity(),
         }
     }
@@ -233,14 +214,12 @@ impl IoBufsMut {
     /// Makes `n` bytes readable, filling the buffers in order; bytes that were not are zero (`IoBufsMut::set_len`,
     /// which is unsafe there). Each buffer is filled to its capacity before the next one, so readable bytes of later
     /// buffers are lost if `n` doesn't reach them.
-    #[tactic(auto, using(crate::proofs::Parts::FewLaws::keeping))]
     pub fn set_len(&mut self, n: usize)
         requires { n ≤ parts_capacity self.old }
         ensures { self.new ≡ parts_with_len self.old n }
     {
         match &mut self.shape {
             Shape::One(part) => part.set_len(n),
-            Shape::Few(parts) => parts.set_len(n),
             Shape::Many(parts) => parts.set_len(n),
         }
     }
@@ -272,14 +251,12 @@ impl IoBufsMut {
     }
 
     /// Overwrites all readable bytes (`IoBufsMut::copy_from_slice`).
-    #[tactic(auto, using(crate::proofs::Parts::FewLaws::keeping))]
     pub fn copy_from_slice(&mut self, src: &[u8])
         requires { length src.now ≡ length (parts_filled self.old) }
         ensures { self.new ≡ parts_overwritten self.old src.now }
     {
         match &mut self.shape {
             Shape::One(part) => part.as_mut().copy_from_slice(src),
-            Shape::Few(parts) => parts.copy_from_slice(src),
             Shape::Many(parts) => parts.copy_from_slice(src),
         }
     }
@@ -293,7 +270,6 @@ impl IoBufsMut {
             Shape::One(part) => {
                 visit_part(part, visit);
             }
-            Shape::Few(parts) => parts.for_each_chunk_mut(visit),
             Shape::Many(parts) => parts.for_each_chunk_mut(visit),
         }
     }
@@ -304,7 +280,6 @@ impl IoBufsMut {
     {
         match &self.shape {
             Shape::One(_) => 1,
-            Shape::Few(parts) => parts.count(),
             Shape::Many(parts) => parts.count(),
         }
     }
@@ -318,7 +293,6 @@ impl IoBufsMut {
                 0 => Some(part),
                 _ => None,
             },
-            Shape::Few(parts) => parts.get(i),
             Shape::Many(parts) => parts.get(i),
         }
     }
@@ -336,7 +310,6 @@ impl IoBufsMut {
     {
         match &self.shape {
             Shape::One(part) => Some(part),
-            Shape::Few(parts) => parts.single(),
             Shape::Many(parts) => parts.single(),
         }
     }
@@ -358,7 +331,6 @@ impl IoBufsMut {
     {
         match &mut self.shape {
             Shape::One(part) => address_mut(part.as_mut()),
-            Shape::Few(parts) => parts.chunk_ptr(),
             Shape::Many(parts) => parts.chunk_ptr(),
         }
     }
@@ -372,14 +344,13 @@ impl IoBufsMut {
     {
         match &mut self.shape {
             Shape::One(part) => address_mut(part.as_mut()),
-            Shape::Few(parts) => parts.part_ptr(i),
             Shape::Many(parts) => parts.part_ptr(i),
         }
     }
 
     /// Converts the buffers that hold bytes into the chunks of an `IoBufs` (`IoBufsMut::freeze`).
     /// If allocation fails, returns `BufError::Memory` and drops the buffers.
-    #[tactic(auto, using(crate::proofs::Parts::Frozen::freezing, crate::proofs::Parts::FewLaws::freezing_few))]
+    #[tactic(auto, using(crate::proofs::Parts::Frozen::freezing))]
     pub fn freeze(self, alloc: Global) -> Result<IoBufs, BufError>
         ensures ok { IfOk result (λ text. text ≡ parts_frozen self) }
         ensures memory { IsOkUnless result BufError.Memory }
@@ -388,16 +359,15 @@ impl IoBufsMut {
         let IoBufsMut { shape } = self;
         match shape {
             Shape::One(part) => IoBufs::from_mut(part),
-            Shape::Few(mut parts) => parts.freeze(alloc),
             Shape::Many(parts) => parts.freeze(alloc),
         }
     }
 
-    /// Returns the only buffer, or the bytes of several in one without spare capacity (`IoBufsMut::coalesce`). Up to
-    /// three may be joined in the storage of the first, if all bytes fit it, and it has at most about 4 KiB or about
+    /// Returns the only buffer, or the bytes of several in one without spare capacity (`IoBufsMut::coalesce`). They
+    /// may be joined in the storage of the first, if all bytes fit it, and it has at most about 4 KiB or about
     /// twice the bytes. Fails with `BufError::BadLayout` exactly if two or more hold more than `isize::MAX` bytes, and
     /// with `BufError::Memory` if allocation fails.
-    #[tactic(auto, using(crate::proofs::Parts::Coalesced::coalescing, crate::proofs::Parts::FewLaws::freezing_few))]
+    #[tactic(auto, using(crate::proofs::Parts::Coalesced::coalescing))]
     pub fn coalesce(mut self, alloc: Global) -> Result<IoBufMut, BufError>
         ensures ok { IfOk result (λ part. part ≡ parts_coalesced self) }
         ensures single { length self ≡ 1 → IsOk result }
@@ -409,7 +379,6 @@ impl IoBufsMut {
         let IoBufsMut { shape } = self;
         match shape {
             Shape::One(whole) => Ok(whole),
-            Shape::Few(mut parts) => parts.coalesce(alloc),
             Shape::Many(parts) => parts.coalesce(alloc),
         }
     }
@@ -464,40 +433,35 @@ impl Buf for IoBufsMut {
         self.len()
     }
 
-    #[tactic(auto, using(crate::proofs::Parts::PartChunks::reading, crate::proofs::Parts::FewLaws::keeping))]
+    #[tactic(auto, using(crate::proofs::Parts::PartChunks::reading))]
     fn chunk(&self) -> &[u8] {
         match &self.shape {
             Shape::One(part) => part.as_ref(),
-            Shape::Few(parts) => parts.chunk(),
             Shape::Many(parts) => parts.chunk(),
         }
     }
 
-    #[tactic(auto, using(crate::proofs::Parts::PartChunks::reading, crate::proofs::Parts::FewLaws::keeping))]
+    #[tactic(auto, using(crate::proofs::Parts::PartChunks::reading))]
     fn byte_at(&self, i: usize) -> Option<u8> {
         match &self.shape {
             Shape::One(part) => part.byte_at(i),
-            Shape::Few(parts) => parts.byte_at(i),
             Shape::Many(parts) => parts.byte_at(i),
         }
     }
 
     /// Drops the first `n` bytes. A drained buffer keeps its spare capacity; of several, those without capacity go, and
     /// at least one buffer stays.
-    #[tactic(auto, using(crate::proofs::Parts::FewLaws::keeping))]
     fn advance(&mut self, n: usize) {
         match &mut self.shape {
             Shape::One(part) => part.advance(n),
-            Shape::Few(parts) => parts.advance(n),
             Shape::Many(parts) => parts.advance(n),
         }
     }
 
-    #[tactic(auto, using(crate::proofs::Parts::PartChunks::reading, crate::proofs::Parts::FewLaws::keeping))]
+    #[tactic(auto, using(crate::proofs::Parts::PartChunks::reading))]
     fn copy_to_slice(&mut self, dst: &mut [u8]) {
         match &self.shape {
             Shape::One(part) => dst.copy_from_slice(&part.as_ref()[..dst.len()]),
-            Shape::Few(parts) => parts.read(dst),
             Shape::Many(parts) => parts.read(dst),
         }
         self.advance(dst.len());
@@ -505,7 +469,7 @@ impl Buf for IoBufsMut {
 
     /// Takes the first `n` bytes, and leaves what `advance` leaves. May take the bytes with their storage if they are
     /// all bytes of a buffer without spare capacity; otherwise copies them.
-    #[tactic(auto, using(crate::proofs::Parts::PartChunks::reading, crate::proofs::Parts::FewLaws::keeping))]
+    #[tactic(auto, using(crate::proofs::Parts::PartChunks::reading))]
     fn copy_to_bytes(&mut self, alloc: Global, n: usize) -> Result<Bytes, BufError> {
         if n == 0 {
             return Ok(Bytes::new());
@@ -515,21 +479,19 @@ impl Buf for IoBufsMut {
         }
         let bytes = match &self.shape {
             Shape::One(part) => Bytes::copy_from_slice(alloc, &part.as_ref()[..n])?,
-            Shape::Few(parts) => Bytes::from_vec(parts.copy_front(alloc, n)?)?,
             Shape::Many(parts) => Bytes::from_vec(parts.copy_front(alloc, n)?)?,
         };
         self.advance(n);
         Ok(bytes)
     }
 
-    #[tactic(auto, using(crate::proofs::Parts::PartChunks::reading, crate::proofs::Parts::FewLaws::keeping))]
+    #[tactic(auto, using(crate::proofs::Parts::PartChunks::reading))]
     fn chunks_vectored(&self, alloc: Global, max: usize) -> Result<Vec<&[u8]>, BufError> {
         if max == 0 || self.len() == 0 {
             return Ok(Vec::new(alloc));
         }
         match &self.shape {
             Shape::One(part) => part.chunks_vectored(alloc, max),
-            Shape::Few(parts) => Ok(parts.chunks(alloc, max)?),
             Shape::Many(parts) => Ok(parts.chunks(alloc, max)?),
         }
     }
@@ -550,29 +512,24 @@ impl BufMut for IoBufsMut {
 
     ghost filled = { AreFilled };
 
-    #[tactic(auto, using(crate::proofs::Parts::PartLaws::sums, crate::proofs::Parts::FewLaws::keeping))]
+    #[tactic(auto, using(crate::proofs::Parts::PartLaws::sums))]
     fn remaining_mut(&self) -> usize {
         match &self.shape {
             Shape::One(part) => part.remaining_mut(),
-            Shape::Few(parts) => parts.spare(),
             Shape::Many(parts) => parts.spare(),
         }
     }
 
-    #[tactic(auto, using(crate::proofs::Parts::FewLaws::keeping))]
     fn put_slice(&mut self, src: &[u8]) {
         match &mut self.shape {
             Shape::One(part) => part.put_slice(src),
-            Shape::Few(parts) => parts.put(src),
             Shape::Many(parts) => parts.put(src),
         }
     }
 
-    #[tactic(auto, using(crate::proofs::Parts::FewLaws::keeping))]
     fn put_bytes(&mut self, value: u8, n: usize) {
         match &mut self.shape {
             Shape::One(part) => part.put_bytes(value, n),
-            Shape::Few(parts) => parts.put_bytes(value, n),
             Shape::Many(parts) => parts.put_bytes(value, n),
         }
     }

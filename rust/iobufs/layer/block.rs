@@ -9,6 +9,7 @@
 //! It is sound for any safe caller, whatever the proof says of the callers: a limit is tested against the capacity, and
 //! bytes against the limit. Storage that is shared is taken apart, and until the only handle puts it together again,
 //! nothing of it is lent but its bytes, to be read.
+use super::base::atomic::{AtomicBool, Ordering};
 use super::base::{AllocError, Global};
 use super::bytes::{Bytes, ENDS_IF_REFUSED};
 use super::count::Count;
@@ -19,12 +20,15 @@ use std::mem::{ManuallyDrop, MaybeUninit};
 use std::ptr::NonNull;
 use std::{ptr, slice, vec};
 
-/// The count of the handles, and the parts of the `Vec`.
+/// The count of the handles, whether there was ever more than one, the parts of the `Vec`, and the limit: at least the
+/// length, at most the capacity.
 struct Head {
     handles: Count,
+    shared: AtomicBool,
     at: NonNull<u8>,
     len: usize,
     capacity: usize,
+    limit: usize,
 }
 
 /// The place of a head in an allocation of its own.
@@ -73,7 +77,9 @@ impl Space {
     /// Returns an empty space of a capacity of `n`, and room for a head after that.
     #[inline]
     pub fn new(alloc: Global, n: usize, shell: Shell) -> Result<(Space, Shell), AllocError> {
-        let storage = Vec::with_capacity(alloc, n.saturating_add(ROOM))?;
+        // glibc's fast bins end at 1,032 bytes: a head apart costs less than leaving them.
+        let room = if (1033 - ROOM..=1032).contains(&n) { 0 } else { ROOM };
+        let storage = Vec::with_capacity(alloc, n.saturating_add(room))?;
         Ok((Space { storage, limit: n }, shell))
     }
 
@@ -204,8 +210,6 @@ impl Space {
 pub struct Block {
     // The address of a head that `of` wrote. It stays there, unchanged but for its count, as long as a handle.
     head: NonNull<Head>,
-    // At least the length of the storage, and at most its capacity.
-    limit: usize,
 }
 
 // SAFETY: handles in several threads lend `&[u8]`, and the last one frees the storage in its thread, as those of an
@@ -234,23 +238,24 @@ impl Block {
     /// Returns the limit.
     #[inline]
     pub fn capacity(&self) -> usize {
-        self.limit
+        self.head().limit
     }
 
     /// Returns one more handle.
     #[inline]
     pub fn share(&self) -> Result<Block, AllocError> {
-        self.head().handles.add();
-        Ok(Block { head: self.head, limit: self.limit })
+        let head = self.head();
+        head.shared.store(true, Ordering::Relaxed);
+        head.handles.add();
+        Ok(Block { head: self.head })
     }
 
     /// Takes the storage back, if this is the only handle.
     #[inline]
     pub fn take(self) -> Result<(Space, Shell), Block> {
-        let limit = self.limit;
         let head = self.only()?;
         // SAFETY: this was the only handle (the clause of `take`).
-        let (bytes, apart) = unsafe { Block::joined(head) };
+        let (bytes, limit, apart) = unsafe { Block::joined(head) };
         keep(apart);
         Ok((Space { storage: Vec(bytes), limit }, Shell(())))
     }
@@ -258,10 +263,9 @@ impl Block {
     /// Converts the storage into a `Bytes`, if this is the only handle. If allocation fails, the block comes back.
     #[allow(unused_variables)]
     pub fn into_bytes(self, alloc: Global) -> Result<Result<Bytes, Block>, Block> {
-        let limit = self.limit;
         let head = self.only()?;
         // SAFETY: this was the only handle (the clause of `into_bytes`).
-        let (bytes, apart) = unsafe { Block::joined(head) };
+        let (bytes, limit, apart) = unsafe { Block::joined(head) };
         let storage = match Bytes::from_vec(Vec(bytes)) {
             Ok(bytes) => return Ok(Ok(bytes)),
             Err(refused) => refused.value,
@@ -303,8 +307,8 @@ impl Block {
         debug_assert!(head.is_aligned(), "the head's place");
         // SAFETY: the place is aligned, and has room for a head, which nothing else uses: it is an allocation of its own,
         // or spare capacity of a `Vec` that is taken apart, by whose own address it was found.
-        unsafe { head.write(Head { handles: Count::new(), at, len, capacity }) };
-        Ok(Block { head, limit })
+        unsafe { head.write(Head { handles: Count::new(), shared: AtomicBool::new(false), at, len, capacity, limit }) };
+        Ok(Block { head })
     }
 
     // Puts the `Vec` together again, and returns the place of its head, if that was its own.
@@ -312,14 +316,14 @@ impl Block {
     // # Safety
     // No handle is left, and all that the handles did happened before.
     #[inline]
-    unsafe fn joined(head: NonNull<Head>) -> (vec::Vec<u8>, Option<Apart>) {
+    unsafe fn joined(head: NonNull<Head>) -> (vec::Vec<u8>, usize, Option<Apart>) {
         // SAFETY: the head is where `of` wrote it.
-        let Head { at, len, capacity, .. } = unsafe { head.read() };
+        let Head { at, len, capacity, limit, .. } = unsafe { head.read() };
         let is_apart = head.addr().get().wrapping_sub(at.addr().get()) >= capacity;
         // SAFETY: a head that isn't within the capacity was allocated with its layout, or was in such a box.
         let apart = is_apart.then(|| unsafe { Box::from_raw(head.cast().as_ptr()) });
         // SAFETY: these are the parts of the `Vec` that `of` took apart, and no handle lends its bytes.
-        (unsafe { vec::Vec::from_raw_parts(at.as_ptr(), len, capacity) }, apart)
+        (unsafe { vec::Vec::from_raw_parts(at.as_ptr(), len, capacity) }, limit, apart)
     }
 
     // Stands apart, so that a drop is short where it is inlined.
@@ -330,7 +334,7 @@ impl Block {
     #[inline(never)]
     unsafe fn free(head: NonNull<Head>) {
         // SAFETY: as the caller says, and `acquire` makes all that the handles did happen before.
-        let (_, apart) = unsafe {
+        let (_, _, apart) = unsafe {
             head.as_ref().handles.acquire();
             Block::joined(head)
         };
@@ -341,7 +345,8 @@ impl Block {
 impl Drop for Block {
     #[inline]
     fn drop(&mut self) {
-        if self.head().handles.remove() {
+        // Without another handle no thread has counted, and none can.
+        if !self.head().shared.load(Ordering::Relaxed) || self.head().handles.remove() {
             // SAFETY: this was the last handle.
             unsafe { Block::free(self.head) }
         }

@@ -1,43 +1,60 @@
 //! A deque.
-#![forbid(unsafe_code)]
 use super::base::{self, AllocError, AllocFailed, Global};
 use super::bytes::ENDS_IF_REFUSED;
+use super::few;
 use super::vec::Vec;
 use std::collections::{self, vec_deque};
 use std::ops::{Index, IndexMut};
+use std::mem::ManuallyDrop;
 use std::process;
 
 /// A deque, whose capacity never shrinks.
-pub struct VecDeque<T>(pub(crate) collections::VecDeque<T>);
+pub struct VecDeque<T>(pub(crate) ManuallyDrop<collections::VecDeque<T>>);
 
 impl<T> VecDeque<T> {
+    #[inline]
+    fn of(items: collections::VecDeque<T>) -> VecDeque<T> {
+        VecDeque(ManuallyDrop::new(items))
+    }
+
+    // Takes the items out of a deque that isn't used any more.
+    #[inline]
+    fn into_items(self) -> collections::VecDeque<T> {
+        let mut this = ManuallyDrop::new(self);
+        // SAFETY: `this` isn't used any more, nor dropped.
+        unsafe { ManuallyDrop::take(&mut this.0) }
+    }
+
     /// Returns no items, without allocating.
     #[inline]
     pub fn new(_: Global) -> VecDeque<T> {
-        VecDeque(collections::VecDeque::new())
+        VecDeque::of(collections::VecDeque::new())
     }
 
     /// Returns no items, and a capacity of at least `n`.
     #[inline]
-    pub fn with_capacity(_: Global, n: usize) -> Result<VecDeque<T>, AllocError> {
+    pub fn with_capacity(alloc: Global, n: usize) -> Result<VecDeque<T>, AllocError> {
+        if few::fits::<T>() && n <= few::FEW {
+            return Ok(VecDeque::from_vec(Vec::with_capacity(alloc, n)?));
+        }
         if ENDS_IF_REFUSED {
-            return Ok(VecDeque(collections::VecDeque::with_capacity(n)));
+            return Ok(VecDeque::of(collections::VecDeque::with_capacity(n)));
         }
         let mut items = collections::VecDeque::new();
         items.try_reserve_exact(n).map_err(|_| AllocError)?;
-        Ok(VecDeque(items))
+        Ok(VecDeque::of(items))
     }
 
     /// Takes the items of a vector over, and its capacity.
     #[inline]
     pub fn from_vec(items: Vec<T>) -> VecDeque<T> {
-        VecDeque(items.0.into())
+        VecDeque::of(items.0.into())
     }
 
     /// Returns the items as a vector of the same capacity.
     #[inline]
     pub fn into_vec(self) -> Vec<T> {
-        Vec(self.0.into())
+        Vec(self.into_items().into())
     }
 
     /// Returns the allocator.
@@ -146,13 +163,18 @@ impl<T> VecDeque<T> {
     /// changes.
     #[inline]
     pub fn split_off(&mut self, at: usize) -> Result<VecDeque<T>, AllocError> {
+        if few::fits::<T>() && self.0.len() - at <= few::FEW {
+            let mut rest = VecDeque::with_capacity(Global, self.0.len() - at)?;
+            rest.0.extend(self.0.drain(at..));
+            return Ok(rest);
+        }
         if ENDS_IF_REFUSED {
-            return Ok(VecDeque(self.0.split_off(at)));
+            return Ok(VecDeque::of(self.0.split_off(at)));
         }
         let mut rest = collections::VecDeque::new();
         rest.try_reserve_exact(self.0.len() - at).map_err(|_| AllocError)?;
         rest.extend(self.0.drain(at..));
-        Ok(VecDeque(rest))
+        Ok(VecDeque::of(rest))
     }
 
     /// Moves the last `n` items to the front; `n` is at most the length.
@@ -162,12 +184,33 @@ impl<T> VecDeque<T> {
     }
 }
 
+impl<T> Drop for VecDeque<T> {
+    #[inline]
+    fn drop(&mut self) {
+        // SAFETY: the deque isn't used any more.
+        let items = unsafe { ManuallyDrop::take(&mut self.0) };
+        if few::fits::<T>() && items.capacity() == few::FEW {
+            few::keep(items.into());
+        }
+    }
+}
+
 /// Returns clones of all items in order.
 impl<T: base::Clone> base::Clone for VecDeque<T> {
     #[inline]
     fn clone(&self) -> Result<VecDeque<T>, AllocError> {
         let (front, rest) = self.0.as_slices();
-        let mut items = Vec::with_capacity(Global, self.0.len())?.0;
+        let mut items = Vec::with_capacity(Global, self.0.len())?;
+        if few::fits::<T>() && self.0.len() <= few::FEW {
+            for item in front {
+                items.push_reserved(item.clone()?);
+            }
+            for item in rest {
+                items.push_reserved(item.clone()?);
+            }
+            return Ok(VecDeque::from_vec(items));
+        }
+        let mut items = items.0;
         if ENDS_IF_REFUSED {
             // Std trusts the length of these iterators: no test of the capacity for each item.
             let cloned = |item: &T| item.clone().unwrap_or_else(|_| process::abort());
@@ -175,12 +218,12 @@ impl<T: base::Clone> base::Clone for VecDeque<T> {
             if !rest.is_empty() {
                 items.extend(rest.iter().map(cloned));
             }
-            return Ok(VecDeque(items.into()));
+            return Ok(VecDeque::of(items.into()));
         }
         for item in front.iter().chain(rest) {
             items.push(item.clone()?);
         }
-        Ok(VecDeque(items.into()))
+        Ok(VecDeque::of(items.into()))
     }
 }
 

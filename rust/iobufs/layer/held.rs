@@ -1,5 +1,6 @@
-//! In the place of `iobufs_core/buf/held.rt`, which has a place and a length: an address and a length, so that a read
-//! asks neither for the kind of its storage nor for its block.
+//! In the place of `iobufs_core/buf/held.rt`, which has a place and a length: a `Bytes`, or an address, a length and a
+//! block, of which static bytes have none. Both are four words, which begin with the address and the length, or with
+//! one word and these, so that a read asks neither for the kind of its storage nor for its block: a test says so.
 //!
 //! It is sound for any safe caller, whatever the proof says of the callers: a range is tested against the storage as the
 //! address is made, and until the storage is given back nothing of it is lent but these bytes, to be read.
@@ -23,144 +24,200 @@ impl Native {
     }
 }
 
-// Two enums take 32 bytes, and one of three kinds 40. Each keeps its bytes where they are, wherever it is moved: a
-// `Box<[u8]>` would not.
+// The order of the fields is that of `Bytes`.
+#[repr(C)]
+struct Own {
+    // Bytes of `block`, which nothing writes to while this share of it lives, or static bytes if there is none.
+    bytes: NonNull<[u8]>,
+    block: Option<Block>,
+}
+
+// SAFETY: the address lends `&[u8]` alone, and what it leads to lives as long as the block, or is static.
+unsafe impl Send for Own where Block: Send {}
+// SAFETY: as above.
+unsafe impl Sync for Own where Block: Sync {}
+
+impl Own {
+    #[inline]
+    fn as_slice(&self) -> &[u8] {
+        // SAFETY: by the invariant of `bytes` (the clause of `as_slice`): they are bytes of the block, which is borrowed
+        // as long, or static. The address comes from a `&[u8]` of the same block or of a share of it.
+        unsafe { self.bytes.as_ref() }
+    }
+
+    // These bytes, which are of the storage, with one more share.
+    #[inline]
+    fn share(&self, bytes: NonNull<[u8]>) -> Result<Held, AllocError> {
+        let block = match &self.block {
+            Some(block) => Some(block.share()?),
+            None => None,
+        };
+        Ok(Held::own(bytes, block))
+    }
+}
+
+// Bytes of a `Bytes`, with one more share.
+#[inline]
+fn share_of(all: &Bytes, from: usize, to: usize) -> Result<Bytes, AllocError> {
+    // No bytes have no place in a `Bytes`.
+    if from == to { Ok(Bytes::new()) } else { all.slice(from..to) }
+}
+
+// It stands apart, so that a clone of the others is short.
+#[inline(never)]
+fn clone_of(all: &Bytes) -> Result<Bytes, AllocError> {
+    share_of(all, 0, all.len())
+}
+
+/// Bytes of a storage, with a share of it.
+pub struct Held(Storage);
+
 enum Storage {
+    // Exactly these bytes.
     Shared(Bytes),
     Own(Own),
 }
 
-enum Own {
-    Native(Block),
-    Static(&'static [u8]),
-}
-
-/// Bytes of a storage, with a share of it.
-pub struct Held {
-    // Bytes of `storage`, which nothing writes to while this share of it lives.
-    bytes: NonNull<[u8]>,
-    storage: Storage,
-}
-
-// SAFETY: the address lends `&[u8]` alone, and what it leads to lives as long as the storage.
-unsafe impl Send for Held where Storage: Send {}
-// SAFETY: as above.
-unsafe impl Sync for Held where Storage: Sync {}
-
 // The calls are those of `held.rt`.
 #[allow(clippy::len_without_is_empty)]
 impl Held {
+    #[inline]
+    fn own(bytes: NonNull<[u8]>, block: Option<Block>) -> Held {
+        Held(Storage::Own(Own { bytes, block }))
+    }
+
     /// Shows all bytes of a range. Panics if they aren't there.
     #[inline]
     pub fn of_native(native: Native) -> Held {
         let bytes = NonNull::from(native.as_slice());
-        Held { bytes, storage: Storage::Own(Own::Native(native.block)) }
+        Held::own(bytes, Some(native.block))
     }
 
     /// Shows static bytes.
     #[inline]
     pub fn of_static(text: &'static [u8]) -> Held {
-        Held { bytes: NonNull::from(text), storage: Storage::Own(Own::Static(text)) }
+        Held::own(NonNull::from(text), None)
     }
 
     /// Shows all of a `Bytes`.
     #[inline]
     pub fn of_bytes(bytes: Bytes) -> Held {
-        Held { bytes: NonNull::from(bytes.as_slice()), storage: Storage::Shared(bytes) }
+        Held(Storage::Shared(bytes))
     }
 
     #[inline]
     pub fn len(&self) -> usize {
-        self.bytes.len()
+        self.as_slice().len()
     }
 
     /// Returns the bytes.
     #[inline]
     pub fn as_slice(&self) -> &[u8] {
-        // SAFETY: by the invariant of `bytes` (the clause of `as_slice`): they are bytes of the storage, which is
-        // borrowed as long. The address comes from a `&[u8]` of the same storage or of a share of it.
-        unsafe { self.bytes.as_ref() }
+        match &self.0 {
+            Storage::Shared(bytes) => bytes.as_slice(),
+            Storage::Own(own) => own.as_slice(),
+        }
     }
 
     /// Returns whether the storage is static.
     #[inline]
     pub fn is_static(&self) -> bool {
-        matches!(self.storage, Storage::Own(Own::Static(_)))
+        matches!(self.0, Storage::Own(Own { block: None, .. }))
     }
 
     /// Returns whether the storage is a `Bytes`.
     #[inline]
     pub fn is_shared(&self) -> bool {
-        matches!(self.storage, Storage::Shared(_))
+        matches!(self.0, Storage::Shared(_))
     }
 
     /// Drops the first `n` bytes. Panics if there are fewer.
     #[inline]
     pub fn advance(&mut self, n: usize) {
-        self.bytes = NonNull::from(&self.as_slice()[n..]);
+        let rest = NonNull::from(&self.as_slice()[n..]);
+        match &mut self.0 {
+            Storage::Shared(bytes) => bytes.advance(n),
+            Storage::Own(own) => own.bytes = rest,
+        }
     }
 
     /// Returns the bytes from one place to another, with one more share. Panics if they aren't there.
     #[inline]
     pub fn share(&self, from: usize, to: usize) -> Result<Held, AllocError> {
         let bytes = NonNull::from(&self.as_slice()[from..to]);
-        // Each arm makes a whole `Held`: a storage that is moved into one is copied piece by piece.
-        Ok(match &self.storage {
-            Storage::Own(Own::Native(block)) => Held { bytes, storage: Storage::Own(Own::Native(block.share()?)) },
-            Storage::Own(Own::Static(text)) => Held { bytes, storage: Storage::Own(Own::Static(text)) },
-            // No bytes have no place in a `Bytes`.
-            Storage::Shared(_) if from == to => Held::of_bytes(Bytes::new()),
-            Storage::Shared(all) => Held { bytes, storage: Storage::Shared(all.slice(..)?) },
-        })
+        match &self.0 {
+            Storage::Own(own) => own.share(bytes),
+            Storage::Shared(all) => Ok(Held::of_bytes(share_of(all, from, to)?)),
+        }
     }
 
     /// Returns all of the bytes, with one more share.
     #[inline]
     pub fn try_clone(&self) -> Result<Held, AllocError> {
-        self.share(0, self.len())
+        match &self.0 {
+            Storage::Own(own) => own.share(own.bytes),
+            Storage::Shared(all) => Ok(Held::of_bytes(clone_of(all)?)),
+        }
     }
 
     /// Takes the first `n` bytes, with one more share. Panics if there are fewer.
-    #[inline]
+    #[inline(always)]
     pub fn split_to(&mut self, n: usize) -> Result<Held, AllocError> {
-        let rest = NonNull::from(&self.as_slice()[n..]);
-        let front = self.share(0, n)?;
-        self.bytes = rest;
-        Ok(front)
+        let (front, rest) = self.as_slice().split_at(n);
+        let (front, rest) = (NonNull::from(front), NonNull::from(rest));
+        match &mut self.0 {
+            Storage::Own(own) => {
+                let front = own.share(front)?;
+                own.bytes = rest;
+                Ok(front)
+            }
+            Storage::Shared(all) => {
+                let front = share_of(all, 0, n)?;
+                all.advance(n);
+                Ok(Held::of_bytes(front))
+            }
+        }
     }
 
     /// Returns the range of native storage that has the bytes; bytes of another storage come back.
     #[inline]
     pub fn into_native(self) -> Result<Native, Held> {
-        let Held { bytes, storage } = self;
-        match storage {
-            Storage::Own(Own::Native(block)) => {
-                let start = place(bytes, block.as_slice());
+        match self.0 {
+            Storage::Own(Own { bytes, block: Some(block) }) => {
+                let start = bytes.addr().get() - block.as_slice().as_ptr().addr();
                 Ok(Native { block, len: bytes.len(), start })
             }
-            storage => Err(Held { bytes, storage }),
+            storage => Err(Held(storage)),
         }
     }
 
     /// Converts into a `Bytes` without copying; bytes of native storage come back.
     #[inline]
     pub fn into_bytes(self) -> Result<Bytes, Held> {
-        let Held { bytes, storage } = self;
-        match storage {
-            Storage::Own(Own::Static(text)) => Ok(Bytes::from_static(&text[place(bytes, text)..][..bytes.len()])),
-            Storage::Shared(mut all) => {
-                let start = place(bytes, all.as_slice());
-                all.truncate(start + bytes.len());
-                all.advance(start);
-                Ok(all)
-            }
-            storage => Err(Held { bytes, storage }),
+        match self.0 {
+            // SAFETY: without a block the bytes are static.
+            Storage::Own(Own { bytes, block: None }) => Ok(Bytes::from_static(unsafe { bytes.as_ref() })),
+            Storage::Shared(bytes) => Ok(bytes),
+            storage => Err(Held(storage)),
         }
     }
 }
 
-// Where these bytes begin in those that they are of.
-#[inline]
-fn place(bytes: NonNull<[u8]>, all: &[u8]) -> usize {
-    bytes.addr().get() - all.as_ptr().addr()
+#[cfg(test)]
+mod tests {
+    use super::{Held, Storage};
+
+    #[test]
+    fn a_read_asks_for_no_kind() {
+        assert_eq!(size_of::<Held>(), 32);
+        let at = |held: &Held| {
+            let (ptr, len) = (held.as_slice().as_ptr().addr(), held.len());
+            let words: [usize; 4] = unsafe { std::ptr::read((&raw const *held).cast()) };
+            (words.iter().position(|it| *it == ptr), words.iter().position(|it| *it == len))
+        };
+        let own = Held::of_static(b"abcde");
+        let shared = Held::of_bytes(super::Bytes::from_static(b"abcdefg"));
+        assert!(matches!(own.0, Storage::Own(_)));
+        assert_eq!(at(&own), at(&shared));
+    }
 }

@@ -3,6 +3,7 @@
 //!
 //! It is sound for any safe caller: what puts without an allocation tests the capacity itself, once.
 use super::base::{AllocError, AllocFailed, Global};
+use super::few;
 use std::alloc::{Layout, alloc};
 use std::ops::{Deref, DerefMut, RangeFrom};
 use std::{fmt, io, vec};
@@ -21,6 +22,9 @@ impl<T> Vec<T> {
     /// Returns no items, and a capacity of `n`.
     #[inline]
     pub fn with_capacity(_: Global, n: usize) -> Result<Vec<T>, AllocError> {
+        if few::fits::<T>() && 0 < n && n <= few::FEW {
+            return Ok(Vec(few::kept().unwrap_or_else(|| vec::Vec::with_capacity(few::FEW))));
+        }
         let layout = Layout::array::<T>(n).map_err(|_| AllocError)?;
         if layout.size() == 0 {
             return Ok(Vec(vec::Vec::new()));

@@ -9,8 +9,12 @@ pub mod block;
 pub mod bytes;
 #[path = "../layer/count.rs"]
 mod count;
+#[allow(unsafe_code)]
 #[path = "../layer/deque.rs"]
 mod deque;
+#[allow(unsafe_code)]
+#[path = "../layer/few.rs"]
+mod few;
 #[allow(unsafe_code)]
 #[path = "../layer/held.rs"]
 pub mod held;

@@ -16,9 +16,13 @@ pub mod block;
 pub mod bytes;
 #[path = "../../iobufs/layer/count.rs"]
 mod count;
+#[allow(unsafe_code)]
 #[path = "../../iobufs/layer/deque.rs"]
 mod deque;
 pub mod fs;
+#[allow(unsafe_code)]
+#[path = "../../iobufs/layer/few.rs"]
+mod few;
 #[allow(unsafe_code)]
 #[path = "../../iobufs/layer/held.rs"]
 pub mod held;

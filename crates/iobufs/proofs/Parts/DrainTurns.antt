@@ -1,12 +1,12 @@
 -- A row of parts whose bytes are dropped, part by part.
-use Rattle.iobufs.proofs.Text.{AreBehind, AreKept, HaveCapacity, HaveNoSpare, IsParts, List, Part, [], ap, append_assoc, arith, drop, drop_all, empty_part, first_drained, get_or, in_order, kept_parts, length, length-append, length-drop, length-take, part_capacity, part_drained, parts_capacity, parts_drained, parts_filled, parts_or_default, parts_shared_out, refl, subst, sum_by_push, sym, take, take-append-drop, ℕ, ◌++◌, ◌+◌, ◌-◌, ◌<◌, ◌^◌, ◌∙◌, ◌∷◌, ◌≡◌, ◌≤◌}
+use Rattle.iobufs.proofs.Text.{AreBehind, AreKept, HaveCapacity, HaveNoSpare, IsParts, List, Part, [], ap, append_assoc, arith, drop, drop_all, empty_part, first_drained, get_or, in_order, kept_parts, length, length-append, length-drop, length-take, part_capacity, part_drained, parts_capacity, parts_drained, parts_fill, parts_filled, parts_or_default, parts_shared_out, parts_spare, refl, subst, sum_by_push, sym, take, take-append-drop, ℕ, ◌++◌, ◌+◌, ◌-◌, ◌<◌, ◌^◌, ◌∙◌, ◌∷◌, ◌≡◌, ◌≤◌}
 use Rattle.std.proofs.Math.Seq.{take-append_seam}
 use Rattle.iobufs.proofs.Parts.DrainShapes.{able-both, able-front, able-rest, capacity-shared_out, shared_out-behind, shared_out-first, shared_out-none, with_capacity-spent}
-use Rattle.iobufs.proofs.Parts.FewLaws.{drained-parts, kept-same, parts-kept}
 use Rattle.iobufs.proofs.Parts.FullLaws.{full-drained, full-push}
 use Rattle.iobufs.proofs.Parts.OrderLaws.{behind-both, filled-length, filled-order, first-filled, kept-none, order-both, order-length}
-use Rattle.iobufs.proofs.Parts.PartRuns.{parts-push}
-use Rattle.iobufs.proofs.Parts.SumLaws.{summed-drained}
+use Rattle.iobufs.proofs.Parts.PartLaws.{parts-fill}
+use Rattle.iobufs.proofs.Parts.PartRuns.{drained-parts, kept-same, parts-kept, parts-push}
+use Rattle.iobufs.proofs.Parts.SumLaws.{summed-drained, summed-fill}
 
 -- n more bytes are to go from a row of which so many parts are drained; what is left then
 pub record IsDraining (row : List Part) (used n : ℕ) (left : List Part) : Type 0 where
@@ -245,3 +245,12 @@ kept-pushed row new used none p full len capacity n m kept is zero several more 
           (arith, sum, kept.sums.capacity_is, capacity_is);
     })
     (subst IsParts (sym is) (parts-push all p kept.parts several more fits))
+
+-- bytes put into parts in order, where there is room for them, are kept with their sums
+pub kept-filled : (row new : List Part) (used none known full len capacity : ℕ) (w : List ℕ) → AreKept row used known len capacity
+    → none ≡ 0 → new ≡ parts_fill (in_order row used) w → HaveNoSpare full new → length w ≤ parts_spare (in_order row used)
+    → AreKept new none full (len + length w) capacity
+kept-filled row new used none known full len capacity w kept zero is no_spare some =
+    let all = in_order row used in
+    kept-none new none full (len + length w) capacity zero no_spare
+    (summed-fill all new w len capacity kept.sums some is) (subst IsParts (sym is) (parts-fill all w kept.parts))

@@ -1,6 +1,6 @@
 -- How many parts at the front have no spare capacity, after each call on parts.
-use Rattle.iobufs.proofs.Text.{HaveNoSpare, IsParts, List, Part, [], ap, append-nil, arith, cond_both, drop, get_or, length, nat_lt, part_capacity, part_drained, part_put, parts_drained, parts_fill, parts_or_default, parts_overwritten, parts_shared_out, refl, same_part, subst, suc, sym, take, with_capacity, zero, ℕ, ◌++◌, ◌+◌, ◌-◌, ◌<◌, ◌∙◌, ◌∷◌, ◌≡◌, ◌≤◌}
-use Rattle.iobufs.proofs.Parts.FewLaws.{drained-parts}
+use Rattle.iobufs.proofs.Text.{HaveNoSpare, IsParts, List, Part, [], ap, append-nil, arith, cond_both, drop, get_or, length, nat_lt, part_capacity, part_drained, part_put, parts_drained, parts_fill, parts_or_default, parts_overwritten, parts_shared_out, refl, same_part, set, subst, suc, sym, take, with_capacity, zero, ℕ, ◌++◌, ◌+◌, ◌-◌, ◌<◌, ◌∙◌, ◌∷◌, ◌≡◌, ◌≤◌}
+use Rattle.iobufs.proofs.Parts.PartRuns.{drained-parts}
 
 -- one more, if the next part has none
 pub full-next : (n : ℕ) (parts : List Part) (p : Part) → HaveNoSpare n parts → n < length parts → p ≡ get_or parts n p → p.spare ≡ 0
@@ -9,6 +9,20 @@ full-next zero [] p full inside is none = absurd (omega arith)
 full-next zero (q ∷ parts) p full inside is none = (ap (λ (x : Part). x.spare) (sym is) ∙ none, tt)
 full-next (suc n) [] p full inside is none = absurd (omega arith)
 full-next (suc n) (q ∷ parts) p full inside is none = (full.0, full-next n parts p full.1 (omega arith) is none)
+
+-- one more, if the next part is put back without
+pub full-set : (n : ℕ) (parts : List Part) (q : Part) → HaveNoSpare n parts → n < length parts → q.spare ≡ 0
+    → HaveNoSpare (suc n) (set parts n q)
+full-set zero [] q full inside none = absurd (omega arith)
+full-set zero (p ∷ parts) q full inside none = (none, tt)
+full-set (suc n) [] q full inside none = absurd full
+full-set (suc n) (p ∷ parts) q full inside none = (full.0, full-set n parts q full.1 (omega arith) none)
+
+-- as many, if the next part is changed
+pub full-before : (n : ℕ) (parts : List Part) (q : Part) → HaveNoSpare n parts → HaveNoSpare n (set parts n q)
+full-before zero parts q full = tt
+full-before (suc n) [] q full = absurd full
+full-before (suc n) (p ∷ parts) q full = (full.0, full-before n parts q full.1)
 
 -- more parts after them leave them full
 pub full-push : (n : ℕ) (parts more : List Part) → HaveNoSpare n parts → HaveNoSpare n (parts ++ more)
@@ -38,7 +52,7 @@ full-overwritten zero parts w full = tt
 full-overwritten (suc n) [] w full = absurd full
 full-overwritten (suc n) (p ∷ parts) w full = (full.0, full-overwritten n parts (drop (length p.filled) w) full.1)
 
-full-within : (n : ℕ) (parts : List Part) → HaveNoSpare n parts → n ≤ length parts
+pub full-within : (n : ℕ) (parts : List Part) → HaveNoSpare n parts → n ≤ length parts
 full-within zero parts full = omega arith
 full-within (suc n) [] full = absurd full
 full-within (suc n) (p ∷ parts) full = omega (arith, full-within n parts full.1)

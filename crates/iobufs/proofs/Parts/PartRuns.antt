@@ -1,6 +1,6 @@
 -- Parts that are strung together one by one: which are kept, and why the last one is refused.
-use Rattle.iobufs.proofs.Text.{HaveCapacity, IsParts, IsRowRefusedAt, List, Memory, Part, TooLong, [], ap, arith, cond-false, cond-true, empty_part, kept_parts, le-ltb, length, length-append, lt-ltb, nat_lt, part_capacity, parts_capacity, parts_or_default, refl, sum_by-cons, sum_by_push, sym, with_capacity, ◌++◌, ◌+◌, ◌<◌, ◌^◌, ◌∙◌, ◌∷◌, ◌≡◌, ◌≤◌}
-use Rattle.iobufs.proofs.Parts.DrainShapes.{able-both, able-with_capacity, capacity-with_capacity, with_capacity-all, with_capacity-push}
+use Rattle.iobufs.proofs.Text.{HaveCapacity, IsParts, IsRowRefusedAt, List, Memory, Part, TooLong, [], ap, arith, by_lt, cond-false, cond-true, empty_part, kept_parts, le-ltb, length, length-append, lt-ltb, nat_lt, nil_from_length, part_capacity, part_drained, parts_capacity, parts_drained, parts_or_default, parts_shared_out, refl, same_part, sum_by-cons, sum_by_push, sym, with_capacity, ℕ, ◌++◌, ◌+◌, ◌<◌, ◌^◌, ◌∙◌, ◌∷◌, ◌≡◌, ◌≤◌}
+use Rattle.iobufs.proofs.Parts.DrainShapes.{able-both, able-with_capacity, capacity-with_capacity, drained-several, with_capacity-all, with_capacity-push}
 
 -- where there is a part, no other has to represent them
 pub default-some : (parts : List Part) → 0 < length parts → parts_or_default parts ≡ parts
@@ -10,6 +10,28 @@ default-some (p ∷ parts) some = refl
 -- parts that can all hold a byte are all kept
 pub kept-all : (parts : List Part) → HaveCapacity parts → 0 < length parts → parts ≡ kept_parts parts
 kept-all parts able some = sym (ap parts_or_default (with_capacity-all parts able) ∙ default-some parts some)
+
+-- parts are all kept
+pub kept-same : (parts : List Part) → 0 < length parts → (1 < length parts → HaveCapacity parts) → parts ≡ kept_parts parts
+kept-same [] some able = absurd (omega arith)
+kept-same (p ∷ []) some able =
+    by_lt 0 (part_capacity p) (λ more. kept-all (p ∷ []) (more, tt) (omega arith))
+    (λ none. cc (same_part p (empty_part 0) (nil_from_length p.filled (omega arith)) (omega arith)))
+kept-same (p ∷ q ∷ parts) some able = kept-all (p ∷ q ∷ parts) (able (omega arith)) (omega arith)
+
+-- those that are kept are parts
+pub parts-kept : (parts : List Part) → parts_capacity parts < 2 ^ 64 → IsParts (kept_parts parts)
+parts-kept parts fits = of_able (with_capacity parts) (able-with_capacity parts) (omega (arith, capacity-with_capacity parts))
+  where
+    of_able : (able : List Part) → HaveCapacity able → parts_capacity able < 2 ^ 64 → IsParts (parts_or_default able)
+    of_able [] h fits = record { some = omega arith; have_capacity = λ more. absurd (omega arith); fits = omega arith }
+    of_able (p ∷ able) h fits = record { some = omega arith; have_capacity = λ more. h; fits = fits }
+
+-- parts that lose bytes are those of them that are kept then
+pub drained-parts : (parts : List Part) (n : ℕ) → IsParts parts → parts_drained parts n ≡ kept_parts (parts_shared_out parts n)
+drained-parts [] n are = absurd (omega (arith, are.some))
+drained-parts (p ∷ []) n are = kept-same (part_drained p n ∷ []) (omega arith) (λ more. absurd (omega arith))
+drained-parts (p ∷ q ∷ parts) n are = drained-several (p ∷ q ∷ parts) n (omega arith) (are.have_capacity (omega arith))
 
 -- one that can't hold a byte makes way
 pub kept-first : (first p : Part) → part_capacity first ≡ 0 → 0 < part_capacity p → p ∷ [] ≡ kept_parts (first ∷ p ∷ [])
@@ -77,14 +99,12 @@ refused-long front last fits last_fits long =
       more = omega arith;
       told = sym (cond-false (nat_lt (parts_capacity (front ++ last ∷ [])) (2 ^ 64)) Memory TooLong
           (le-ltb (parts_capacity (front ++ last ∷ [])) (2 ^ 64) (omega arith)));
-      several = λ short. absurd (omega arith);
     }
 
--- a last part with capacity, after three others with some or more, was refused for a failed allocation where the capacity of all fits a
--- number
+-- a last part with capacity, after others with some, was refused for a failed allocation where the capacity of all fits a number
 pub refused-short : (front : List Part) (last : Part) → 0 < parts_capacity front → 0 < part_capacity last
-    → parts_capacity front + part_capacity last < 2 ^ 64 → 3 ≤ length (with_capacity front) → IsRowRefusedAt (front ++ last ∷ []) Memory
-refused-short front last some more short several =
+    → parts_capacity front + part_capacity last < 2 ^ 64 → IsRowRefusedAt (front ++ last ∷ []) Memory
+refused-short front last some more short =
     let sum = sum_by_push part_capacity front last in
     record {
       front = front;
@@ -95,11 +115,6 @@ refused-short front last some more short several =
       more = more;
       told = sym (cond-true (nat_lt (parts_capacity (front ++ last ∷ [])) (2 ^ 64)) Memory TooLong
           (lt-ltb (parts_capacity (front ++ last ∷ [])) (2 ^ 64) (omega arith)));
-      several = λ _. omega (
-        arith,
-        ap (λ (ps : List Part). length ps) (with_capacity-push front last more),
-        length-append (with_capacity front) (last ∷ []),
-      );
     }
 
 pub ruleset growing = (kept-first, kept-two, parts-push)

@@ -1,9 +1,8 @@
--- Chunks that a function changes in place: of one part, of a row of them, of those that are kept, and of parts in order.
-use Rattle.iobufs.proofs.Text.{AreBehind, List, Part, [], ap, arith, drop, drop-append-le, drop_at, filled-kept_parts, folds-append, in_order, kept_parts, length, length-append, length-drop, map-append, parts_filled, parts_overwritten, part_overwritten, refl, sym, take, take-append-le, take_all, ℕ, ◌++◌, ◌<◌, ◌∙◌, ◌∷◌, ◌≡◌, ◌≤◌}
+-- Chunks that a function changes in place: of one part, of a row of them, and of parts in order.
+use Rattle.iobufs.proofs.Text.{AreBehind, List, Part, [], ap, arith, drop, drop-append-le, drop_at, folds-append, in_order, length, length-append, length-drop, map-append, parts_filled, parts_overwritten, part_overwritten, refl, sym, take, take-append-le, take_all, ℕ, ◌++◌, ◌<◌, ◌∙◌, ◌∷◌, ◌≡◌, ◌≤◌}
 use Rattle.iobufs.specs.Visiting.{IsVisited}
 use Rattle.std.specs.Borrow.{MutBor}
 use Rattle.std.specs.Fn.{Called, CalledAtMut, Mut}
-use Rattle.iobufs.proofs.Parts.FewLaws.{chunks-kept_parts, kept-overwritten}
 use Rattle.iobufs.proofs.Parts.OrderLaws.{chunks-order, filled-both, filled-order, overwritten-both, overwritten-empty, overwritten-order}
 use Rattle.iobufs.proofs.Parts.PartChunks.{chunks-both, chunks-empty, chunks-full, filled-one}
 use Rattle.iobufs.proofs.Parts.PartLaws.{same-overwritten}
@@ -86,17 +85,6 @@ module _ {F : Type 0} (call : F → List ℕ → F → List ℕ → Type 0) wher
         kept = (λ i. (a.kept ∙ sym (overwritten-front ps u v same)) i ++ (b.kept ∙ ap (parts_overwritten qs) (sym rest)) i)
             ∙ sym (overwritten-both ps qs (u ++ v)) ∙ ap (parts_overwritten (ps ++ qs)) (sym (filled-both psn qsn));
       }
-
-  -- parts that are kept of those that were visited
-  pub visited-kept : (f g : F) (ps psn : List Part) → IsVisited call f ps g psn → IsVisited call f (kept_parts ps) g (kept_parts psn)
-  visited-kept f g ps psn a = record {
-    turns = a.turns;
-    before = chunks-kept_parts ps ∙ a.before;
-    after = chunks-kept_parts psn ∙ a.after;
-    calls = a.calls;
-    kept = ap kept_parts a.kept ∙ sym (kept-overwritten ps (parts_filled psn))
-        ∙ ap (parts_overwritten (kept_parts ps)) (sym (filled-kept_parts psn));
-  }
 
   -- parts in order, of a row that was visited
   pub visited-order : (f g : F) (row new : List Part) (used : ℕ) → AreBehind row used → IsVisited call f row g new

@@ -51,26 +51,22 @@ impl Model for Several {
 }
 
 impl Several {
-    /// Four parts in a deque with space for `expected`, and at least for eight.
-    pub(super) fn of_four(
+    /// Two parts in a deque with space for `expected`.
+    pub(super) fn of_two(
         alloc: Global,
         first: IoBufMut,
         second: IoBufMut,
-        third: IoBufMut,
-        fourth: IoBufMut,
         expected: usize,
     ) -> Result<Several, AllocError>
-        requires have_capacity { HaveCapacity (first ∷ second ∷ third ∷ fourth ∷ []) }
-        requires fits { parts_capacity (first ∷ second ∷ third ∷ fourth ∷ []) < 2 ^ 64 }
-        ensures { IfOk result (λ parts. parts ≡ first ∷ second ∷ third ∷ fourth ∷ []) }
+        requires have_capacity { HaveCapacity (first ∷ second ∷ []) }
+        requires fits { parts_capacity (first ∷ second ∷ []) < 2 ^ 64 }
+        ensures { IfOk result (λ parts. parts ≡ first ∷ second ∷ []) }
     {
-        let len = first.len() + second.len() + third.len() + fourth.len();
-        let capacity = first.capacity() + second.capacity() + third.capacity() + fourth.capacity();
-        let mut row = VecDeque::with_capacity(alloc, expected.max(8))?;
+        let len = first.len() + second.len();
+        let capacity = first.capacity() + second.capacity();
+        let mut row = VecDeque::with_capacity(alloc, expected.max(2))?;
         row.push_back_reserved(first);
         row.push_back_reserved(second);
-        row.push_back_reserved(third);
-        row.push_back_reserved(fourth);
         Ok(Several {
             row,
             used: 0,
@@ -171,12 +167,22 @@ impl Several {
         requires { length src.now ≤ parts_spare self.old }
         ensures { self.new ≡ parts_fill self.old src.now }
     {
-        if src.is_empty() {
+        if self.used == 0 && put_inside(&mut self.row, self.full, src) {
+            self.len += src.len();
             return;
         }
+        self.put_behind(src);
+    }
+
+    // Acts as `put`: a function of its own, so that bytes that fit the next buffer cost no call.
+    #[inline(never)]
+    #[tactic(auto, using(crate::proofs::Parts::OrderLaws::ordered))]
+    fn put_behind(&mut self, src: &[u8])
+        requires { length src.now ≤ parts_spare self.old }
+        ensures { self.new ≡ parts_fill self.old src.now }
+    {
         settle(&mut self.row, &mut self.used);
-        self.full = count_full(&self.row, self.full);
-        put(&mut self.row, self.full, src);
+        self.full = put(&mut self.row, self.full, src);
         self.len += src.len();
     }
 
@@ -384,17 +390,25 @@ impl Several {
     }
 
     /// All bytes in one buffer, without spare capacity.
-    #[tactic(auto, using(crate::proofs::Parts::PartChunks::reading, crate::proofs::Parts::Coalesced::coalescing))]
-    pub(super) fn coalesce(&self, alloc: Global) -> Result<IoBufMut, BufError>
-        ensures ok { IfOk result (λ part. part ≡ record { filled = parts_filled self.now; spare = 0 }) }
-        ensures bad_layout { 2 ^ 63 ≤ length (parts_filled self.now) → result ≡ Err BufError.BadLayout }
-        ensures good_layout { length (parts_filled self.now) < 2 ^ 63 → IsOkUnless result BufError.Memory }
-        ensures nothing { length (parts_filled self.now) ≡ 0 → IsOk result }
+    pub(super) fn coalesce(self, alloc: Global) -> Result<IoBufMut, BufError>
+        ensures ok { IfOk result (λ part. part ≡ record { filled = parts_filled self; spare = 0 }) }
+        ensures bad_layout { 2 ^ 63 ≤ length (parts_filled self) → result ≡ Err BufError.BadLayout }
+        ensures good_layout { length (parts_filled self) < 2 ^ 63 → IsOkUnless result BufError.Memory }
+        ensures nothing { length (parts_filled self) ≡ 0 → IsOk result }
     {
-        let mut whole = IoBufMut::with_capacity(alloc, self.len)?;
-        for part in &self.row {
-            whole.put_slice(part.as_ref());
+        let Several {
+            mut row,
+            used: _,
+            full: _,
+            len,
+            capacity: _,
+        } = self;
+        let first = row.pop_front().unwrap();
+        let mut whole = first.grown(alloc, len)?;
+        for part in &row {
+            whole.put_share(part.as_ref());
         }
+        whole.close();
         Ok(whole)
     }
 }
@@ -460,7 +474,7 @@ fn take_first(
 
 // Copies the bytes of a part to the offset `at` of `dst`, as many as fit, and returns the offset after them.
 #[inline(always)]
-pub(super) fn read_share(part: &IoBufMut, dst: &mut [u8], at: usize) -> usize
+fn read_share(part: &IoBufMut, dst: &mut [u8], at: usize) -> usize
     requires { at ≤ length dst.old }
     ensures behind { result ≡ at + min (length part.now.filled) (length dst.old - at) }
     ensures long { length dst.new ≡ length dst.old }
@@ -473,7 +487,7 @@ pub(super) fn read_share(part: &IoBufMut, dst: &mut [u8], at: usize) -> usize
 
 // Puts the first `n` bytes of a part after others that have space for them, and returns how many are left.
 #[inline(always)]
-pub(super) fn extend_share(bytes: &mut Vec<u8>, part: &IoBufMut, n: usize) -> usize
+fn extend_share(bytes: &mut Vec<u8>, part: &IoBufMut, n: usize) -> usize
     requires { vec_len bytes.old + n ≤ vec_capacity bytes.old }
     ensures put { bytes.new.items ≡ bytes.old.items ++ take n part.now.filled }
     ensures left { result ≡ n - length part.now.filled }
@@ -496,27 +510,50 @@ fn count_full(parts: &VecDeque<IoBufMut>, known: usize) -> usize
     full
 }
 
+// Puts the bytes into the buffer after the first `full` ones, if they fit there, and returns whether they do. The first
+// `full` have no spare capacity.
+#[inline(always)]
+fn put_inside(parts: &mut VecDeque<IoBufMut>, full: usize, src: &[u8]) -> bool
+    requires { HaveNoSpare full parts.old.items }
+    ensures put { IsTrue result → parts.new.items ≡ parts_fill parts.old.items src.now }
+    ensures same { result ≡ false → parts.new.items ≡ parts.old.items }
+{
+    if full >= parts.len() {
+        return false;
+    }
+    let part = &mut parts[full];
+    if src.len() > part.remaining_mut() {
+        return false;
+    }
+    part.put_share(src);
+    true
+}
+
 // Fills the spare capacity of the buffers in order. The first `full` have none.
 #[tactic(auto, using(crate::proofs::Parts::FullLaws::filling))]
-fn put(parts: &mut VecDeque<IoBufMut>, full: usize, src: &[u8])
+fn put(parts: &mut VecDeque<IoBufMut>, full: usize, src: &[u8]) -> usize
     requires fits { length src.now ≤ parts_spare parts.old.items }
     requires full { HaveNoSpare full parts.old.items }
-    ensures { parts.new.items ≡ parts_fill parts.old.items src.now }
+    ensures put { parts.new.items ≡ parts_fill parts.old.items src.now }
+    ensures full { HaveNoSpare result parts.new.items }
 {
     let mut left = src;
     for i in full..parts.len() {
-        if left.is_empty() {
-            return;
-        }
         let part = &mut parts[i];
-        let n = left.len().min(part.remaining_mut());
-        part.put_share(&left[..n]);
-        left = &left[n..];
+        let room = part.remaining_mut();
+        if left.len() <= room {
+            part.put_share(left);
+            return i;
+        }
+        let (share, rest) = left.split_at(room);
+        part.put_share(share);
+        left = rest;
     }
+    parts.len()
 }
 
 // Puts one byte up to `n` times, and returns how many times are left.
-pub(super) fn put_bytes_share(part: &mut IoBufMut, value: u8, n: usize) -> usize
+fn put_bytes_share(part: &mut IoBufMut, value: u8, n: usize) -> usize
     ensures put { part.new ≡ part_put part.old (take part.old.spare (replicate n value)) }
     ensures left { result ≡ n - part.old.spare }
 {
@@ -542,7 +579,7 @@ fn put_bytes(parts: &mut VecDeque<IoBufMut>, full: usize, value: u8, n: usize)
 }
 
 // Makes `n` bytes readable as far as the capacity goes, and returns how many are left.
-pub(super) fn len_share(part: &mut IoBufMut, n: usize) -> usize
+fn len_share(part: &mut IoBufMut, n: usize) -> usize
     ensures set { part.new ≡ part_with_len part.old (min n (part_capacity part.old)) }
     ensures left { result ≡ n - part_capacity part.old }
 {
@@ -562,7 +599,7 @@ fn set_len(parts: &mut VecDeque<IoBufMut>, n: usize)
 }
 
 // Writes over the readable bytes of a part, and returns the bytes that are left.
-pub(super) fn copy_share<'a>(part: &mut IoBufMut, src: &'a [u8]) -> &'a [u8]
+fn copy_share<'a>(part: &mut IoBufMut, src: &'a [u8]) -> &'a [u8]
     requires { length part.old.filled ≤ length src.now }
     ensures written { part.new ≡ part_overwritten part.old (take (length part.old.filled) src.now) }
     ensures left { result.now ≡ drop (length part.old.filled) src.now }

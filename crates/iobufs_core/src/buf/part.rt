@@ -65,12 +65,12 @@ fn is_bad_layout(n: usize, align: usize) -> bool
     n != 0 && Layout::from_size_align(n, align).is_err()
 }
 
-// Whether `n` bytes fit into a capacity, and the storage has at most 41 bytes more than twice `n`, or than 4 KiB.
-// Storage that the Rust crate allocates on a 64-bit target has 39 bytes more than it was made for.
+// Whether `n` bytes fit into a capacity, and the storage has at most 57 bytes more than twice `n`, or than 4 KiB.
+// Storage that the Rust crate allocates on a 64-bit target has 55 bytes more than it was made for.
 fn suits(n: usize, capacity: usize, stored: usize) -> bool
-    ensures { IsTrue result ↔ ((n ≤ capacity) × ((stored / 2 - 20 ≤ n) ⊎ (stored / 2 - 20 ≤ 2 ^ 11))) }
+    ensures { IsTrue result ↔ ((n ≤ capacity) × ((stored / 2 - 28 ≤ n) ⊎ (stored / 2 - 28 ≤ 2 ^ 11))) }
 {
-    n <= capacity && (stored / 2).saturating_sub(20) <= n.max(1 << 11)
+    n <= capacity && (stored / 2).saturating_sub(28) <= n.max(1 << 11)
 }
 
 impl IoBufMut {
@@ -249,17 +249,15 @@ impl IoBufMut {
         }
     }
 
-    // Acts as `with_capacity`, with the shell of `spent` if storage is allocated.
-    fn with_capacity_from(
-        alloc: Global,
-        n: usize,
-        spent: &mut IoBufMut,
-    ) -> Result<IoBufMut, BufError>
-        ensures ok { IfOk result (λ b. b ≡ empty_part n) }
-        ensures bad_layout { IsTrue (bad_layout n 1) → result ≡ Err BufError.BadLayout }
-        ensures good_layout { bad_layout n 1 ≡ false → IsOkUnless result BufError.Memory }
+    /// Makes the capacity at least `n` (own, for layers). The bytes stay where they are if there is room, and the storage
+    /// has at most about 4 KiB or about twice `n`. Otherwise they are copied into new storage. Fails as `with_capacity`.
+    #[tactic(auto, using(crate::proofs::LayoutLaws::bad_layout_one))]
+    pub fn grown(mut self, alloc: Global, n: usize) -> Result<IoBufMut, BufError>
+        requires { length self.filled ≤ n }
+        ensures ok { IfOk result (λ b. (b.filled ≡ self.filled) × (n ≤ part_capacity b)) }
+        ensures bad_layout { 2 ^ 63 ≤ n → result ≡ Err BufError.BadLayout }
+        ensures good_layout { n < 2 ^ 63 → IsOkUnless result BufError.Memory }
         ensures nothing { n ≡ 0 → IsOk result }
-        ensures same { spent.new ≡ spent.old }
     {
         if n == 0 {
             return Ok(IoBufMut::default(alloc));
@@ -267,49 +265,21 @@ impl IoBufMut {
         if is_bad_layout(n, 1) {
             return Err(BufError::BadLayout);
         }
-        let spent = mem::replace(&mut spent.shell, Shell::none());
-        let (space, shell) = Space::new(alloc, n, spent)?;
-        Ok(IoBufMut::from_space(space, 0, shell))
+        if suits(n, self.capacity(), self.space.allocated()) {
+            return Ok(self);
+        }
+        let shell = mem::replace(&mut self.shell, Shell::none());
+        let (space, shell) = Space::new(alloc, n, shell)?;
+        let mut whole = IoBufMut::from_space(space, 0, shell);
+        whole.put_share(self.as_ref());
+        Ok(whole)
     }
 
-    /// Returns the bytes of three buffers in one, without spare capacity (own, for layers). The second and third are
-    /// copied after the first if its capacity takes all bytes, and its storage has at most about 4 KiB or about twice
-    /// the bytes. Otherwise all are copied into new storage. Fails as `with_capacity`.
-    #[tactic(auto, using(crate::proofs::LayoutLaws::bad_layout_one))]
-    pub fn coalesced(
-        alloc: Global,
-        first: &mut IoBufMut,
-        second: &mut IoBufMut,
-        third: &IoBufMut,
-    ) -> Result<IoBufMut, BufError>
-        requires { length first.old.filled + length second.old.filled + length third.now.filled < 2 ^ 64 }
-        ensures ok { IfOk result (λ b. b ≡ record
-            { filled = first.old.filled ++ second.old.filled ++ third.now.filled; spare = 0 }) }
-        ensures bad_layout { 2 ^ 63 ≤ length first.old.filled + length second.old.filled + length third.now.filled
-            → result ≡ Err BufError.BadLayout }
-        ensures good_layout { length first.old.filled + length second.old.filled + length third.now.filled < 2 ^ 63
-            → IsOkUnless result BufError.Memory }
-        ensures nothing { length first.old.filled + length second.old.filled + length third.now.filled ≡ 0
-            → IsOk result }
-        ensures unchanged { OnErr result (first.new ≡ first.old) }
-        ensures capacity { part_capacity first.new ≤ part_capacity first.old }
-        ensures same { second.new ≡ second.old }
+    /// Makes the spare capacity 0 (own, for layers).
+    pub fn close(&mut self)
+        ensures { self.new ≡ record { filled = self.old.filled; spare = 0 } }
     {
-        let len = first.len() + second.len() + third.len();
-        if len <= isize::MAX as usize && suits(len, first.capacity(), first.space.allocated()) {
-            let mut whole = mem::replace(first, IoBufMut::default(alloc));
-            whole.put_slice(second.as_ref());
-            whole.put_slice(third.as_ref());
-            whole.space.close();
-            return Ok(whole);
-        }
-        let mut whole = IoBufMut::with_capacity_from(alloc, len, second)?;
-        whole.put_slice(first.as_ref());
-        whole.put_slice(second.as_ref());
-        if !third.is_empty() {
-            whole.put_slice(third.as_ref());
-        }
-        Ok(whole)
+        self.space.close();
     }
 
     pub(super) fn from_space(space: Space, start: usize, shell: Shell) -> IoBufMut

@@ -11,19 +11,17 @@ impl IoBufsMut {
     fn next(&mut self) -> Option<&mut IoBufMut> {
         match &mut self.shape {
             Shape::One(part) => Some(part).filter(|part| part.remaining_mut() > 0),
-            Shape::Few(parts) => parts.next(),
             Shape::Many(parts) => parts.next(),
         }
     }
 
     /// Returns the readable bytes of each buffer that has some, in order.
     pub(crate) fn filled(&mut self) -> impl Iterator<Item = &mut [u8]> {
-        let (one, few, many) = match &mut self.shape {
-            Shape::One(part) => (Some(part), None, None),
-            Shape::Few(parts) => (None, Some(parts.each()), None),
-            Shape::Many(parts) => (None, None, Some(parts.each())),
+        let (one, many) = match &mut self.shape {
+            Shape::One(part) => (Some(part), None),
+            Shape::Many(parts) => (None, Some(parts.each())),
         };
-        let parts = one.into_iter().chain(few.into_iter().flatten()).chain(many.into_iter().flatten());
+        let parts = one.into_iter().chain(many.into_iter().flatten());
         parts.map(IoBufMut::as_mut).filter(|bytes| !bytes.is_empty())
     }
 

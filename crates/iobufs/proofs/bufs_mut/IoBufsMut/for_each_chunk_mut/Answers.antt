@@ -2,10 +2,9 @@ use Rattle.std.proofs.Common.{List, subst, ℕ, sym, ap, [], ◌∷◌, ◌∙�
 use Rattle.std.specs.Fn.{CalledAtMut}
 use Rattle.iobufs_core.specs.Part.{Part}
 use Rattle.iobufs.specs.Visiting.{IsVisited}
-use Rattle.iobufs.proofs.Text.{kept_parts, shape_parts, the_view}
-use Rattle.iobufs.proofs.Parts.{visited-kept}
+use Rattle.iobufs.proofs.Text.{shape_parts, the_view}
 use Rattle.iobufs.proofs.bufs_mut.IoBufsMut.for_each_chunk_mut.Goals as goal
-use Rattle.iobufs.proofs.bufs_mut.IoBufsMut.for_each_chunk_mut.Goals.{in-One, in-Few, in-Many}
+use Rattle.iobufs.proofs.bufs_mut.IoBufsMut.for_each_chunk_mut.Goals.{in-One, in-Many}
 
 pub returns : goal.returns
 returns g c =
@@ -20,16 +19,9 @@ returns g c =
         turn (w.in-One.part ∷ []) (w.visit_part.new.part ∷ []) w.visit_part.result
             (ap shape_parts (sym w.in-One.is) ∙ c.self.view_is) (ap the_view w.self-inside-is) w.visit_part.ensures.visited,
       )
-      | in-Few w ↦ (
-        w.for_each_chunk_mut.ensures.0,
-        turn (kept_parts w.in-Few.parts) (kept_parts w.for_each_chunk_mut.new.self) w.for_each_chunk_mut.ensures.0
-            (ap shape_parts (sym w.in-Few.is) ∙ c.self.view_is) (ap the_view w.self-inside-is)
-            (visited-kept call c.args.visit w.for_each_chunk_mut.ensures.0 w.in-Few.parts w.for_each_chunk_mut.new.self
-            w.for_each_chunk_mut.ensures.1),
-      )
       | in-Many w ↦ (
-        w.for_each_chunk_mut-in-Many.ensures.0,
-        turn w.in-Many.parts w.for_each_chunk_mut-in-Many.new.self w.for_each_chunk_mut-in-Many.ensures.0
-            (ap shape_parts (sym w.in-Many.is) ∙ c.self.view_is) (ap the_view w.self-inside-is) w.for_each_chunk_mut-in-Many.ensures.1,
+        w.for_each_chunk_mut.ensures.0,
+        turn w.in-Many.parts w.for_each_chunk_mut.new.self w.for_each_chunk_mut.ensures.0
+            (ap shape_parts (sym w.in-Many.is) ∙ c.self.view_is) (ap the_view w.self-inside-is) w.for_each_chunk_mut.ensures.1,
       )
     ]

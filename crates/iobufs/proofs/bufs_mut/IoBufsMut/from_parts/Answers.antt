@@ -1,4 +1,4 @@
-use Rattle.iobufs.proofs.Text.{IsRowRefusedAt, List, Part, [], ap, arith, by_lt, err_from_is_err_and, false≢true, kept_parts, length, part_capacity, parts_capacity, refl, run_to_end, run_to_item, subst, sum_by_push, sym, ◌++◌, ◌∙◌, ◌∷◌, ◌≤◌}
+use Rattle.iobufs.proofs.Text.{IsRowRefusedAt, List, Part, [], ap, arith, by_lt, err_from_is_err_and, false≢true, kept_parts, length, part_capacity, parts_capacity, refl, run_to_end, run_to_item, shape_parts, subst, sum_by_push, sym, ◌++◌, ◌∙◌, ◌<◌, ◌∷◌}
 use Rattle.iobufs.proofs.Parts.{able-some, capacity-kept, kept-more, refused-long, refused-short}
 use Rattle.iobufs.proofs.bufs_mut.IoBufsMut.from_parts.Goals as goal
 
@@ -27,17 +27,18 @@ pub returns-in_err-shape-clause-err : goal.returns-in_err-shape-clause-err
 returns-in_err-shape-clause-err g c =
     let l = c.loop-part in
     let part = c.in-Some.part in
-    let count = ap (λ (ps : List Part). length ps) l.invariant.kept in
-    let three : 3 ≤ length (kept_parts l.yielded) =
-    by_lt (length (kept_parts l.yielded)) 3 (λ less. absurd (false≢true (c.in_err-shape.ensures.few (omega (arith, count, less)))))
-    (λ more. more) in
-    let some = able-some l.yielded (omega (arith, three)) in
+    let kept = l.invariant.kept in
+    let some : 0 < parts_capacity l.yielded =
+    by_lt 0 (parts_capacity l.yielded) (λ more. more) (λ none.
+    by_lt (length (shape_parts l.shape)) 2
+    (λ one. absurd (false≢true (c.in_err-shape.ensures.first one (ap parts_capacity kept ∙ capacity-kept l.yielded ∙ omega arith))))
+    (λ two. (able-some l.yielded (omega (arith, ap (λ (ps : List Part). length ps) kept, two))).1)) in
     let (error, told, cause) = err_from_is_err_and c.from_residual.result c.from_residual.ensures.1 in
     rw (told, cause) (
       run_to_item g.I.Iterator.next_gives _ l.yielded l.yielded_by part c.in-Some.ensures.steps,
       refl,
       subst (IsRowRefusedAt (l.yielded ++ part ∷ [])) (sym c.in_err-shape.ensures.memory)
-          (refused-short l.yielded part some.1 (omega arith) (omega arith) (omega (arith, some.0, three))),
+          (refused-short l.yielded part some (omega arith) (omega arith)),
     )
 
 pub loop-part-preserved-then-capacity-gt0 : goal.loop-part-preserved-then-capacity-gt0

@@ -1,5 +1,5 @@
-use Rattle.iobufs.proofs.Text.{HaveNoSpare, IsParts, ap, arith, in_order, length, length-replicate, parts_fill, parts_spare, replicate, subst, sym, ◌∙◌, ◌≡◌}
-use Rattle.iobufs.proofs.Parts.{full-fill, kept-none, parts-fill, spare-summed, summed-fill}
+use Rattle.iobufs.proofs.Text.{HaveNoSpare, ap, arith, in_order, length, length-replicate, parts_fill, parts_spare, replicate, subst, sym, ◌∙◌, ◌≡◌}
+use Rattle.iobufs.proofs.Parts.{full-fill, kept-filled, spare-summed}
 use Rattle.iobufs.proofs.bufs_mut.several.Several.put_bytes.Goals as goal
 
 pub overflow_add-self : goal.overflow_add-self
@@ -17,10 +17,8 @@ invariant_of-self c =
     let s = c.self.inside in
     let w = replicate c.args.n c.args.value in
     let long : length w ≡ c.args.n = length-replicate c.args.n c.args.value in
-    let filled = c.put_bytes.ensures ∙ ap (λ ps. parts_fill ps w) c.settle.ensures.ordered in
-    let sums = summed-fill (in_order s.row.items s.used) _ w s.len s.capacity c.self.invariant.sums
-    (omega (arith, ap parts_spare c.self.view_is, c.requires)) filled in
-    let full = subst (λ ps. HaveNoSpare c.count_full-self-inside.result ps) (sym c.put_bytes.ensures)
-    (full-fill _ _ w c.count_full-self-inside.ensures) in
-    kept-none _ _ _ _ s.capacity c.settle.ensures.none full (rw (← long) sums)
-    (subst IsParts (sym filled) (parts-fill (in_order s.row.items s.used) w c.self.invariant.parts))
+    let ordered = c.settle.ensures.ordered in
+    let full = c.count_full-self-inside in
+    rw (← long) (kept-filled s.row.items _ s.used _ s.full full.result s.len s.capacity w c.self.invariant c.settle.ensures.none
+    (c.put_bytes.ensures ∙ ap (λ ps. parts_fill ps w) ordered) (subst (λ ps. HaveNoSpare full.result ps) (sym c.put_bytes.ensures) (full-fill full.result _ w full.ensures))
+    (omega (arith, ap parts_spare c.self.view_is, c.requires)))
