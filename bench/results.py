@@ -123,6 +123,16 @@ def slowest(table, rows):
     return ", ".join(f"`{it.name}` {ratio(it):.2f}" for it in sorted(both, key=ratio)[:-4:-1])
 
 
+BESIDE = re.compile(r"beside_here_(\w+)")  # A call that `bytes` has too: beside_here_split_to, and beside_bytes_split_to
+
+
+def beside(rows):
+    """The calls that `bytes` has too, each with the instructions of ours over those of `bytes`."""
+    spent = {it.name: it.instructions()[1] for it in rows if it.name.startswith("beside_")}
+    for name in (it[1] for it in map(BESIDE.fullmatch, spent) if it):
+        yield name.replace("_", " "), spent[f"beside_here_{name}"] / spent[f"beside_bytes_{name}"]
+
+
 # ---- the page
 
 
@@ -231,5 +241,7 @@ def page():
     yield from ("", "## The machine, by lines", "", "Least of five runs.", "")
     yield from table(["lines", "ns a line with few", "with many", "ratio"], few)
     yield from ("", "## The Rust crate", "", *summary("rust", rows), "", PROFILES, "", *compared("rust", rows))
+    columns = ["call, also of `bytes`", "instructions, over those of `bytes`"]
+    yield from ("", "## Beside bytes", "", *table(columns, ([name, number(it)] for name, it in beside(rows))))
     yield from chunks(of("chunks"))
     yield "<!-- end -->"

@@ -301,16 +301,47 @@ def differences():
 
 
 def speed():
-    """The means of bench/results.csv, and its slowest workloads."""
+    """The means of bench/results.csv, its slowest workloads, and the calls that `bytes` has too."""
     rows = results.read()[1]
-    yield "||workloads|instructions|above 1|time|above 1|\n|---|--:|--:|--:|--:|--:|"
-    for table, build in results.BUILDS.items():
-        for said, some in results.sets_of(table, rows):
-            of = results.means(some)
-            time = f"{of.time:.2f} ({min(of.rounds):.2f} to {max(of.rounds):.2f})"
-            yield f"|{build}, {said}|{of.count}|{of.instructions:.2f}|{of.more}|{time}|{of.slower}|"
-    slow = [f"in {build} {results.slowest(table, rows)}" for table, build in results.BUILDS.items()]
-    yield f"\nThe slowest by time: {'; '.join(slow)}."
+    for table, build in reversed(results.BUILDS.items()):
+        sets = {said: results.means(some) for said, some in results.sets_of(table, rows)}
+        same, everyday = sets["with the same steps"], sets["everyday calls"]
+        yield (
+            f"In {build} {same.time:.2f} of the original's time and {same.instructions:.2f} of its instructions, over"
+            f" {same.count} workloads with the same steps; everyday calls {everyday.time:.2f} and"
+            f" {everyday.instructions:.2f}; the slowest by time {results.slowest(table, rows)}."
+        )
+    beside = ", ".join(f"{name} {ratio:.2f}" for name, ratio in results.beside(rows))
+    yield f"The Rust crate beside `bytes`, by instructions: {beside}."
+    yield "[All figures](bench/RESULTS.md), [causes](bench/README.md#causes)."
+
+
+GATE = (ROOT / "docs/GATE.md").read_text()
+UNSEEN = re.compile(r"^## A bug that no test sees\n\n(.*?)(?=\n## )", re.M | re.S)  # A part of docs/GATE.md
+
+
+def of_gate(what):
+    """What a row of docs/GATE.md says."""
+    found = re.search(rf"^\|{re.escape(what)}\|(.*)\|$", GATE, re.M)
+    return found[1] if found else "no number of"
+
+
+def believe():
+    """How much a reader has to believe of one contract, and what the last recorded gate proved."""
+    number, lines = next((number, lines) for name, number, lines in contracts() if name == "`IoBufs::split_to`")
+    yield (
+        f"To believe `IoBufs::split_to`, read {number} definitions of {lines} lines, which `tests/trusted"
+        " iobufs/src/bufs.rt split_to` lists by Python alone. The [last recorded gate](docs/GATE.md) proved"
+        f" {of_gate('functions proved, without those of tests')} functions, and left"
+        f" {of_gate('goals left open')} goals open. Of mutants it tried, and the prover refused:"
+        f" {of_gate('mutants tried, and refused by the prover')}."
+    )
+
+
+def unseen():
+    """The bug that no test sees, as the last recorded gate met it."""
+    found = UNSEEN.search(GATE)
+    yield found[1].strip() if found else "The next recorded gate shows it."
 
 
 def faults_of_results():
@@ -391,6 +422,7 @@ def trusted():
 PARTS = {
     "trusted": trusted, "api": api, "own calls": own, "matrix": matrix, "crates": crates, "graph": graph,
     "promises": promises, "by hand": by_hand, "differences": differences, "speed": speed, "slowest": slowest,
+    "believe": believe, "unseen bug": unseen,
 }
 
 

@@ -17,6 +17,7 @@ CLAUSE = re.compile(r"^ *(?=(?:ensures|requires)\b)", re.M)  # What comes before
 # The contracts whose definitions docs/ASSURANCE.md counts: the name there, the source, the function, and the clauses
 # that aren't counted.
 CONTRACTS = [
+    ("`IoBufs::split_to`", "iobufs/src/bufs.rt", "split_to", ()),
     ("`Table::run`", "iobufs_run/src/table.rt", "run", ()),
     ("`Machine::run`, the promises", "iobufs_owner/src/owner.rt", "run", ("moves",)),
     ("`Machine::run`, with the step tables", "iobufs_owner/src/owner.rt", "run", ()),

@@ -10,6 +10,8 @@ use std::hint::black_box;
 use std::time::Instant;
 use std::{env, io};
 
+#[path = "bench/beside.rs"]
+mod beside;
 #[path = "bench/everyday.rs"]
 mod everyday;
 
@@ -452,6 +454,7 @@ fn workloads() -> Vec<Workload> {
         add(format!("{name}_take"), Box::new(move || decoded(number, len, piece, take_frames)));
     }
     everyday::all(&mut add);
+    beside::all(&mut add);
     add("text1_coalesce".into(), Box::new(|| coalesced(1)));
     for n in [1, 2, 8] {
         add(format!("text{n}_queue_split"), Box::new(move || queue(n, |text| mark(text.split_to(256).chunk()))));
