@@ -156,10 +156,6 @@ impl Held {
     pub(super) fn as_slice(&self) -> &[u8]
         ensures { result.now ≡ self.now.bytes }
     {
-        // Native storage is tested first.
-        if let Storage::Native(native) = &self.storage {
-            return native.as_slice();
-        }
         match &self.storage {
             Storage::Static(text) => text,
             Storage::Shared(bytes) => bytes.as_slice(),
@@ -193,11 +189,6 @@ impl Held {
         requires { n ≤ length self.old.bytes }
         ensures { self.new ≡ view_advanced self.old n }
     {
-        // As in `as_slice`.
-        if let Storage::Native(native) = &mut self.storage {
-            native.advance(n);
-            return;
-        }
         match &mut self.storage {
             Storage::Static(text) => *text = &text[n..],
             Storage::Shared(bytes) => bytes.advance(n),
@@ -245,10 +236,6 @@ impl Held {
         ensures unchanged { OnErr result (self.new ≡ self.old) }
         ensures static_text { self.old.mark ≡ static_mark → IsOk result }
     {
-        // As in `as_slice`.
-        if let Storage::Native(native) = &mut self.storage {
-            return Ok(Held::of_native(native.split_to(n)?));
-        }
         let storage = match &mut self.storage {
             Storage::Native(native) => Storage::Native(native.split_to(n)?),
             Storage::Static(text) => {

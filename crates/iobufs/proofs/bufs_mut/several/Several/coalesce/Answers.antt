@@ -7,7 +7,8 @@ filled-first : (row rest : List Part) (first : Part) (used len : ℕ) → row �
     → len ≡ length (parts_filled (in_order row used))
     → (first.filled ++ parts_filled rest ≡ parts_filled (in_order row used)) × (len ≡ length first.filled + length (parts_filled rest))
 filled-first row rest first used len is behind sum =
-    let bytes : first.filled ++ parts_filled rest ≡ parts_filled (in_order row used) = ap parts_filled (sym is) ∙ filled-order row used behind in
+    let bytes : first.filled ++ parts_filled rest ≡ parts_filled (in_order row used) =
+    ap parts_filled (sym is) ∙ filled-order row used behind in
     (bytes, omega (arith, sum, ap length bytes, length-append first.filled (parts_filled rest)))
 
 pub grown-requires : goal.grown-requires

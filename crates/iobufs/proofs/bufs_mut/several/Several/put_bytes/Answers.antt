@@ -20,5 +20,6 @@ invariant_of-self c =
     let ordered = c.settle.ensures.ordered in
     let full = c.count_full-self-inside in
     rw (← long) (kept-filled s.row.items _ s.used _ s.full full.result s.len s.capacity w c.self.invariant c.settle.ensures.none
-    (c.put_bytes.ensures ∙ ap (λ ps. parts_fill ps w) ordered) (subst (λ ps. HaveNoSpare full.result ps) (sym c.put_bytes.ensures) (full-fill full.result _ w full.ensures))
+    (c.put_bytes.ensures ∙ ap (λ ps. parts_fill ps w) ordered)
+    (subst (λ ps. HaveNoSpare full.result ps) (sym c.put_bytes.ensures) (full-fill full.result _ w full.ensures))
     (omega (arith, ap parts_spare c.self.view_is, c.requires)))
