@@ -9,7 +9,7 @@
 //! | [`IoBuf`], [`Bytes`], `String` | their length, then their bytes | a [`RangeCfg`] |
 //! | `Option<T>` | a `bool`, then the value if there is one | that of `T` |
 //! | `Vec<T>` | the number of items as a length, then each item | a [`RangeCfg`], and that of `T` |
-//! | a tuple of two to six | each field | a tuple of theirs |
+//! | a tuple of two to six | each value | a tuple of theirs |
 //!
 //! A view that is read shares the buffer's storage, if it is in one chunk. **A value is read whole: if that fails, the
 //! buffer is unchanged.**
@@ -568,10 +568,9 @@ macro_rules! by_parts {
     };
 }
 
-/// Makes a struct of one to six named fields, without type parameters, a value, field by field. A field's requirement
-/// is after its `=`: a range of lengths, or for a `Vec<u16>` such as `((..=8).into(), ())`. A field without one
-/// requires `()`. For more fields, write a [`ByParts`](crate::codec::ByParts) whose `Parts` has tuples in a tuple, as
-/// `((u8, u16, u32), String)`.
+/// Makes a struct of named fields, without type parameters, a value, field by field. A field's requirement is after its
+/// `=`: a range of lengths, or for a `Vec<u16>` such as `((..=8).into(), ())`. A field without one requires `()`. The
+/// [`Parts`](crate::codec::ByParts::Parts) of three fields and more are pairs in pairs, as `(u8, (u16, u32))`.
 ///
 /// ```
 /// use iobufs::codec::{Decode, Encode};
@@ -593,23 +592,22 @@ macro_rules! by_parts {
 #[macro_export]
 macro_rules! fields {
     ($name:ident { $($field:ident: $type:ty $(= $cfg:expr)?),+ $(,)? }) => {
-        #[allow(unused_parens)]
         impl $crate::codec::ByParts for $name {
-            type Parts = ($($type),+);
+            type Parts = $crate::pairs!($([$type])+);
             type Cfg = ();
 
             fn cfg(_: &()) -> <Self::Parts as $crate::codec::proved::Look>::Cfg {
-                ($($crate::required!($type $(, $cfg)?)),+)
+                $crate::pairs!($([$crate::required!($type $(, $cfg)?)])+)
             }
 
             #[inline]
-            fn from_parts(($($field),+): Self::Parts) -> Result<Self, $crate::Error> {
+            fn from_parts($crate::pairs!($([$field])+): Self::Parts) -> Result<Self, $crate::Error> {
                 Ok($name { $($field),+ })
             }
 
             #[inline]
             fn parts(&self) -> impl $crate::codec::Written {
-                ($(&self.$field),+)
+                $crate::pairs!($([&self.$field])+)
             }
         }
 
@@ -617,7 +615,7 @@ macro_rules! fields {
     };
 }
 
-/// Makes an enum a value: a byte that says which variant it is, and then the variant's fields, up to six.
+/// Makes an enum a value: a byte that says which variant it is, and then the variant's fields.
 ///
 /// ```
 /// use iobufs::codec::{Decode, Encode};
@@ -637,23 +635,23 @@ macro_rules! fields {
 #[macro_export]
 macro_rules! kinds {
     ($name:ident { $($tag:literal => $kind:ident $(($($field:ident: $type:ty $(= $cfg:expr)?),+))?),+ $(,)? }) => {
-        #[allow(unused_parens, unreachable_patterns)]
+        #[allow(unreachable_patterns)]
         impl $crate::codec::ByParts for $name {
-            type Parts = $crate::kinds!(@type $([$tag ($($($type),+)?)])+);
+            type Parts = $crate::kinds!(@type $([$tag $crate::pairs!($($([$type])+)?)])+);
             type Cfg = ();
 
             fn cfg(_: &()) -> <Self::Parts as $crate::codec::proved::Look>::Cfg {
-                $crate::kinds!(@cfg $([($($($crate::required!($type $(, $cfg)?)),+)?)])+)
+                $crate::kinds!(@cfg $([$crate::pairs!($($([$crate::required!($type $(, $cfg)?)])+)?)])+)
             }
 
             #[inline]
             fn from_parts(parts: Self::Parts) -> Result<Self, $crate::Error> {
-                Ok($crate::kinds!(@from parts $([($($($field),+)?) ($name::$kind $(($($field),+))?)])+))
+                Ok($crate::kinds!(@from parts $([[$($([$field])+)?] ($name::$kind $(($($field),+))?)])+))
             }
 
             #[inline]
             fn parts(&self) -> impl $crate::codec::Written {
-                $crate::kinds!(@to self $([$tag ($($($field),+)?) ($name::$kind $(($($field),+))?)])+)
+                $crate::kinds!(@to self, $([$tag [$($([$field])+)?] ($name::$kind $(($($field),+))?)])+)
             }
         }
 
@@ -665,29 +663,39 @@ macro_rules! kinds {
     };
     (@cfg [$cfg:expr]) => { $cfg };
     (@cfg [$cfg:expr] $($rest:tt)+) => { ($cfg, $crate::kinds!(@cfg $($rest)+)) };
-    (@from $parts:ident [$fields:tt ($($made:tt)+)]) => {{
-        let $crate::codec::Kind { value: $fields } = $parts;
+    (@from $parts:ident [[$($fields:tt)*] ($($made:tt)+)]) => {{
+        let $crate::codec::Kind { value: $crate::pairs!($($fields)*) } = $parts;
         $($made)+
     }};
-    (@from $parts:ident [$fields:tt ($($made:tt)+)] $($rest:tt)+) => {
+    (@from $parts:ident [[$($fields:tt)*] ($($made:tt)+)] $($rest:tt)+) => {
         match $parts {
-            $crate::codec::Either::First($crate::codec::Kind { value: $fields }) => $($made)+,
+            $crate::codec::Either::First($crate::codec::Kind { value: $crate::pairs!($($fields)*) }) => $($made)+,
             $crate::codec::Either::Second(rest) => $crate::kinds!(@from rest $($rest)+),
         }
     };
-    (@to $value:expr, [$tag:literal $fields:tt ($($made:tt)+)]) => {
+    (@to $value:expr, [$tag:literal [$($fields:tt)*] ($($made:tt)+)]) => {
         match $value {
-            $($made)+ => $crate::codec::Kind::<$tag, _> { value: $fields },
+            $($made)+ => $crate::codec::Kind::<$tag, _> { value: $crate::pairs!($($fields)*) },
             _ => unreachable!(),
         }
     };
-    (@to $value:ident $($rest:tt)+) => { $crate::kinds!(@to ($value), $($rest)+) };
-    (@to $value:expr, [$tag:literal $fields:tt ($($made:tt)+)] $($rest:tt)+) => {
+    (@to $value:expr, [$tag:literal [$($fields:tt)*] ($($made:tt)+)] $($rest:tt)+) => {
         match $value {
-            $($made)+ => $crate::codec::Either::First($crate::codec::Kind::<$tag, _> { value: $fields }),
-            rest => $crate::codec::Either::Second($crate::kinds!(@to (rest), $($rest)+)),
+            $($made)+ => {
+                $crate::codec::Either::First($crate::codec::Kind::<$tag, _> { value: $crate::pairs!($($fields)*) })
+            }
+            rest => $crate::codec::Either::Second($crate::kinds!(@to rest, $($rest)+)),
         }
     };
+}
+
+/// Pairs in pairs: of types, patterns or values, each in brackets.
+#[doc(hidden)]
+#[macro_export]
+macro_rules! pairs {
+    () => { () };
+    ([$($last:tt)+]) => { $($last)+ };
+    ([$($first:tt)+] $($rest:tt)+) => { ($($first)+, $crate::pairs!($($rest)+)) };
 }
 
 /// What is required of a field.
@@ -700,6 +708,62 @@ macro_rules! required {
     ($type:ty, $cfg:expr) => {
         <$type as $crate::codec::Decode>::Cfg::from($cfg)
     };
+}
+
+/// Tuples of three values and more, as pairs in pairs.
+macro_rules! tuples {
+    ($([$($of:ident $at:tt)+])*) => {$(
+        impl<$($of: core::EncodeSize),+> core::EncodeSize for ($($of),+) {
+            #[inline]
+            fn encode_size(&self) -> Option<usize> {
+                core::EncodeSize::encode_size(&pairs!($([&self.$at])+))
+            }
+
+            #[inline]
+            fn encode_inline_size(&self) -> usize {
+                core::EncodeSize::encode_inline_size(&pairs!($([&self.$at])+))
+            }
+        }
+
+        impl<$($of: core::Write),+> core::Write for ($($of),+) {
+            #[inline]
+            fn write<Z: core::BufMut>(&self, buf: &mut Z) {
+                core::Write::write(&pairs!($([&self.$at])+), buf)
+            }
+
+            #[inline]
+            fn write_bufs<Z: core::BufsMut>(&self, buf: &mut Z) -> Result<(), core::Error> {
+                core::Write::write_bufs(&pairs!($([&self.$at])+), buf)
+            }
+        }
+
+        #[allow(non_snake_case)]
+        impl<$($of: values::Look),+> values::Look for ($($of),+) {
+            type Cfg = ($($of::Cfg),+);
+
+            #[inline]
+            fn look<Z: core::Peek>(
+                alloc: Global,
+                buf: &Z,
+                skip: usize,
+                cfg: &Self::Cfg,
+            ) -> Result<(Self, usize), values::Fault> {
+                let end = skip;
+                $(
+                    let ($of, len) = $of::look(alloc, buf, end, &cfg.$at)?;
+                    let end = end + len;
+                )+
+                Ok((($($of),+), end - skip))
+            }
+        }
+    )*};
+}
+
+tuples! {
+    [A 0 B 1 C 2]
+    [A 0 B 1 C 2 D 3]
+    [A 0 B 1 C 2 D 3 E 4]
+    [A 0 B 1 C 2 D 3 E 4 F 5]
 }
 
 /// Values that are written and read as others.

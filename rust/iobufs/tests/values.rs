@@ -103,6 +103,37 @@ fn values_of_each_type() {
     assert_value(&(300usize, [1u8, 2], true), &(RangeCfg::exact(300), (), ()), b"\xac\x02\x01\x02\x01");
 }
 
+// The bytes of a tuple are those of pairs in pairs.
+#[test]
+fn tuples() {
+    let cfg = (Limit(3), (), (), RangeCfg::exact(300), (), ());
+    let bytes = b"\x02ab\x01\x01\x07\xac\x02\x05\x06\xff\xfe";
+    let few = (Few("ab".into()), true, Some(7u8));
+    assert_value(&few, &(Limit(3), (), ()), &bytes[..6]);
+    assert_value(&((few.0, few.1), few.2), &((Limit(3), ()), ()), &bytes[..6]);
+    assert_value(&(true, Some(7u8), 300usize, [5u8, 6]), &((), (), RangeCfg::exact(300), ()), &bytes[3..10]);
+    let five = (true, Some(7u8), 300usize, [5u8, 6], -2i16);
+    assert_value(&five, &((), (), RangeCfg::exact(300), (), ()), &bytes[3..]);
+    assert_value(&(Few("ab".into()), five.0, five.1, five.2, five.3, five.4), &cfg, bytes);
+    type Six = (Few, bool, Option<u8>, usize, [u8; 2], i16);
+    assert_refused::<Six>(b"\x04abcd", &cfg, &Error::InvalidLength(4));
+    assert_refused::<Six>(b"\x02ab\x02", &cfg, &Error::InvalidBool);
+    assert_refused::<Six>(b"\x02ab\x01\x02", &cfg, &Error::InvalidBool);
+    assert_refused::<Six>(b"\x02ab\x01\0\xad\x02", &cfg, &Error::InvalidLength(301));
+}
+
+// More fields than a tuple may have.
+#[test]
+fn many_fields() {
+    let wide = Wide { a: 1, b: 0x0203, c: "cd".into(), d: 4, e: true, f: 5, g: None, h: 6 };
+    let bytes = b"\x01\x02\x03\x02cd\x04\x01\0\0\0\x05\0\x06";
+    assert_value(&wide, &(), bytes);
+    assert_eq!((wide.encode_inline_size(), wide.encode_iobufs().chunk_count()), (12, 3));
+    assert_refused::<Wide>(b"\x01\x02\x03\x03cde", &(), &Error::InvalidLength(3));
+    assert_value(&Many::Seven(1, 2, 3, 4, 5, 6, "7".into()), &(), b"\0\x01\x02\x03\x04\x05\x06\x017");
+    assert_value(&Many::None, &(), b"\x01");
+}
+
 #[test]
 fn bytes_that_are_no_value() {
     let reason = Error::Invalid("String", "not UTF-8");
@@ -139,6 +170,53 @@ enum Event {
 iobufs::kinds! {
     Event { 1 => Put(key: u32, body: IoBuf = ..=3), 2 => Shift(by: i16, is_up: Option<bool>, mark: [u8; 2]), 9 => Flush }
 }
+
+#[derive(Debug, PartialEq)]
+struct Wide {
+    a: u8,
+    b: u16,
+    c: IoBuf,
+    d: u8,
+    e: bool,
+    f: u32,
+    g: Option<u8>,
+    h: i8,
+}
+
+iobufs::fields! { Wide { a: u8, b: u16, c: IoBuf = ..=2, d: u8, e: bool, f: u32, g: Option<u8>, h: i8 } }
+
+#[derive(Debug, PartialEq)]
+enum Many {
+    Seven(u8, u8, u8, u8, u8, u8, String),
+    None,
+}
+
+iobufs::kinds! { Many { 0 => Seven(a: u8, b: u8, c: u8, d: u8, e: u8, f: u8, g: String = ..=1), 1 => None } }
+
+/// A text of at most so many bytes, by a requirement that can't be cloned.
+#[derive(Debug, PartialEq)]
+struct Few(String);
+
+struct Limit(usize);
+
+impl ByParts for Few {
+    type Parts = String;
+    type Cfg = Limit;
+
+    fn cfg(limit: &Limit) -> RangeCfg {
+        (..=limit.0).into()
+    }
+
+    fn from_parts(text: String) -> Result<Self, Error> {
+        Ok(Few(text))
+    }
+
+    fn parts(&self) -> impl Written {
+        &self.0
+    }
+}
+
+iobufs::by_parts! { Few }
 
 #[derive(Debug, PartialEq)]
 struct Even(u16);
