@@ -171,7 +171,7 @@ fn an_option_is_read(rt: HostRuntime) {
     is_read_whole(&rt, &[b"\x01\x04w", b"xyz!"], &RANGE, &value, &[b"!"]);
 }
 
-// Six values, each across two chunks. A tuple makes each of its values once.
+// Six values, each across two chunks. Pairs in pairs make each of their values once.
 const SIX: [&'static [u8]; 13] = [
     b"\x04w", b"xyz", b"\x04w", b"xyz", b"\x04w", b"xyz", b"\x04w", b"xyz", b"\x04w", b"xyz",
     b"\x04w", b"xyz", b"!",
@@ -189,23 +189,29 @@ fn two_values_are_read(rt: HostRuntime) {
 
 #[test]
 fn three_values_are_read(rt: HostRuntime) {
-    let value = (wxyz(), wxyz(), wxyz());
-    is_read_whole(&rt, &SIX, &(RANGE, RANGE, RANGE), &value, &SIX[6..]);
+    let value = (wxyz(), (wxyz(), wxyz()));
+    is_read_whole(&rt, &SIX, &(RANGE, (RANGE, RANGE)), &value, &SIX[6..]);
 }
 
 #[test]
 fn four_values_are_read(rt: HostRuntime) {
-    let value = (wxyz(), wxyz(), wxyz(), wxyz());
-    is_read_whole(&rt, &SIX, &(RANGE, RANGE, RANGE, RANGE), &value, &SIX[8..]);
+    let value = (wxyz(), (wxyz(), (wxyz(), wxyz())));
+    is_read_whole(
+        &rt,
+        &SIX,
+        &(RANGE, (RANGE, (RANGE, RANGE))),
+        &value,
+        &SIX[8..],
+    );
 }
 
 #[test]
 fn five_values_are_read(rt: HostRuntime) {
-    let value = (wxyz(), wxyz(), wxyz(), wxyz(), wxyz());
+    let value = (wxyz(), (wxyz(), (wxyz(), (wxyz(), wxyz()))));
     is_read_whole(
         &rt,
         &SIX,
-        &(RANGE, RANGE, RANGE, RANGE, RANGE),
+        &(RANGE, (RANGE, (RANGE, (RANGE, RANGE)))),
         &value,
         &SIX[10..],
     );
@@ -213,11 +219,11 @@ fn five_values_are_read(rt: HostRuntime) {
 
 #[test]
 fn six_values_are_read(rt: HostRuntime) {
-    let value = (wxyz(), wxyz(), wxyz(), wxyz(), wxyz(), wxyz());
+    let value = (wxyz(), (wxyz(), (wxyz(), (wxyz(), (wxyz(), wxyz())))));
     is_read_whole(
         &rt,
         &SIX,
-        &(RANGE, RANGE, RANGE, RANGE, RANGE, RANGE),
+        &(RANGE, (RANGE, (RANGE, (RANGE, (RANGE, RANGE))))),
         &value,
         &SIX[12..],
     );

@@ -1,4 +1,4 @@
-// A note of three fields, and a letter that contains a note: each is read as the tuple of its fields.
+// A note of three fields, and a letter that contains a note: each is read as its fields, as pairs in pairs.
 ghost use Rattle.std.specs.Prelude.{◌≡◌, ◌++◌, [], ◌∷◌, IfOk};
 ghost use Rattle.std.specs.Int.{w32, to_be_bytes};
 ghost use Rattle.iobufs_core.specs.Wire.{view_written};
@@ -19,12 +19,12 @@ pub struct Note {
 }
 
 impl ByParts for Note {
-    type Parts = (u32, u8, IoBuf);
+    type Parts = (u32, (u8, IoBuf));
 
-    ghost parts = { λ note. (note.number, note.kind, note.body) };
+    ghost parts = { λ note. (note.number, (note.kind, note.body)) };
 
-    fn from_parts(all: (u32, u8, IoBuf)) -> Note {
-        let (number, kind, body) = all;
+    fn from_parts(all: (u32, (u8, IoBuf))) -> Note {
+        let (number, (kind, body)) = all;
         Note { number, kind, body }
     }
 }
@@ -35,7 +35,7 @@ impl Note {
         ensures { IfOk result (λ text. text.bytes ≡ to_be_bytes w32 self.number
             ++ ((self.kind ∷ []) ++ view_written self.body)) }
     {
-        (self.number, self.kind, self.body).encode_iobufs(alloc)
+        (self.number, (self.kind, self.body)).encode_iobufs(alloc)
     }
 }
 
@@ -48,16 +48,15 @@ pub struct Letter {
 }
 
 impl ByParts for Letter {
-    type Parts = (Signed<i64>, (u32, u8, IoBuf), List<u32>);
+    type Parts = (Signed<i64>, ((u32, (u8, IoBuf)), List<u32>));
 
     ghost parts = { λ letter. (
       record { value = letter.sent },
-      (letter.note.number, letter.note.kind, letter.note.body),
-      record { values = letter.answers },
+      ((letter.note.number, (letter.note.kind, letter.note.body)), record { values = letter.answers }),
     ) };
 
-    fn from_parts(all: (Signed<i64>, (u32, u8, IoBuf), List<u32>)) -> Letter {
-        let (sent, note, answers) = all;
+    fn from_parts(all: (Signed<i64>, ((u32, (u8, IoBuf)), List<u32>))) -> Letter {
+        let (sent, (note, answers)) = all;
         Letter {
             sent: sent.value,
             note: Note::from_parts(note),

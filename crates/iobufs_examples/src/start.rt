@@ -26,13 +26,18 @@ pub struct Entry {
     pub value: IoBuf,
 }
 
+// [docs: entry_parts]
+/// The fields of an entry, as pairs in pairs.
+pub type EntryParts = (u64, (u8, (IoBuf, IoBuf)));
+// [docs end]
+
 impl ByParts for Entry {
-    type Parts = (u64, u8, IoBuf, IoBuf);
+    type Parts = EntryParts;
 
-    ghost parts = { λ entry. (entry.number, entry.flags, entry.key, entry.value) };
+    ghost parts = { λ entry. (entry.number, (entry.flags, (entry.key, entry.value))) };
 
-    fn from_parts(all: (u64, u8, IoBuf, IoBuf)) -> Entry {
-        let (number, flags, key, value) = all;
+    fn from_parts(all: EntryParts) -> Entry {
+        let (number, (flags, (key, value))) = all;
         Entry {
             number,
             flags,
@@ -43,17 +48,18 @@ impl ByParts for Entry {
 }
 
 impl IntoParts for Entry {
-    fn into_parts(self) -> (u64, u8, IoBuf, IoBuf) {
-        (self.number, self.flags, self.key, self.value)
+    fn into_parts(self) -> EntryParts {
+        (self.number, (self.flags, (self.key, self.value)))
     }
 }
 
 /// A configuration a field: keys of up to 255 bytes, and values of up to 64 KiB.
-pub const CFG: ((), (), RangeCfg, RangeCfg) = (
+pub const CFG: ((), ((), (RangeCfg, RangeCfg))) = (
     (),
-    (),
-    RangeCfg { lo: 0, hi: 255 },
-    RangeCfg { lo: 0, hi: 1 << 16 },
+    (
+        (),
+        (RangeCfg { lo: 0, hi: 255 }, RangeCfg { lo: 0, hi: 1 << 16 }),
+    ),
 );
 
 /// Encodes an entry. Its key and value aren't copied.
@@ -70,12 +76,12 @@ pub fn decoded(alloc: Global, body: &IoBuf) -> Result<Entry, Fault>
     ensures bytes { IfOk result (λ entry. body.now.bytes
         ≡ to_be_bytes w64 entry.number
         ++ ((entry.flags ∷ []) ++ (view_written entry.key ++ view_written entry.value))) }
-    ensures back { (entry : Entry) → ⟦<(u64, u8, IoBuf, IoBuf) as Look>⟧.admits CFG
-        (entry.number, entry.flags, entry.key, entry.value)
+    ensures back { (entry : Entry) → ⟦<EntryParts as Look>⟧.admits CFG
+        (entry.number, (entry.flags, (entry.key, entry.value)))
         → body.now.bytes ≡ to_be_bytes w64 entry.number ++
         ((entry.flags ∷ []) ++ (view_written entry.key ++ view_written entry.value))
-        → IsDecodedBack (λ x y. ⟦<(u64, u8, IoBuf, IoBuf) as Look>⟧.same (x.number, x.flags, x.key, x.value)
-        (y.number, y.flags, y.key, y.value)) entry result }
+        → IsDecodedBack (λ x y. ⟦<EntryParts as Look>⟧.same (x.number, (x.flags, (x.key, x.value)))
+        (y.number, (y.flags, (y.key, y.value)))) entry result }
 {
     Entry::decode_cfg(alloc, body, &CFG)
 }

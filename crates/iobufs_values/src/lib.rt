@@ -2,8 +2,8 @@
 //!
 //! - `look`: the trait `Look`, with `read_whole` and `decode_cfg` over it. `fault`: why a value is not decoded.
 //! - `numbers`, `views`, `option`, `several`: numbers and lengths; views, `Bytes` and arrays; `bool` and `Option`;
-//!   tuples. `signed` and `list`: signed numbers, and lists.
-//! - `parts`: types that are read and written as the tuple of their fields.
+//!   pairs. `signed` and `list`: signed numbers, and lists.
+//! - `parts`: types that are read and written as their fields, as pairs in pairs.
 //! - `kinds`: a byte for the kind followed by a value, and a value of one of two kinds.
 //! - `specs/`: `Form` has what a value has to meet, in one record; `Forms`, `Kinds`, `Listed` and `Signed` have proofs
 //!   that each value meets it.

@@ -1,4 +1,4 @@
-// Types that are read and written as the tuple of their fields.
+// Types that are read and written as their fields: a value, a pair, or pairs in pairs.
 ghost use Rattle.std.specs.Prelude.{◌≡◌, ◌⊎◌, ℕ, ◌+◌, ◌^◌, ◌<◌, ◌≤◌, ◌++◌, List, length, Err, IfOk, IfErr, OnErr, IsOk, IsOkUnless};
 ghost use Rattle.iobufs.specs.Building.{building_after, empty_building, finished};
 ghost use Rattle.iobufs_core.specs.Items.{items_inline};
@@ -13,10 +13,10 @@ use iobufs_core::buf::IoBufMut;
 use iobufs_core::codec::{Encode, Error, Peek, Write};
 use std::alloc::Global;
 
-/// A type that is read as a tuple of its fields (own). `read_whole` and `decode_cfg` promise of it what they promise of
-/// the tuple. For a field that is itself such a type, put its tuple into the tuple.
+/// A type that is read as its fields (own). `read_whole` and `decode_cfg` promise of it what they promise of these. For
+/// a field that is itself such a type, put its pairs into the pairs.
 pub trait ByParts: Sized {
-    /// Its fields: a tuple, or one value.
+    /// Its fields: one value, a pair, or pairs in pairs, as `(u8, (u16, u32))`.
     type Parts: Look + Drop;
 
     ghost parts: { Self → Self.Parts };

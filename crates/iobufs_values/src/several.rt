@@ -1,4 +1,4 @@
-// Several values, in order.
+// Pairs: two values, in order. More values are pairs in pairs.
 ghost use Rattle.std.specs.Prelude.{◌≡◌, ◌+◌, ◌++◌, ◌≤◌, length, IfOk, IfErr};
 ghost use Rattle.iobufs_values.specs.Form.{IsPairFault};
 ghost use Rattle.iobufs_values.specs.Forms.{pair_form};

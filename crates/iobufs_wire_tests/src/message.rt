@@ -1,4 +1,4 @@
-// A message of three values, written and peeked as the tuple of its parts.
+// A message of three values, written and peeked as pairs in pairs.
 ghost use Rattle.std.specs.Prelude.{◌≡◌, ◌++◌, [], ◌∷◌};
 ghost use Rattle.std.specs.Int.{w32, to_be_bytes};
 ghost use Rattle.iobufs_core.specs.Items.{put_item};
@@ -22,6 +22,8 @@ pub struct Message {
     pub body: IoBuf,
 }
 
+type Fields = (u32, (u8, IoBuf));
+
 impl EncodeSize for Message {
     // Its bytes: those of the fields, in order.
     ghost written = { λ m. to_be_bytes w32 m.number ++ ((m.kind ∷ []) ++ view_written m.body) };
@@ -31,11 +33,11 @@ impl EncodeSize for Message {
         ++ ((put_item (m.kind ∷ []) ∷ []) ++ view_items m.body) };
 
     fn encode_size(&self) -> Option<usize> {
-        (self.number, self.kind, &self.body).encode_size()
+        (self.number, (self.kind, &self.body)).encode_size()
     }
 
     fn encode_inline_size(&self) -> usize {
-        (self.number, self.kind, &self.body).encode_inline_size()
+        (self.number, (self.kind, &self.body)).encode_inline_size()
     }
 
     // They write these bytes: a law for each field, joined pair by pair.
@@ -48,39 +50,38 @@ impl EncodeSize for Message {
 
 impl Write for Message {
     fn write<B: BufMut>(&self, buf: &mut B) {
-        (self.number, self.kind, &self.body).write(buf)
+        (self.number, (self.kind, &self.body)).write(buf)
     }
 
     fn write_bufs<B: BufsMut>(&self, buf: &mut B) -> Result<(), Error> {
-        (self.number, self.kind, &self.body).write_bufs(buf)
+        (self.number, (self.kind, &self.body)).write_bufs(buf)
     }
 }
 
 impl Look for Message {
-    type Cfg = ((), (), RangeCfg);
+    type Cfg = ((), ((), RangeCfg));
 
-    // All four are those of the tuple.
-    ghost is_found = { λ text skip cfg m. ⟦<(u32, u8, IoBuf) as Look>⟧.is_found text skip cfg
-        (m.number, m.kind, m.body) };
+    // All four are those of the pairs.
+    ghost is_found = { λ text skip cfg m. ⟦<Fields as Look>⟧.is_found text skip cfg (m.number, (m.kind, m.body)) };
 
-    ghost is_fault = { ⟦<(u32, u8, IoBuf) as Look>⟧.is_fault };
+    ghost is_fault = { ⟦<Fields as Look>⟧.is_fault };
 
-    ghost admits = { λ cfg m. ⟦<(u32, u8, IoBuf) as Look>⟧.admits cfg (m.number, m.kind, m.body) };
+    ghost admits = { λ cfg m. ⟦<Fields as Look>⟧.admits cfg (m.number, (m.kind, m.body)) };
 
-    ghost same = { λ x y. ⟦<(u32, u8, IoBuf) as Look>⟧.same (x.number, x.kind, x.body) (y.number, y.kind, y.body) };
+    ghost same = { λ x y. ⟦<Fields as Look>⟧.same (x.number, (x.kind, x.body)) (y.number, (y.kind, y.body)) };
 
     fn look<B: Peek>(
         alloc: Global,
         buf: &B,
         skip: usize,
-        cfg: &((), (), RangeCfg),
+        cfg: &((), ((), RangeCfg)),
     ) -> Result<(Message, usize), Fault> {
-        let ((number, kind, body), len) = <(u32, u8, IoBuf)>::look(alloc, buf, skip, cfg)?;
+        let ((number, (kind, body)), len) = Fields::look(alloc, buf, skip, cfg)?;
         Ok((Message { number, kind, body }, len))
     }
 
     // The forms of the fields, paired; `form_as` takes the struct apart.
-    ghost form = { form_as (λ m. (m.number, (m.kind, m.body))) (λ cfg. (cfg.0, (cfg.1, cfg.2)))
+    ghost form = { form_as (λ m. (m.number, (m.kind, m.body))) (λ cfg. cfg)
         (λ m. to_be_bytes w32 m.number ++ ((m.kind ∷ []) ++ view_written m.body)) (λ m. refl)
         (pair_form (number_form _ (to_be_bytes w32) 4 form_32) (pair_form (number_form _ (λ n. n ∷ []) 1 form_8)
         (bytes_form (λ view. view.bytes) (λ view made. made ≡ view) (λ view made is. ap (λ v. v.bytes) is)))) };

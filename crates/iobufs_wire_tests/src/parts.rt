@@ -57,7 +57,7 @@ fn a_letter(rt: HostRuntime) {
         note: note(),
         answers: vec![in rt.alloc(); 8u32, 9u32].expect(&rt, "answers"),
     };
-    let cfg = ((), ((), (), UP_TO_9), (RangeCfg { lo: 0, hi: 2 }, ()));
+    let cfg = ((), (((), ((), UP_TO_9)), (RangeCfg { lo: 0, hi: 2 }, ())));
     assert_by_parts(&rt, "a letter", LETTER, &cfg, &letter);
 }
 
@@ -65,7 +65,7 @@ fn a_letter(rt: HostRuntime) {
 fn a_note(rt: HostRuntime) {
     let mut encoded = note().encode(rt.alloc()).expect(&rt, "a note");
     assert_chunks(&rt, "a note", &encoded, &[b"\0\0\0\x07\x02\x03", b"abc"]);
-    let read = Note::read_whole(rt.alloc(), &mut encoded, &((), (), UP_TO_9));
+    let read = Note::read_whole(rt.alloc(), &mut encoded, &((), ((), UP_TO_9)));
     assert!(rt; read.expect(&rt, "a note") == note(), "another note");
 }
 
@@ -79,7 +79,7 @@ fn an_entry_is_read_back(rt: HostRuntime) -> Result<(), Fail> {
     };
     let mut text: IoBufs = entry.encode_iobufs(rt.alloc())?;
     assert_same!(rt; text.len(), 17);
-    let read = Entry::read_whole(rt.alloc(), &mut text, &((), (), UP_TO_9, UP_TO_9))?;
+    let read = Entry::read_whole(rt.alloc(), &mut text, &((), ((), (UP_TO_9, UP_TO_9))))?;
     assert_same!(rt; (read.number, read.flags), (7, 1));
     assert_same!(rt; (read.key.as_ref(), read.value.as_ref()), (b"k".as_slice(), b"value".as_slice()));
     assert!(rt; text.is_empty());

@@ -101,7 +101,7 @@ fn a_message(rt: HostRuntime) {
         kind: 2,
         body: view(b"abc"),
     };
-    let cfg = ((), (), UP_TO_9);
+    let cfg = ((), ((), UP_TO_9));
     let chunks: &[&[u8]] = &[b"\0\0\0\x07\x02\x03", b"abc"];
     assert_whole(&rt, "a message", &message, &cfg, 6, chunks);
     let mut shared = IoBuf::from(Bytes::from_static(MESSAGE));
@@ -128,13 +128,13 @@ fn tuples(rt: HostRuntime) {
     let some = ((true, Some(0x0102u16)), (*b"xyz", 300usize));
     let cfg = (((), ()), ((), RangeCfg { lo: 0, hi: 300 }));
     assert_whole(&rt, "two pairs", &some, &cfg, 9, &[SOME]);
-    let none = (None::<u64>, 9u32, false);
-    assert_whole(&rt, "three values", &none, &((), (), ()), 6, &[NONE]);
-    let six = (1u8, true, 2u16, Some(3u8), [9u8; 2], 300usize);
-    let cfg = ((), (), (), (), (), ANY);
+    let none = (None::<u64>, (9u32, false));
+    assert_whole(&rt, "three values", &none, &((), ((), ())), 6, &[NONE]);
+    let six = (1u8, (true, (2u16, (Some(3u8), ([9u8; 2], 300usize)))));
+    let cfg = ((), ((), ((), ((), ((), ANY)))));
     assert_whole(&rt, "six values", &six, &cfg, 10, &[SIX]);
-    let five = (1u8, true, 2u16, Some(3u8), [9u8; 2]);
-    let cfg = ((), (), (), (), ());
+    let five = (1u8, (true, (2u16, (Some(3u8), [9u8; 2]))));
+    let cfg = ((), ((), ((), ((), ()))));
     assert_whole(&rt, "five values", &five, &cfg, 8, &[&SIX[..8]]);
     let mut all = copied_bytewise(&rt, SIX);
     assert_front(&rt, "five of six", &mut all, &cfg, &five, 2);
@@ -154,12 +154,17 @@ const WIDE_NEGATIVE: &[u8] =
 #[test]
 fn signed_and_wide_numbers(rt: HostRuntime) {
     let four = (
-        Signed { value: -1i8 },
-        Signed { value: -2i16 },
-        Signed { value: -3i32 },
-        Signed { value: -4i64 },
+        (Signed { value: -1i8 }, Signed { value: -2i16 }),
+        (Signed { value: -3i32 }, Signed { value: -4i64 }),
     );
-    assert_whole(&rt, "four signs", &four, &((), (), (), ()), 15, &[NEGATIVE]);
+    assert_whole(
+        &rt,
+        "four signs",
+        &four,
+        &(((), ()), ((), ())),
+        15,
+        &[NEGATIVE],
+    );
     assert_whole(&rt, "sixteen bytes", &WIDE, &(), 16, &[WIDE_BYTES]);
     let both = (Signed { value: -2i128 }, Signed { value: i128::MIN });
     let cfg = ((), ());
