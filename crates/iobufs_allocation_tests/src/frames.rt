@@ -4,7 +4,7 @@ use iobufs::bufs::IoBufs;
 use iobufs_core::buf::IoBuf;
 use iobufs_core::codec::{BufError, Error, RangeCfg};
 use iobufs_frames::{ByteOrder, End, Frames, Prefix, Run, Width, framed_with};
-use iobufs_made::shows;
+use iobufs_made::{rows, shows};
 use std::alloc::Global;
 use std::process::Abort;
 

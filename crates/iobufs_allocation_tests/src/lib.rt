@@ -4,13 +4,6 @@
 // leave a prefix), and to give the second time what it gives without a failure.
 #![tactic(auto)]
 
-// The cases of a table, one a line.
-macro_rules! rows {
-    ($($($value:expr),+;)+) => {
-        [$(($($value),+)),+]
-    };
-}
-
 // The result of a call, and whether an allocation of it failed first. Such a failure is `$memory`, and leaves
 // `$same` true.
 macro_rules! lent {

@@ -5,6 +5,7 @@ use iobufs::bufs::IoBufs;
 use iobufs_core::buf::IoBuf;
 use iobufs_core::codec::{BufError, Error, RangeCfg};
 use iobufs_frames::{ByteOrder, FrameError, FrameReader, FrameWriter, Prefix, Width};
+use iobufs_made::rows;
 use std::alloc::Global;
 use std::io::{self, ErrorKind, Write};
 use std::mem;

@@ -1,5 +1,4 @@
 // Each caller once, without allocation failure.
-use crate::same::assert_same;
 use iobufs::bufs::IoBufs;
 use iobufs::bufs_mut::IoBufsMut;
 use iobufs_core::buf::{IoBuf, IoBufMut};
@@ -11,7 +10,7 @@ use iobufs_examples::records::{append, records};
 use iobufs_examples::start::{Entry, put, receive};
 use iobufs_examples::store::store;
 use iobufs_frames::{End, FrameReader, FrameWriter};
-use iobufs_made::{chunks, parts};
+use iobufs_made::{assert_same, chunks, parts};
 use std::collections::HashMap;
 use std::fs::{self, File};
 use std::test::Fail;

@@ -1,8 +1,8 @@
 // Lengths as prefixes write them, and the frames of bytes that come in chunks.
-use crate::same::assert_same;
 use iobufs_core::buf::IoBuf;
 use iobufs_core::codec::{BufError, RangeCfg};
 use iobufs_frames::{ByteOrder, Frames, Prefix, Width};
+use iobufs_made::{assert_same, rows};
 use std::alloc::Global;
 use std::process::Abort;
 use std::test::Fail;

@@ -1,13 +1,6 @@
 // Frames, streams of frames, and the worked callers, also over readers and writers that fail.
 #![tactic(auto)]
 
-// The cases of a table, one a line.
-macro_rules! rows {
-    ($($($value:expr),+;)+) => {
-        [$(($($value),+)),+]
-    };
-}
-
 #[cfg(test)]
 mod calls;
 #[cfg(test)]
@@ -16,8 +9,6 @@ mod framed;
 mod frames;
 #[cfg(test)]
 mod pool;
-#[cfg(test)]
-mod same;
 #[cfg(test)]
 mod scale;
 #[cfg(test)]

@@ -1,6 +1,6 @@
 // A pool over a machine, without allocation failure.
-use crate::same::assert_same;
 use iobufs_examples::pool::Pool;
+use iobufs_made::assert_same;
 use iobufs_owner::format::FORMAT_64;
 use iobufs_owner::owner::{Act, Call, Freed, Machine, Reply, Step};
 use std::process::Abort;

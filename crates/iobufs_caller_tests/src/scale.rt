@@ -1,9 +1,9 @@
 // A thousand times what an example has.
-use crate::same::assert_same;
 use iobufs::bufs_mut::IoBufsMut;
 use iobufs_core::buf::IoBufMut;
 use iobufs_core::codec::{Buf, BufError, BufMut};
 use iobufs_examples::store::store;
+use iobufs_made::assert_same;
 use std::alloc::Global;
 use std::process::Abort;
 use std::test::Fail;

@@ -1,9 +1,8 @@
 // A text of up to six chunks of two bytes, cut at each place by each call that cuts, also if its deque wraps.
-use crate::same::assert_same;
 use iobufs::bufs::IoBufs;
 use iobufs_core::buf::IoBuf;
 use iobufs_core::codec::{Buf, BufError, OwnedBuf};
-use iobufs_made::chunks;
+use iobufs_made::{assert_same, chunks};
 use std::alloc::{AllocError, Global};
 use std::process::Abort;
 use std::test::Fail;

@@ -1,10 +1,9 @@
 // Worked examples with the values that the rules name, beside the sessions of `tests/rows`.
-use crate::same::assert_same;
 use iobufs::bufs::IoBufs;
 use iobufs::builder::Builder;
 use iobufs_core::buf::IoBuf;
 use iobufs_core::codec::{Buf, BufError, BufMut, BufsMut, OwnedBuf, RangeCfg, Read};
-use iobufs_made::{chunks, text};
+use iobufs_made::{assert_same, chunks, text};
 use std::alloc::Global;
 use std::ops::Bound;
 use std::process::Abort;

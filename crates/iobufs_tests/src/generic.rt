@@ -2,10 +2,10 @@
 ghost use Rattle.std.specs.Prelude.{◌≡◌, ◌+◌, ◌≤◌, length, OnOk, IfOk, take};
 ghost use Rattle.iobufs_core.specs.MarkedText.{taken_view};
 
-use crate::same::assert_same;
 use bytes::Bytes;
 use iobufs_core::buf::{IoBuf, IoBufMut};
 use iobufs_core::codec::{Buf, BufError, BufMut, OwnedBuf, OwnedBytes};
+use iobufs_made::assert_same;
 use std::alloc::Global;
 use std::test::Fail;
 

@@ -2,13 +2,6 @@
 // `callers` tests the crates over the buffers, and `owner` the owner machine.
 #![tactic(auto)]
 
-// The cases of a table, one a line.
-macro_rules! rows {
-    ($($($value:expr),+;)+) => {
-        [$(($($value),+)),+]
-    };
-}
-
 #[cfg(test)]
 mod callers;
 #[cfg(test)]
@@ -23,8 +16,6 @@ mod located;
 mod owner;
 #[cfg(test)]
 mod parts;
-#[cfg(test)]
-mod same;
 #[cfg(test)]
 mod strung;
 #[cfg(test)]

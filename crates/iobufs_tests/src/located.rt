@@ -1,9 +1,8 @@
 // Places found among the ends of chunks.
-use crate::same::assert_same;
 use iobufs::bufs::IoBufs;
 use iobufs_core::buf::IoBuf;
 use iobufs_core::codec::BufError;
-use iobufs_made::text;
+use iobufs_made::{assert_same, rows, text};
 use std::alloc::Global;
 use std::test::Fail;
 

@@ -1,9 +1,8 @@
 // Writable buffers.
-use crate::same::assert_same;
 use bytes::{Bytes, BytesMut};
 use iobufs_core::buf::{IoBuf, IoBufMut};
 use iobufs_core::codec::BufError;
-use iobufs_made::part;
+use iobufs_made::{assert_same, part};
 use std::alloc::Global;
 use std::test::Fail;
 

@@ -1,10 +1,9 @@
 // Writable buffers in a row.
 ghost use Rattle.std.specs.Prelude.{◌+◌, ◌≤◌, length};
 
-use crate::same::assert_same;
 use iobufs::bufs_mut::IoBufsMut;
 use iobufs_core::codec::{Buf, BufMut};
-use iobufs_made::{part, parts};
+use iobufs_made::{assert_same, part, parts};
 use std::process::Abort;
 use std::test::Fail;
 

@@ -1,13 +1,12 @@
 // Texts of several chunks.
 ghost use Rattle.std.specs.Prelude.{◌≤◌, length};
 
-use crate::same::assert_same;
 use bytes::Bytes;
 use iobufs::bufs::IoBufs;
 use iobufs::bufs_mut::IoBufsMut;
 use iobufs_core::buf::{IoBuf, IoBufMut};
 use iobufs_core::codec::{Buf, BufError, BufMut, OwnedBuf};
-use iobufs_made::{chunks, part, text};
+use iobufs_made::{assert_same, chunks, part, rows, text};
 use std::alloc::{AllocError, Global};
 use std::process::Abort;
 use std::test::Fail;

@@ -1,8 +1,8 @@
 // Byte strings as readers, and the chunks of a reader.
-use crate::same::assert_same;
 use iobufs::bufs::IoBufs;
 use iobufs_core::buf::IoBuf;
 use iobufs_core::codec::{Buf, RangeCfg};
+use iobufs_made::assert_same;
 use std::process::Abort;
 
 pub const ANY: RangeCfg = RangeCfg {

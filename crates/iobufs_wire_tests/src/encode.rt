@@ -1,6 +1,5 @@
 // Values that are encoded, into one buffer and into chunks.
 use crate::chunks::{assert_chunks, concatenated, view};
-use crate::same::assert_same;
 use crate::shard::Shard;
 use crate::zeros::Zeros;
 use bytes::Bytes;
@@ -8,6 +7,7 @@ use iobufs::bufs::IoBufs;
 use iobufs::builder::EncodeExt;
 use iobufs_core::buf::{IoBuf, IoBufMut};
 use iobufs_core::codec::{Buf, BufMut, Encode, EncodeSize, Error, Write};
+use iobufs_made::{assert_same, rows};
 use std::process::Abort;
 
 // The size of a value, and how many of its bytes are put inline.

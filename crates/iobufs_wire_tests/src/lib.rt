@@ -1,13 +1,6 @@
 // Worked examples of encoding and decoding: lengths, numbers, views, and types of several fields.
 #![tactic(auto)]
 
-// The cases of a table, one a line.
-macro_rules! rows {
-    ($($($value:expr),+;)+) => {
-        [$(($($value),+)),+]
-    };
-}
-
 #[cfg(test)]
 mod chunks;
 #[cfg(test)]
@@ -18,8 +11,6 @@ mod lengths;
 mod message;
 #[cfg(test)]
 mod parts;
-#[cfg(test)]
-mod same;
 #[cfg(test)]
 mod shard;
 #[cfg(test)]

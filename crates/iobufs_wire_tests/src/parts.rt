@@ -2,7 +2,6 @@
 // kind or another.
 use crate::chunks::{ANY, UP_TO_9, assert_chunks, concatenated, copied_bytewise, view};
 use crate::encode::assert_written;
-use crate::same::assert_same;
 use crate::whole::{END, assert_front, assert_prefixes, assert_refused, assert_whole};
 use iobufs::bufs::IoBufs;
 use iobufs_core::buf::IoBuf;
@@ -10,6 +9,7 @@ use iobufs_core::codec::{EncodeSize, Error, RangeCfg, Write};
 use iobufs_examples::note::{Letter, Note};
 use iobufs_examples::request::{Request, RequestParts};
 use iobufs_examples::start::Entry;
+use iobufs_made::{assert_same, rows};
 use iobufs_values::{ByParts, Either, Fault, IntoParts, Kind, List, Look, Tagged};
 use std::process::Abort;
 use std::test::Fail;

@@ -3,12 +3,12 @@
 use crate::chunks::{ANY, UP_TO_9, chunks_of, concatenated, copied_bytewise, view};
 use crate::encode::assert_written;
 use crate::message::Message;
-use crate::same::assert_same;
 use bytes::Bytes;
 use iobufs::EncodeExt;
 use iobufs::bufs::IoBufs;
 use iobufs_core::buf::IoBuf;
 use iobufs_core::codec::{Encode, Error, Peek, RangeCfg, Write};
+use iobufs_made::assert_same;
 use iobufs_values::{Fault, List, Look, Signed};
 use std::process::Abort;
 

@@ -67,6 +67,7 @@ impl File<'_> {
             "tactic" | "error" => return Ok(self.replace(i, end, "")),
             "test" => return self.test(end),
             "from" => return self.from(i, end),
+            "macro_export" => return self.exported(i, end),
             "derive" => self.derive(i, end),
             name if KEPT.contains(&name) => self.is_marked |= name == "inline",
             _ => return self.fault(open + 1, "an attribute that isn't known"),
@@ -101,6 +102,16 @@ impl File<'_> {
         );
         let after = self.code[self.after(name + 1)? - 1].end();
         self.edits.push((after, after, made));
+        Ok(self.replace(i, end, ""))
+    }
+
+    // A macro that other crates use: a module exports it by a `use`.
+    fn exported(&mut self, i: usize, end: usize) -> Result<usize, Fault> {
+        if !self.has(end, "macro_rules !") {
+            return self.fault(i + 2, "an attribute that isn't known");
+        }
+        let after = self.code[self.after(end + 3)? - 1].end();
+        self.edits.push((after, after, format!(" pub(crate) use {};", self.text(end + 2))));
         Ok(self.replace(i, end, ""))
     }
 
@@ -297,7 +308,9 @@ impl File<'_> {
         let name = self.text(i);
         if self.has(i + 1, ": :") && !(i > 1 && self.has(i - 2, ": :")) {
             if name == "crate" || self.crates.contains(&name) {
-                self.replace(i, i + 1, &format!("crate::proved::{}", if name == "crate" { self.name } else { name }));
+                let from = if i > 0 && self.text(i - 1) == "$" { i - 1 } else { i };
+                let of = if name == "crate" { self.name } else { name };
+                self.replace(from, i + 1, &format!("crate::proved::{of}"));
             } else if KIT.contains(&name) {
                 self.replace(i, i + 1, &format!("crate::kit::{name}"));
             }

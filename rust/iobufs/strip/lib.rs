@@ -12,7 +12,8 @@
 //! | `Variant(#[from] Type)` | `impl From<Type> for ..` |
 //! | `final fn`, `prove!(..)` | `fn`, `debug_assert!(..)` |
 //! | `fn f<W: fmt::Write>(.., f: &mut fmt::Formatter<W>)` | `fn f(.., f: &mut fmt::Formatter<'_>)` |
-//! | `crate::`, `iobufs_core::` and the other proved crates | a module of `crate::proved` |
+//! | `crate::`, `$crate::`, `iobufs_core::` and the other proved crates | a module of `crate::proved` |
+//! | `#[macro_export] macro_rules! name` | `macro_rules! name` and `pub(crate) use name;` |
 //! | `std::`, `bytes::`, `hex::`, `memchr::` | the modules of `crate::kit` that have their signatures |
 //! | `fn main` of a program | `pub fn main`, which the binary calls |
 //! | a file of `BY_HAND` | the names of a module of `crate::kit`, which is written by hand |

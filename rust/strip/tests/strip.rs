@@ -7,7 +7,7 @@ const CRATES: [&str; 2] = ["one", "two"];
 const HEAD: &str = "use crate::kit::prelude::*; ";
 
 /// A source, and what is left of it, but for the import before its first item. `\n` where lines stay empty.
-const LEFT: [(&str, &str); 41] = [
+const LEFT: [(&str, &str); 42] = [
     ("fn f() {\n    g();\n    h();\n}\n", "#[inline] fn f() {\n    g();\n    h();\n}\n"),
     (
         "fn f(n: u8) -> u8\n    requires { n < 9 }\n{\n    n\n}\n",
@@ -83,6 +83,10 @@ const LEFT: [(&str, &str); 41] = [
     (
         "use crate::a;\nuse two::b;\nuse std::{fmt, mem};\nuse three::c;\n",
         "use crate::proved::one::a;\nuse crate::proved::two::b;\nuse crate::kit::std::{fmt, mem};\nuse three::c;\n",
+    ),
+    (
+        "mod a;\n#[macro_export]\nmacro_rules! m {\n    ($a:expr) => { $crate::b($a, $b) };\n}\nmacro_rules! n {}\n",
+        "mod a;\n\nmacro_rules! m {\n    ($a:expr) => { crate::proved::one::b($a, $b) };\n} pub(crate) use m;\nmacro_rules! n {}\n",
     ),
     (
         "fn f(n: std::ops::Bound<u8>) -> bytes::Bytes\n    ensures { a }\n{\n    two::bytes::of(n)\n}\n",
@@ -180,13 +184,14 @@ fn the_import_stands_where_the_first_item_goes() {
 }
 
 /// A source, and the line that is refused.
-const REFUSED: [(&str, usize); 18] = [
+const REFUSED: [(&str, usize); 19] = [
     ("mod a;\nghost fn f() {}\n", 2),
     ("mod a;\nghost a = b;\n", 2),
     ("mod a;\nghost a = { b }\n", 2),
     ("ghost use a.{b}", 1),
     ("mod a;\n\n#[ignore]\nfn f() {}\n", 3),
     ("#![allow(a)]\n", 1),
+    ("mod a;\n#[macro_export]\nfn f() {}\n", 2),
     ("struct S {\n    #[from]\n    a: u8,\n}\n", 2),
     ("mod a;\n#[test]\nfn f() {}\n", 3),
     ("mod a;\n#[test]\nfn f(rt: HostRuntime, a: u8) {}\n", 3),

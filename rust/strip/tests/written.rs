@@ -177,7 +177,8 @@ impl<'a> Left<'a> {
                 self.drop_to(self.after(self.at + 1))
             }
             "#" if self.has("# ! [ tactic") => self.drop_to(self.after(self.at + 2)),
-            "#" if self.has("# [ inline ]") => self.put(4, ""),
+            "#" if self.has("# [ inline ]") || self.has("# [ macro_export ]") => self.put(4, ""),
+            "$" if self.has("$ crate : :") => self.put(1, ""),
             "#" if self.has("# [ derive") => self.derive(),
             "use" if self.has("use thiserror : : Error ;") => self.put(6, ""),
             "impl" => self.implementation(),
@@ -236,6 +237,7 @@ impl<'a> Left<'a> {
             "use" if self.has("use crate : : kit : : prelude : : * ;") => self.put(12, ""),
             "#" if self.has("# [ inline ]") || self.has("# [ track_caller ]") => self.put(4, ""),
             "pub" if self.has("pub fn main") => self.put(1, ""),
+            "pub" if self.has("pub ( crate ) use") && self.kept.last().is_some_and(is_last) => self.put(7, ""),
             // An impl that is made of attributes: it begins on the line on which its type ends.
             "impl" if self.kept.last().is_some_and(is_last) => self.drop_to(self.after(self.find(self.at, &["{"]))),
             "(" if self.has("( ) { crate : : kit : : test : : run ( case ) ; fn case (") => {

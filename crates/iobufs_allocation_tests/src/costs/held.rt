@@ -8,7 +8,7 @@ use iobufs::bufs::IoBufs;
 use iobufs_core::buf::IoBuf;
 use iobufs_core::codec::{Buf, BufError};
 use iobufs_frames::{FrameReader, Prefix, Received};
-use iobufs_made::parts;
+use iobufs_made::{parts, rows};
 use std::alloc::Global;
 use std::io::{self, Read};
 use std::process::Abort;

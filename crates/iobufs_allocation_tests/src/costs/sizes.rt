@@ -8,6 +8,7 @@ use iobufs::builder::Builder;
 use iobufs_core::buf::{IoBuf, IoBufMut};
 use iobufs_core::codec::{BufError, BufsMut};
 use iobufs_frames::{ByteOrder, End, Frames, Prefix, Width, framed_with};
+use iobufs_made::rows;
 use iobufs_owner::format::FORMAT_64;
 use iobufs_owner::owner::{self, Act, Call, Machine, Step};
 use iobufs_run::command::{Cmd, Reply};

@@ -1,12 +1,11 @@
 // How many reads and writes a frame takes, and long frames.
 use crate::frames::VARINT;
-use crate::same::assert_same;
 use crate::streams::LONG;
 use crate::streams::fakes::{FakeReader, FakeWriter, Interruptions};
 use iobufs::bufs::IoBufs;
 use iobufs_core::codec::BufError;
 use iobufs_frames::{FrameReader, FrameWriter, framed_with};
-use iobufs_made::text;
+use iobufs_made::{assert_same, rows, text};
 use std::alloc::Global;
 use std::io::ErrorKind;
 use std::process::Abort;

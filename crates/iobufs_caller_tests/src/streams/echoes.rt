@@ -1,7 +1,6 @@
 // Frames that are echoed: each is flushed before the next read. Nothing is lost or sent twice if a read, a write or a
 // flush fails.
 use crate::frames::{BIG_16, BIG_32, LITTLE_16, LITTLE_32, VARINT};
-use crate::same::assert_same;
 use crate::streams::fakes::{FakeReader, FakeWriter};
 use crate::streams::{
     Ending, FRAMES, FRAMES_BIG_16, FRAMES_BIG_32, FRAMES_LITTLE_16, FRAMES_LITTLE_32, ending_by,
@@ -9,6 +8,7 @@ use crate::streams::{
 };
 use iobufs_examples::echo::echo;
 use iobufs_frames::{FrameReader, FrameWriter, Prefix};
+use iobufs_made::assert_same;
 use std::io::{ErrorKind, Read, Write};
 use std::process::Abort;
 use std::test::Fail;

@@ -1,10 +1,9 @@
 // Errors of readers and writers: each kind but `Interrupted` is returned at once, and the next call goes on.
 use crate::frames::VARINT;
-use crate::same::assert_same;
 use crate::streams::fakes::{FakeReader, FakeWriter, Interruptions};
 use crate::streams::{Ending, FRAMES, SHORT, frame_reader, put_chunks, take_bodies};
 use iobufs_frames::FrameWriter;
-use iobufs_made::text;
+use iobufs_made::{assert_same, rows, text};
 use std::alloc::Global;
 use std::io::{self, ErrorKind, IoSlice, Write};
 use std::process::Abort;

@@ -1,11 +1,10 @@
 // Buffers as readers and writers of std, and `IoBufs` that are written to one.
-use crate::same::assert_same;
 use crate::streams::counts::long;
 use crate::streams::fakes::FakeWriter;
 use iobufs::bufs::IoBufs;
 use iobufs_core::buf::{IoBuf, IoBufMut};
 use iobufs_frames::Writer;
-use iobufs_made::text;
+use iobufs_made::{assert_same, text};
 use std::io::{ErrorKind, Read, Write};
 use std::test::Fail;
 

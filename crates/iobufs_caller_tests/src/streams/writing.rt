@@ -1,6 +1,5 @@
 // Frames that are written.
 use crate::frames::{BIG_16, BIG_24, BIG_32, BYTE, LITTLE_16, LITTLE_24, LITTLE_32, VARINT};
-use crate::same::assert_same;
 use crate::streams::counts::long;
 use crate::streams::fakes::FakeWriter;
 use crate::streams::{
@@ -9,7 +8,7 @@ use crate::streams::{
 };
 use iobufs_core::codec::BufError;
 use iobufs_frames::{FrameWriter, Prefix, framed_with};
-use iobufs_made::text;
+use iobufs_made::{assert_same, rows, text};
 use std::io::{ErrorKind, Write};
 use std::process::Abort;
 use std::test::Fail;

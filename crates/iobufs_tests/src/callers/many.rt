@@ -1,5 +1,5 @@
 // Lists of ten thousand commands and of none, and a list of five hundred names.
-use crate::same::assert_same;
+use iobufs_made::assert_same;
 use iobufs_run::command::{Cmd, Kind, Reply};
 use iobufs_run::table::Table;
 use std::alloc::{AllocError, Global};

@@ -1,8 +1,7 @@
 // Each text that an error prints, and commands and buffers as they are printed.
-use crate::same::assert_same;
 use iobufs_core::buf::IoBuf;
 use iobufs_core::codec::{BufError, Error, Refused, TryGetError};
-use iobufs_made::{part, text};
+use iobufs_made::{assert_same, part, text};
 use iobufs_run::command::Cmd;
 use iobufs_values::Fault;
 use std::fmt::Display;

@@ -1,6 +1,6 @@
 // Schedules of clones and drops, each given to the machine as one list. `tests/rows` has them line by line.
 use crate::owner::steps::begun;
-use crate::same::assert_same;
+use iobufs_made::assert_same;
 use iobufs_owner::format::FORMAT_64;
 use iobufs_owner::owner::Act::{self, Begin, Go};
 use iobufs_owner::owner::Reply::{self, Declined, Done, Made, More, Refused, Unique};

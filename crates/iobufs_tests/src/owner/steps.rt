@@ -1,6 +1,6 @@
 // The machine where no stored session of the program goes: it reserves entries before each step, and gives no list of
 // steps.
-use crate::same::assert_same;
+use iobufs_made::assert_same;
 use iobufs_owner::format::FORMAT_64;
 use iobufs_owner::owner::Act::Begin;
 use iobufs_owner::owner::Reply::{self, Made, Refused, Unique};

@@ -2,7 +2,7 @@
 ghost use Rattle.std.specs.Prelude.{◌<◌};
 ghost use Rattle.iobufs_owner.specs.Word.{IsPowerOfTwo};
 
-use crate::same::assert_same;
+use iobufs_made::assert_same;
 use iobufs_owner::format::{FORMAT_32, FORMAT_64, Fields, Format};
 use std::process::Abort;
 
