@@ -32,7 +32,7 @@ const STEP: usize = 1 << 14;
 pub struct Received {
     layout: Layout,
     block: BytesMut,
-    // How large the block was when nothing had been taken from it; `MOST` if a larger one was left.
+    // How large the block was when nothing had been taken from it; 0 if one above `MOST` was left.
     whole: usize,
     // The length at the front, if it is decoded.
     known: Option<Length>,
@@ -167,7 +167,7 @@ impl Received {
         frame.advance(skip);
         if self.whole > MOST && self.block.is_empty() {
             self.block = BytesMut::new(*self.block.allocator());
-            self.whole = MOST;
+            self.whole = 0;
         }
         Ok(IoBuf::from(frame))
     }
@@ -230,8 +230,9 @@ impl Received {
         }
     }
 
-    // The size that a block with `len` bytes gets next: at most `MOST`, or twice `len`. A frame that isn't whole, and
-    // has at most `STEP` bytes more than twice `len`, gets its own size.
+    // The size that a block with `len` bytes gets next: at most `MOST`, or `STEP` bytes more than twice `len`. A frame
+    // that isn't whole gets its own size if that is at most `STEP` more than twice `len`. From `STEP` bytes on `MOST` is
+    // admitted too, and a frame that is larger gets half of its size, so that the block after it is the frame's alone.
     fn next_size(&self, len: usize) -> usize
         requires { len < 2 ^ 63 }
         ensures grows { len < result }
@@ -241,10 +242,21 @@ impl Received {
             Some(found) => self.layout.whole_of(found),
             None => 0,
         };
-        let twice = 2 * len;
-        let is_near = len < frame && frame <= twice.saturating_add(STEP);
         let least = self.whole.saturating_mul(2).max(FIRST).min(MOST);
-        least.max(if is_near { frame } else { twice })
+        let twice = 2 * len;
+        let near = twice.saturating_add(STEP);
+        let most = if len < STEP { near } else { near.max(MOST) };
+        if len < frame && frame <= most {
+            return least.max(frame);
+        }
+        if len < STEP || frame <= len {
+            return least.max(twice);
+        }
+        if frame / 2 <= most {
+            frame / 2
+        } else {
+            MOST.max(twice)
+        }
     }
 
     /// Makes sure that there is space for a read. May move the bytes to the front of the block, enlarge the block, or
