@@ -1,10 +1,11 @@
 -- The bytes of frames that are not sent.
-use Rattle.std.proofs.Common.{◌≡◌, ℕ, ◌-◌, ◌≤◌, List, [], ◌∷◌, ◌++◌, append_assoc, length, drop, get_or, ap, refl, sym, ◌∙◌, arith, length-append, length-drop}
-use Rattle.std.proofs.lemmas.List.{nil_from_length}
+use Rattle.std.proofs.Common.{◌≡◌, ℕ, ◌-◌, ◌≤◌, List, [], ◌∷◌, ◌++◌, append_assoc, length, drop, get_or, ap, drop-drop, min, refl, sym, ◌+◌, ◌∙◌, arith, length-append, length-drop}
+use Rattle.std.proofs.Math.Nat.{min-eq_left, min-eq_right}
+use Rattle.std.proofs.lemmas.List.{drop-append-le, nil_from_length}
 use Rattle.std.proofs.Math.Seq.{drop-append-add}
 use Rattle.iobufs_core.specs.MarkedText.{MarkedText, text_rest}
 use Rattle.iobufs_core.specs.ReadBytes.{bytes-rest}
-use Rattle.iobufs_frames.specs.Unsent.{ArePassed, IsAdvanced, UnsentBytes, unsent_after, unsent_rest}
+use Rattle.iobufs_frames.specs.Unsent.{ArePassed, IsAdvanced, UnsentBytes, rest_after, unsent_after, unsent_rest}
 
 -- all of a length goes, and some bytes of the body
 pub body_goes : (u : UnsentBytes) (gone : List ℕ) (left : MarkedText) (n : ℕ) → u.head ++ u.body.bytes ≡ u.bytes → length u.head ≤ n
@@ -21,9 +22,43 @@ body_goes u gone left n is more within none rest =
     ∙ ap (drop n) is in
     λ i. record { head = head i; body = rest i; bytes = bytes i }
 
+-- bytes of the first frame alone go
+pub rest_goes : (u new : UnsentBytes) (others : List ℕ) (n : ℕ) → length u.bytes ≡ length u.head + length u.body.bytes
+    → n ≤ length u.bytes → new ≡ unsent_rest u n
+    → record new { bytes = new.bytes ++ others } ≡ rest_after (record u { bytes = u.bytes ++ others }) n
+rest_goes u new others n parts within is =
+    let few : n - length u.head ≤ length u.body.bytes = omega (arith, parts, within) in
+    let body : new.body ≡ text_rest u.body (min (n - length u.head) (length u.body.bytes)) =
+    ap (λ (v : UnsentBytes). v.body) is ∙ ap (text_rest u.body) (sym (min-eq_left few)) in
+    let bytes : new.bytes ++ others ≡ drop n (u.bytes ++ others) =
+    ap (λ (v : UnsentBytes). v.bytes ++ others) is ∙ sym (drop-append-le n u.bytes others within) in
+    λ i. record { head = ap (λ (v : UnsentBytes). v.head) is i; body = body i; bytes = bytes i }
+
+-- all of it goes, and some of the copies
+pub copies_go : (u new : UnsentBytes) (tail : List ℕ) (sent n : ℕ) → length u.bytes ≡ length u.head + length u.body.bytes
+    → length u.bytes ≤ n → new ≡ unsent_rest u (length u.bytes)
+    → record new { bytes = new.bytes ++ drop (sent + (n - length u.bytes)) tail }
+    ≡ rest_after (record u { bytes = u.bytes ++ drop sent tail }) n
+copies_go u new tail sent n parts more is =
+    let all = length u.bytes in
+    let head : new.head ≡ drop n u.head =
+    ap (λ (v : UnsentBytes). v.head) is ∙ nil_from_length (drop all u.head) (omega (arith, parts, length-drop all u.head))
+    ∙ sym (nil_from_length (drop n u.head) (omega (arith, parts, more, length-drop n u.head))) in
+    let many : length u.body.bytes ≤ n - length u.head = omega (arith, parts, more) in
+    let whole : all - length u.head ≡ length u.body.bytes = omega (arith, parts) in
+    let body : new.body ≡ text_rest u.body (min (n - length u.head) (length u.body.bytes)) =
+    ap (λ (v : UnsentBytes). v.body) is ∙ ap (text_rest u.body) (whole ∙ sym (min-eq_right many)) in
+    let none : new.bytes ≡ [] =
+    ap (λ (v : UnsentBytes). v.bytes) is ∙ nil_from_length (drop all u.bytes) (omega (arith, length-drop all u.bytes)) in
+    let size : all + (n - all) ≡ n = omega (arith, more) in
+    let bytes : new.bytes ++ drop (sent + (n - all)) tail ≡ drop n (u.bytes ++ drop sent tail) =
+    ap (λ w. w ++ drop (sent + (n - all)) tail) none ∙ sym (drop-drop (n - all) sent tail)
+    ∙ sym (drop-append-add u.bytes (drop sent tail) (n - all)) ∙ ap (λ k. drop k (u.bytes ++ drop sent tail)) size in
+    λ i. record { head = head i; body = body i; bytes = bytes i }
+
 -- some bytes more went
-pub advanced_on : (old mid new : UnsentBytes) (n : ℕ) → IsAdvanced old mid → new ≡ unsent_rest mid n → IsAdvanced old new
-advanced_on old mid new n (counts, is) more = (n ∷ counts, more ∙ ap (λ (u : UnsentBytes). unsent_rest u n) is)
+pub advanced_on : (old mid new : UnsentBytes) (n : ℕ) → IsAdvanced old mid → new ≡ rest_after mid n → IsAdvanced old new
+advanced_on old mid new n (counts, is) more = (n ∷ counts, more ∙ ap (λ (u : UnsentBytes). rest_after u n) is)
 
 -- some more went after them
 advanced_by : (old mid new : UnsentBytes) (counts : List ℕ) → IsAdvanced old mid → new ≡ unsent_after mid counts → IsAdvanced old new
@@ -47,7 +82,7 @@ passed_next frames rest next more is = record {
 
 -- some bytes more of the first frame went
 pub passed_on : (frames : List UnsentBytes) (rest new : UnsentBytes) (more : List UnsentBytes) (n : ℕ) → ArePassed frames rest more
-    → new ≡ unsent_rest rest n → ArePassed frames new more
+    → new ≡ rest_after rest n → ArePassed frames new more
 passed_on frames rest new more n is less = record {
   gone = is.gone;
   first = is.first;

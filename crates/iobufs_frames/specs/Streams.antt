@@ -9,8 +9,7 @@
 --     Fills           one read: bytes came, or it is at its end
 --     StaysRead,      so of one that a frame needs, which the end of the input cuts
 --     ReadsMore
---     unsent_frames, unsent_bytes,    the frames of a writer of which bytes are not sent, these bytes, and the number of frames
---     unsent_count                    that have some
+--     unsent_frames, unsent_bytes     the frames of a writer of which bytes are not sent, and these bytes
 --     IsIdle          all that was put is sent
 --     BeginsWriting   a writer to which nothing was put
 --     PutsFrame       a frame follows those that are not sent, or the body is handed back
@@ -29,7 +28,7 @@ use Rattle.iobufs_core.specs.declared.codec.base.RangeCfg.{RangeCfg}
 use Rattle.iobufs_core.specs.declared.codec.base.Refused.{Refused}
 use Rattle.iobufs_frames.specs.Frames.{CanBeSent, IsFirstOf, IsFramed, LacksFrame, Parts, ReadsBy, Takes, has_bytes, is_any, is_body, is_whole}
 use Rattle.iobufs_frames.specs.Receiving.{KeepsReceived, is_bytes_view}
-use Rattle.iobufs_frames.specs.Unsent.{ArePassed, UnsentBytes, frames_bytes, unsent_frame, unsent_nothing}
+use Rattle.iobufs_frames.specs.Unsent.{ArePassed, IsShort, UnsentBytes, frames_bytes, unsent_frame, unsent_nothing}
 use Rattle.iobufs_frames.specs.declared.End.{End}
 use Rattle.iobufs_frames.specs.declared.End.TheVariants.{Open}
 use Rattle.iobufs_frames.specs.declared.error.FrameError.{FrameError}
@@ -122,15 +121,12 @@ ReadsMore remaining old (Err Cut) new = StaysRead remaining old new × (0 < leng
 ReadsMore remaining old (Err (Frame error)) new = ⊥
 ReadsMore remaining old (Err (Io error)) new = StaysRead remaining old new × (error_kind error ≢ Interrupted)
 
--- the frames of which bytes are not sent, in order; all these bytes, and how many frames have some
+-- the frames of which bytes are not sent, in order; and all these bytes
 abbrev pub unsent_frames : {W : Type 0} → FrameWriter W → List UnsentBytes
 unsent_frames writer = writer.rest ∷ writer.more.items
 
 abbrev pub unsent_bytes : {W : Type 0} → FrameWriter W → List ℕ
 unsent_bytes writer = frames_bytes (unsent_frames writer)
-
-abbrev pub unsent_count : {W : Type 0} → FrameWriter W → ℕ
-unsent_count writer = if length writer.rest.bytes == 0 then length writer.more.items else 1 + length writer.more.items
 
 -- all that was put is sent
 abbrev pub IsIdle : {W : Type 0} → FrameWriter W → Type 0
@@ -141,14 +137,19 @@ abbrev pub BeginsWriting : {W : Type 0} → W → Layout → RangeCfg → FrameW
 BeginsWriting to layout range writer = (writer.to ≡ to) × (writer.layout ≡ layout) × (writer.range ≡ range)
     × (writer.rest ≡ unsent_nothing) × (writer.more.items ≡ []) × (writer.is_flushed ≡ true)
 
+-- A frame follows those that are not sent, in its chunks. Or all of these are in `rest`, its body is short, and a copy of its
+-- bytes follows them there.
+abbrev pub FollowsOthers : {W : Type 0} → FrameWriter W → UnsentBytes → FrameWriter W → Type 0
+FollowsOthers old frame new = ((new.more.items ≡ old.more.items ++ frame ∷ []) × (new ≡ record old { more = new.more }))
+    ⊎ (IsShort frame.body × (old.more.items ≡ []) × (new ≡ record old { rest = record old.rest { bytes = old.rest.bytes ++ frame.bytes } }))
+
 -- `put_with`: a frame with these bytes around its length, of which nothing is sent, follows those that are not; or the body is
 -- handed back, and all stays
 abbrev pub PutsFrame : {W : Type 0} → List ℕ → List ℕ → FrameWriter W → MarkedText → Result (Unit {0}) (Refused MarkedText)
     → FrameWriter W → Type 0
 PutsFrame before after old body (Ok done) new = CanBeSent old.layout old.range before after (length body.bytes)
     × (IsIdle old → new ≡ record old { rest = unsent_frame old.layout before after body })
-    × ((IsIdle old → ⊥) → (new.more.items ≡ old.more.items ++ unsent_frame old.layout before after body ∷ [])
-    × (new ≡ record old { more = new.more }))
+    × ((IsIdle old → ⊥) → FollowsOthers old (unsent_frame old.layout before after body) new)
     × (unsent_bytes new ≡ unsent_bytes old ++ (unsent_frame old.layout before after body).bytes)
 PutsFrame before after old body (Err refused) new = (refused.value ≡ body)
     × (new.more.items ≡ old.more.items) × (new ≡ record old { more = new.more })

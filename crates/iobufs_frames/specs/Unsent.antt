@@ -3,18 +3,20 @@
 --     unsent_nothing no frame
 --     unsent_frame   a frame of which nothing was sent
 --     unsent_rest    what is left of them after their first bytes; a body of which all went shares no block
+--     rest_after     so if copies of other frames follow it
 --     unsent_after,  what several counts of bytes leave; some bytes went, a few at a time
 --     IsAdvanced
+--     IsShort        a body that may be copied: one chunk of at most 256 bytes
 --     IsFront        the first bytes
 --     frames_bytes   the bytes of several frames, in order
 --     ArePassed      the first frames went, and some bytes of the next, a few at a time
-use Rattle.std.specs.Prelude.{◌≡◌, ℕ, ◌-◌, List, [], ◌∷◌, ◌++◌, length, drop}
+use Rattle.std.specs.Prelude.{◌≡◌, ℕ, ◌-◌, ◌≤◌, true, min, List, [], ◌∷◌, ◌++◌, length, drop}
 use Rattle.std.specs.List.{flat_map}
-use Rattle.iobufs_core.specs.MarkedText.{MarkedText, default_text, text_rest}
+use Rattle.iobufs_core.specs.MarkedText.{MarkedText, default_text, is_single, text_rest}
 use Rattle.iobufs_frames.specs.Frames.{Parts, frame_written, header_written}
 use Rattle.iobufs_frames.specs.declared.lengths.Layout.{Layout}
 
--- the unsent end of a frame's header, its unsent body, and the bytes of both
+-- the unsent end of a frame's header, its unsent body, and the bytes of both, and of the copies after it
 pub record UnsentBytes : Type 0 where
   pub head : List ℕ
   pub body : MarkedText
@@ -41,14 +43,26 @@ unsent_rest unsent n = record {
   bytes = drop n unsent.bytes;
 }
 
+-- so if other frames follow it, of which some bytes may go too
+abbrev pub rest_after : UnsentBytes → ℕ → UnsentBytes
+rest_after unsent n = record {
+  head = drop n unsent.head;
+  body = text_rest unsent.body (min (n - length unsent.head) (length unsent.body.bytes));
+  bytes = drop n unsent.bytes;
+}
+
 -- so after several counts in turn, the last first
 abbrev pub unsent_after : UnsentBytes → List ℕ → UnsentBytes
 unsent_after unsent [] = unsent
-unsent_after unsent (n ∷ before) = unsent_rest (unsent_after unsent before) n
+unsent_after unsent (n ∷ before) = rest_after (unsent_after unsent before) n
 
 -- some bytes went, a few at a time
 abbrev pub IsAdvanced : UnsentBytes → UnsentBytes → Type 0
 IsAdvanced old new = (counts : List ℕ) × (new ≡ unsent_after old counts)
+
+-- a body of one chunk and at most 256 bytes
+abbrev pub IsShort : MarkedText → Type 0
+IsShort body = (is_single body ≡ true) × (length body.bytes ≤ 256)
 
 -- the first of these bytes
 abbrev pub IsFront : List ℕ → List ℕ → Type 0

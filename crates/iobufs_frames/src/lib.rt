@@ -16,6 +16,7 @@ mod heads;
 pub mod laws;
 mod lengths;
 pub mod reader;
+pub mod rest;
 mod shown;
 pub mod unsent;
 pub mod writer;

@@ -102,7 +102,8 @@ impl Unsent {
 
     /// Returns how many bytes there are.
     pub fn len(&self) -> usize
-        ensures { result ≡ length self.now.bytes }
+        ensures value { result ≡ length self.now.bytes }
+        ensures parts { length self.now.bytes ≡ length self.now.head + length self.now.body.bytes }
     {
         self.head.len() + self.body.len()
     }

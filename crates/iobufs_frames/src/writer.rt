@@ -7,12 +7,13 @@ ghost use Rattle.std.specs.IoError.{error_kind};
 ghost use Rattle.std.specs.declared.io.ErrorKind.TheVariants.{Interrupted};
 ghost use Rattle.iobufs_core.specs.declared.codec.base.BufError.TheVariants.{Memory};
 ghost use Rattle.iobufs_frames.specs.Prefixes.{bare};
-ghost use Rattle.iobufs_frames.specs.Streams.{BeginsWriting, PutsFrame, SendsRest, unsent_bytes, unsent_count, unsent_frames};
+ghost use Rattle.iobufs_frames.specs.Streams.{BeginsWriting, PutsFrame, SendsRest, unsent_bytes, unsent_frames};
 ghost use Rattle.iobufs_frames.specs.Unsent.{ArePassed, IsFront, frames_bytes};
 ghost use Rattle.iobufs_frames.specs.declared.lengths.Prefix.TheVariants.{Spelled};
 
+use crate::rest::Rest;
 use crate::unsent::Unsent;
-use crate::{Head, Layout, Prefix};
+use crate::{Layout, Prefix};
 use bytes::Buf;
 use iobufs::bufs::{BATCH, IoBufs, write_chunks_again};
 use iobufs_core::codec::{BufError, RangeCfg, Refused};
@@ -21,7 +22,7 @@ use std::collections::VecDeque;
 use std::io::{self, ErrorKind, IoSlice, Write};
 
 /// A writer to which whole frames are sent, of lengths in a range. Headers and chunks of all frames that were put are
-/// written from where they are, up to `BATCH` at a time.
+/// written from where they are, up to `BATCH` at a time. Short frames behind the first are copied one behind another.
 #[derive(Drop)]
 pub struct FrameWriter<W> {
     /// The writer: `&writer.to` and `&mut writer.to` are the `get_ref` and `get_mut` of std's writers.
@@ -30,8 +31,9 @@ pub struct FrameWriter<W> {
     pub layout: Layout,
     /// The lengths that a body may have. A change applies to the next `put`.
     pub range: RangeCfg,
-    /// The rest of the first frame that isn't sent whole; without bytes if all is sent.
-    pub rest: Unsent,
+    /// The rest of the first frame that isn't sent whole, and copies of short ones after it; without bytes if all is
+    /// sent.
+    pub rest: Rest,
     /// The frames after `rest`, of which nothing is sent.
     pub more: VecDeque<Unsent>,
     /// Whether nothing was sent since this was set: a `send` that has bytes clears it. Set it after `to.flush()`, to
@@ -58,18 +60,18 @@ impl<W: Drop> FrameWriter<W> {
     pub fn with_layout(alloc: Global, to: W, layout: Layout, range: RangeCfg) -> FrameWriter<W>
         ensures { BeginsWriting to layout range result }
     {
-        let rest = Unsent::new(Head::new(), IoBufs::default());
         FrameWriter {
             to,
             layout,
             range,
-            rest,
+            rest: Rest::new(alloc),
             more: VecDeque::new(alloc),
             is_flushed: true,
         }
     }
 
-    /// Puts a frame of this body after those that aren't sent; nothing is sent yet. The body's chunks aren't copied.
+    /// Puts a frame of this body after those that aren't sent; nothing is sent yet. A body of one chunk and at most 256
+    /// bytes may be copied if others aren't sent. The chunks of any other aren't copied.
     /// Fails with `BufError::TooLong` if the body's length is outside the range, if the length in the header doesn't
     /// fit (see `Prefix::fits`), if the frame is longer than `usize::MAX`, or if the layout has bytes around the
     /// length. Fails with `BufError::Memory` if allocation fails; nothing is allocated if all is sent.
@@ -100,12 +102,16 @@ impl<W: Drop> FrameWriter<W> {
                 value: body,
             });
         };
-        let frame = Unsent::new(head, body);
-        if self.unsent() == 0 {
-            self.rest = frame;
-            return Ok(());
+        if self.more.is_empty() {
+            if self.rest.is_empty() {
+                self.rest.set(Unsent::new(head, body));
+                return Ok(());
+            }
+            if self.rest.copy_in(&head, &body) {
+                return Ok(());
+            }
         }
-        self.push(frame)
+        self.push(Unsent::new(head, body))
     }
 
     // Adds a frame after the others.
@@ -123,16 +129,6 @@ impl<W: Drop> FrameWriter<W> {
                 value: failed.value.into_body(),
             }),
         }
-    }
-
-    /// Returns how many frames aren't sent.
-    pub fn unsent(&self) -> usize
-        ensures { result ≡ unsent_count self.now }
-    {
-        if self.rest.is_empty() {
-            return self.more.len();
-        }
-        1 + self.more.len()
     }
 
     // Drops the first `n` unsent bytes, and frames of which none are left.
@@ -166,14 +162,14 @@ impl<W: Drop> FrameWriter<W> {
                 break;
             };
             left -= self.rest.len();
-            self.rest = next;
+            self.rest.set(next);
         }
         self.rest.advance(left);
     }
 }
 
 // Fills `dst` with the first chunks of these frames, and returns their number.
-fn fill_slices<'a>(rest: &'a Unsent, more: &'a VecDeque<Unsent>, dst: &mut [IoSlice<'a>]) -> usize
+fn fill_slices<'a>(rest: &'a Rest, more: &'a VecDeque<Unsent>, dst: &mut [IoSlice<'a>]) -> usize
     ensures room { length dst.new ≡ length dst.old }
     ensures few { result ≤ length dst.old }
     ensures front { IsFront (io_slices_bytes (take result dst.new)) (frames_bytes (rest.now ∷ more.now.items)) }
@@ -188,21 +184,31 @@ fn fill_slices<'a>(rest: &'a Unsent, more: &'a VecDeque<Unsent>, dst: &mut [IoSl
     count
 }
 
-// Writes the header and the first chunk of a frame once.
-fn write_two<W: Write>(to: &mut W, rest: &Unsent) -> io::Result<usize>
+// Writes the header, the first chunk and the copies once.
+fn write_three<W: Write>(to: &mut W, rest: &Rest) -> io::Result<usize>
     ensures bound { WritesAtMost result rest.now.bytes }
     ensures bytes { WriteAppends (W.contents to.old) (W.contents to.new) result rest.now.bytes }
     ensures retried { IfErr result (λ error. error_kind error ≢ Interrupted) }
 {
-    let (head, chunk) = rest.first_two();
-    write_chunks_again(to, &[IoSlice::new(head), IoSlice::new(chunk)])
+    let (head, chunk, copies) = rest.first_three();
+    if copies.is_empty() {
+        return write_chunks_again(to, &[IoSlice::new(head), IoSlice::new(chunk)]);
+    }
+    write_chunks_again(
+        to,
+        &[
+            IoSlice::new(head),
+            IoSlice::new(chunk),
+            IoSlice::new(copies),
+        ],
+    )
 }
 
 // Writes the first chunks of these frames once, at most `BATCH`.
 #[inline(never)]
 fn write_batch<'a, W: Write>(
     to: &mut W,
-    rest: &'a Unsent,
+    rest: &'a Rest,
     more: &'a VecDeque<Unsent>,
 ) -> io::Result<usize>
     ensures bound { WritesAtMost result (frames_bytes (rest.now ∷ more.now.items)) }
@@ -247,7 +253,7 @@ impl<W: Write + Drop> FrameWriter<W> {
         ensures same { self.new ≡ record self.old { to = self.new.to } }
     {
         if self.more.is_empty() && self.rest.is_single() {
-            write_two(&mut self.to, &self.rest)
+            write_three(&mut self.to, &self.rest)
         } else {
             write_batch(&mut self.to, &self.rest, &self.more)
         }

@@ -81,7 +81,7 @@ impl<W: Write> Write for Honest<W> {
         self.write_vectored(&[IoSlice::new(bytes)])
     }
 
-    #[inline]
+    #[inline(always)]
     fn write_vectored(&mut self, chunks: &[IoSlice<'_>]) -> Result<usize> {
         self.took = false;
         let given = chunks.iter().fold(0, |sum: usize, chunk| sum.saturating_add(chunk.len()));

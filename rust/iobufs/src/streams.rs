@@ -437,7 +437,8 @@ impl<R: fmt::Debug> fmt::Debug for FrameReader<R> {
     }
 }
 
-/// Sends frames to a writer: lengths, or headers of a [`Layout`], each followed by a body, whose chunks aren't copied.
+/// Sends frames to a writer: lengths, or headers of a [`Layout`], each followed by a body. Chunks aren't copied, except a
+/// short body that waits behind another frame (see [`put`](Self::put)).
 ///
 /// ```
 /// let mut to = iobufs::FrameWriter::new(Vec::new(), ..=1024);
@@ -496,8 +497,9 @@ impl<W> FrameWriter<W> {
         self.0.layout = layout.into().inner();
     }
 
-    /// Puts a frame of this body after those that aren't sent yet; nothing is written. It allocates space for the list
-    /// of frames, from the second unsent frame on. Making an [`IoBufs`] of the body may allocate too.
+    /// Puts a frame of this body after those that aren't sent yet; nothing is written. From the second unsent frame on it
+    /// allocates space, for the list of frames or for copies: a body of one chunk and at most 256 bytes is copied if
+    /// only copies and the first frame wait, up to about 16 KiB. Making an [`IoBufs`] of the body may allocate too.
     ///
     /// ```
     /// let mut to = iobufs::FrameWriter::new(Vec::<u8>::new(), ..=4);
@@ -510,6 +512,9 @@ impl<W> FrameWriter<W> {
     /// # Errors
     /// Returns [`Error::InvalidLength`] if the length is outside the range, or no header can have it, or headers have
     /// bytes around their lengths. Then nothing is put.
+    ///
+    /// # Panics
+    /// If the `Drop` of the body's owner panics. The owner is dropped here if the body is copied: then its frame is put.
     pub fn put(&mut self, body: impl Into<IoBufs>) -> Result<(), Error> {
         self.put_with(&[], &[], body)
     }
@@ -530,6 +535,9 @@ impl<W> FrameWriter<W> {
     /// # Errors
     /// Returns [`Error::InvalidLength`] if the length is outside the range, or no header can have it, or the layout has
     /// another number of bytes before or after the length, or more than 22. Then nothing is put.
+    ///
+    /// # Panics
+    /// If the `Drop` of the body's owner panics, as in [`put`](Self::put).
     #[inline]
     pub fn put_with(&mut self, before: &[u8], after: &[u8], body: impl Into<IoBufs>) -> Result<(), Error> {
         self.0.put_with(before, after, body.into().0).map_err(|refused| match refused.cause {
@@ -616,7 +624,7 @@ impl<W: Write> FrameWriter<W> {
     ///
     /// # Panics
     /// If the `Drop` of a body's owner panics, its bytes were sent. Then nothing more is written, and each `send`
-    /// returns an error.
+    /// returns an error. The owner of a body that was copied is dropped in [`put`](Self::put).
     pub fn send(&mut self) -> io::Result<()> {
         if self.0.to.took {
             return Err(io::Error::other("an owner of sent bytes panicked as it was dropped"));

@@ -341,6 +341,36 @@ fn chunks_are_sent_as_they_are() {
     assert_eq!((to.bytes.len(), to.calls.len() <= 5), (10_100, true), "{}", to.calls());
 }
 
+/// The lengths of the chunks of bodies that are put, and how many chunks are written where they are.
+const PUT: [(&[&[usize]], usize); 8] = [
+    (&[&[3], &[256]], 1),
+    (&[&[3], &[257]], 2),
+    (&[&[3], &[2, 2]], 3),
+    (&[&[3], &[], &[256]], 1),
+    (&[&[3], &[1], &[2, 2], &[3]], 4),
+    (&[&[300], &[3], &[257], &[3]], 3),
+    (&[&[200, 200], &[3], &[4]], 2),
+    (&[&[], &[3], &[257]], 1),
+];
+
+// A body of one chunk and at most 256 bytes is copied if it is put while a frame waits, and nothing but copies after it.
+#[test]
+fn short_bodies_are_copied() {
+    for (lens, kept) in PUT {
+        let bodies: Vec<Vec<IoBuf>> =
+            lens.iter().map(|body| body.iter().map(|len| IoBuf::from(vec![7; *len])).collect()).collect();
+        let mut to = FrameWriter::new(Narrow::new(b"", usize::MAX), ..);
+        bodies.iter().for_each(|body| to.put(IoBufs::from(body.clone())).unwrap());
+        to.send().unwrap();
+        let to = to.into_inner();
+        let found = bodies.iter().flatten().filter(|chunk| to.chunks.contains(&chunk.as_ptr())).count();
+        assert_eq!(found, kept, "{lens:?}");
+        let mut from = FrameReader::new(&to.bytes[..], ..);
+        lens.iter().for_each(|body| assert_eq!(from.next().unwrap().unwrap()[..], vec![7; body.iter().sum()]));
+        assert!(from.next().unwrap().is_none(), "{lens:?}");
+    }
+}
+
 #[test]
 fn frames_of_each_prefix() {
     let cases: [(Prefix, &[u8]); 10] = [
@@ -435,6 +465,16 @@ fn owners_that_panic() {
         assert_eq!(errors, ["an owner of sent bytes panicked as it was dropped"; 2].map(String::from), "by {most}");
         assert_eq!((&to.get_ref().bytes, to.is_sent()), (&sent, false), "by {most}");
     }
+}
+
+// So may that of a body that is copied, in `put`. Its frame is put.
+#[test]
+fn owners_of_copies_that_panic() {
+    let mut to = FrameWriter::new(Narrow::new(b"", 4), ..);
+    to.put("first").unwrap();
+    let put = catch_unwind(AssertUnwindSafe(|| to.put(IoBuf::from_owner(Grenade(*b"boom")))));
+    assert_eq!((put.is_err(), to.unsent(), to.send().is_ok()), (true, 11, true));
+    assert_eq!(to.into_inner().bytes, b"\x05first\x04boom");
 }
 
 // `try_next` reads nothing, `get_mut` gives the stream, and `Debug` says how much is held.

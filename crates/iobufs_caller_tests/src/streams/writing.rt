@@ -80,9 +80,9 @@ fn assert_queued(rt: &(impl Abort + AllocGlobal), case: &Writing, most: usize) -
     for body in bodies {
         put_chunks(rt.alloc(), &mut writer, body)?;
     }
-    assert_same!(rt; writer.unsent(), bodies.len());
+    assert!(rt; !writer.rest.is_empty());
     writer.send()?;
-    assert_same!(rt; writer.unsent(), 0);
+    assert!(rt; writer.rest.is_empty());
     assert_same!(rt; writer.to.record.as_slice(), written, "{prefix:?} by {most}");
     Ok(())
 }
@@ -105,9 +105,30 @@ fn a_frame_follows_the_rest_of_another(rt: HostRuntime) -> Result<(), Fail> {
     put_chunks(rt.alloc(), &mut writer, &[b"abc"])?;
     assert!(rt; writer.send().is_err());
     put_chunks(rt.alloc(), &mut writer, &[b"d"])?;
-    assert_same!(rt; (writer.unsent(), writer.rest.len()), (2, 3));
+    assert_same!(rt; writer.rest.len(), 5);
     writer.send()?;
     assert_same!(rt; writer.to.record.as_slice(), b"\x03abc\x01d".as_slice());
+    Ok(())
+}
+
+// The lengths of two bodies, and how many bytes are in `rest`: a short body is copied there behind the first.
+const PAIRS: [(usize, usize, usize); 5] = rows! {
+    4, 0, 6;
+    4, 256, 263;
+    4, 257, 5;
+    0, 1, 3;
+    300, 3, 306;
+};
+
+#[test]
+fn a_short_body_is_copied(rt: HostRuntime) -> Result<(), Fail> {
+    let alloc = rt.alloc();
+    for (first, second, rest) in PAIRS {
+        let mut writer = FrameWriter::new(alloc, FakeWriter::new(alloc, 100), LONG);
+        writer.put(long(alloc, first)?)?;
+        writer.put(long(alloc, second)?)?;
+        assert_same!(rt; writer.rest.len(), rest, "{first:?}, {second:?}");
+    }
     Ok(())
 }
 

@@ -15,6 +15,8 @@ loop-left-preserved g c =
     let more : l.self.more.items ≡ next ∷ items = c.in-Some.ensures.items in
     let behind : frames_bytes l.self.more.items ≡ frames_bytes (next ∷ items) = ap frames_bytes more in
     let less = l.left - c.len-left.result in
+    let new = c.set.new.self in
+    let set : frames_bytes (new ∷ items) ≡ frames_bytes (next ∷ items) = ap (λ (u : UnsentBytes). frames_bytes (u ∷ items)) c.set.ensures in
     let here : l.left ≡ length l.self.rest.bytes + less =
     omega (arith, c.loop-left-test.true, c.len.ensures, c.len-left.ensures) in record {
       within = omega (
@@ -23,12 +25,14 @@ loop-left-preserved g c =
         here,
         length-append l.self.rest.bytes (frames_bytes l.self.more.items),
         ap (λ (w : List ℕ). length w) behind,
+        ap (λ (w : List ℕ). length w) set,
       );
-      bytes = ap (drop less) (sym behind) ∙ sym (drop-append-add l.self.rest.bytes (frames_bytes l.self.more.items) less)
+      bytes = ap (drop less) set ∙ ap (drop less) (sym behind) ∙ sym (drop-append-add l.self.rest.bytes (frames_bytes l.self.more.items) less)
           ∙ ap (λ n. drop n (unsent_bytes l.self)) (sym here) ∙ l.invariant.bytes;
-      passed = passed_next (unsent_frames c.args.self.now) l.self.rest next items
-          (subst (λ (us : List UnsentBytes). ArePassed (unsent_frames c.args.self.now) l.self.rest us) more l.invariant.passed);
-      same = ap (λ (w : FrameWriter g.row.W.Denot). record w { rest = next; more = c.pop_front.new.self }) l.invariant.same;
+      passed = subst (λ (u : UnsentBytes). ArePassed (unsent_frames c.args.self.now) u items) (sym c.set.ensures)
+          (passed_next (unsent_frames c.args.self.now) l.self.rest next items
+          (subst (λ (us : List UnsentBytes). ArePassed (unsent_frames c.args.self.now) l.self.rest us) more l.invariant.passed));
+      same = ap (λ (w : FrameWriter g.row.W.Denot). record w { rest = new; more = c.pop_front.new.self }) l.invariant.same;
     }
 
 pub returns-clause-passed : goal.returns-clause-passed
