@@ -211,9 +211,9 @@ impl IoBufsMut {
         }
     }
 
-    /// Makes `n` bytes readable, filling the buffers in order; bytes that were not are zero (`IoBufsMut::set_len`,
-    /// which is unsafe there). Each buffer is filled to its capacity before the next one, so readable bytes of later
-    /// buffers are lost if `n` doesn't reach them.
+    /// Makes `n` bytes readable, filling each buffer to its capacity before the next one; bytes that were not are
+    /// zero, and readable bytes of later buffers are lost if `n` doesn't reach them (`IoBufsMut::set_len`, which is
+    /// unsafe there).
     pub fn set_len(&mut self, n: usize)
         requires { n ≤ parts_capacity self.old }
         ensures { self.new ≡ parts_with_len self.old n }

@@ -92,7 +92,7 @@ where
     fn into_parts(self) -> Self::Parts
         ensures { result ≡ Self.parts self };
 
-    /// Encodes the fields into chunks, an `IoBufs` as `X`, and fails, as `EncodeExt::encode_iobufs` does.
+    /// Encodes the fields into chunks, and fails, as `EncodeExt::encode_iobufs` does; name the type `X`: `IoBufs`.
     final fn encode_iobufs<X: FromText>(self, alloc: Global) -> Result<X, Error>
         ensures pieces { IfOk result (λ made. X.as_text made ≡ finished
             (building_after (empty_building (items_inline (Self.Parts.items (Self.parts self))))

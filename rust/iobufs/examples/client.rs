@@ -1,8 +1,8 @@
-//! A client of records: a codec, frames that are sent by short vectored writes and read from chunks of any size, and a
-//! journal of pages.
-use iobufs::codec::{Decode, Encode, RangeCfg};
-use iobufs::{Error, IoBuf, IoBufMut, IoBufs};
-use std::io::{self, ErrorKind, IoSlice};
+//! A client of records: a codec, frames that are sent over a slow writer and read from chunks of any size, and a journal
+//! of pages.
+use iobufs::codec::{Decode, Encode};
+use iobufs::{Error, FrameWriter, Frames, IoBuf, IoBufMut};
+use std::io;
 
 /// The most bytes of a note, of a body, and of a frame.
 const NOTE: usize = 32;
@@ -24,68 +24,6 @@ struct Record {
 }
 
 iobufs::fields! { Record { number: u32, time: i64, note: IoBuf = ..=NOTE, body: IoBuf = ..=BODY } }
-
-/// Chunks that aren't sent yet, written several at a time.
-struct Sender<W> {
-    out: W,
-    unsent: IoBufs,
-}
-
-impl<W: io::Write> Sender<W> {
-    /// Adds a record's frame: its length, and its chunks.
-    fn put(&mut self, record: &Record) {
-        let mut body = record.encode_iobufs();
-        let mut head = IoBufMut::with_capacity(body.len().encode_size());
-        body.len().write(&mut head);
-        self.unsent.append(head.freeze());
-        while body.has_remaining() {
-            let len = body.chunk().len();
-            self.unsent.append(body.take_view(len));
-        }
-    }
-
-    /// Writes all, however little each write takes.
-    fn send(&mut self) -> io::Result<usize> {
-        let mut writes = 0;
-        while !self.unsent.is_empty() {
-            let mut chunks = [IoSlice::new(&[]); 8];
-            let count = self.unsent.chunks_vectored(&mut chunks);
-            match self.out.write_vectored(&chunks[..count]) {
-                Ok(0) => return Err(ErrorKind::WriteZero.into()),
-                Ok(n) => self.unsent.advance(n),
-                Err(error) if error.kind() == ErrorKind::Interrupted => continue,
-                Err(error) => return Err(error),
-            }
-            writes += 1;
-        }
-        Ok(writes)
-    }
-}
-
-/// Frames of bytes that come in chunks.
-#[derive(Default)]
-struct Receiver {
-    held: IoBufs,
-}
-
-impl Receiver {
-    fn feed(&mut self, chunk: &[u8]) {
-        self.held.append(IoBuf::copy_from_slice(chunk));
-    }
-
-    /// Takes the first frame's record, if the frame is whole.
-    fn next(&mut self) -> Result<Option<Record>, Error> {
-        let mut rest = self.held.clone();
-        let len = match usize::read_cfg(&mut rest, &RangeCfg::from(0..=FRAME)) {
-            Ok(len) if len <= rest.len() => len,
-            Ok(_) | Err(Error::EndOfBuffer) => return Ok(None),
-            Err(error) => return Err(error),
-        };
-        let frame = rest.split_to(len);
-        self.held = rest;
-        Record::decode_cfg(frame, &()).map(Some)
-    }
-}
 
 /// A journal: pages of entries, each a mark, a length of two bytes, and a record.
 #[derive(Default)]
@@ -137,13 +75,18 @@ impl Journal {
     }
 }
 
-/// A writer that takes few bytes at a time.
-struct Slow(Vec<u8>);
+/// A writer that takes few bytes at a time, and counts its writes.
+#[derive(Default)]
+struct Slow {
+    taken: Vec<u8>,
+    writes: usize,
+}
 
 impl io::Write for Slow {
     fn write(&mut self, bytes: &[u8]) -> io::Result<usize> {
         let n = bytes.len().min(1000);
-        self.0.extend_from_slice(&bytes[..n]);
+        self.taken.extend_from_slice(&bytes[..n]);
+        self.writes += 1;
         Ok(n)
     }
 
@@ -161,28 +104,36 @@ fn main() -> Result<(), Box<dyn std::error::Error>> {
     };
     let records = [record(1, 0), record(2, 100), record(3, 5000), record(4, 64)];
 
-    let mut sender = Sender { out: Slow(Vec::new()), unsent: IoBufs::default() };
-    records.iter().for_each(|record| sender.put(record));
-    let writes = sender.send()?;
+    let mut to = FrameWriter::new(Slow::default(), ..=FRAME);
+    for record in &records {
+        to.put(record.encode_iobufs())?; // shares the body
+    }
+    to.send()?;
+    let sent = to.into_inner();
     for size in [1, 7, 4096] {
-        let (mut receiver, mut back) = (Receiver::default(), Vec::new());
-        for chunk in sender.out.0.chunks(size) {
-            receiver.feed(chunk);
-            while let Some(record) = receiver.next()? {
-                back.push(record);
+        let (mut frames, mut back) = (Frames::default(), Vec::new());
+        for chunk in sent.taken.chunks(size) {
+            frames.feed(IoBuf::copy_from_slice(chunk));
+            while let Some(body) = frames.next(..=FRAME)? {
+                back.push(Record::decode_cfg(body, &())?);
             }
         }
         assert_eq!(back, records);
     }
-    let mut receiver = Receiver::default();
-    receiver.feed(&[255, 255, 255, 127]);
-    assert_eq!(receiver.next(), Err(Error::InvalidLength((1 << 28) - 1)));
+    let mut frames = Frames::default();
+    frames.feed(IoBuf::from(b"\xff\xff\xff\x7f")); // a length above the limit
+    assert_eq!(frames.next(..=FRAME), Err(Error::InvalidLength((1 << 28) - 1)));
 
     let mut journal = Journal::default();
     let fits: Vec<bool> = records.iter().map(|record| journal.append(record)).collect();
     journal.close();
     assert_eq!(fits, [true, true, false, true]);
     assert_eq!(journal.replay()?, [record(1, 0), record(2, 100), record(4, 64)]);
-    println!("{} records in {writes} writes, {} pages", records.len(), journal.pages.len());
+    println!("{} records in {} writes, {} pages", records.len(), sent.writes, journal.pages.len());
     Ok(())
+}
+
+#[test]
+fn records_come_back_from_frames_and_pages() {
+    main().unwrap();
 }

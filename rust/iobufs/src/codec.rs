@@ -35,6 +35,20 @@
 //! assert!(Event::read_cfg(&mut IoBuf::from(b"\x01\0\0\0\x07\x05"), &()).is_err()); // an invalid `bool`
 //! ```
 //!
+//! `kinds!` has `TAG => Variant(name: Type, ..)` for each variant, with a name for each field, although the enum's own
+//! fields have none; a variant without fields has no brackets. In both macros a field whose `Cfg` isn't `()` has it
+//! after a `=`: a range of lengths, as `..=32`, or for a list the range of its count beside the `Cfg` of its items:
+//!
+//! ```
+//! # use iobufs::codec::Encode;
+//! struct Batch { numbers: Vec<u16>, names: Vec<String> }
+//! iobufs::fields! { Batch {
+//!     numbers: Vec<u16> = ((..=8).into(), ()),
+//!     names: Vec<String> = ((..=8).into(), (..=32).into()),
+//! } }
+//! assert_eq!(Batch { numbers: vec![1], names: vec!["a".into()] }.encode(), "\x01\0\x01\x01\x01a");
+//! ```
+//!
 //! Both macros write an impl of [`ByParts`]. A type that needs more implements it itself. `examples/client.rs` sends
 //! such records in frames, and keeps them in pages.
 #![forbid(unsafe_code)]
