@@ -140,10 +140,15 @@ conversions! {
         IoBufMut::from(storage)
     };
     BytesMut => IoBufsMut, |bytes: BytesMut| IoBufMut::from(bytes).into();
-    /// Copies nothing: a `Bytes` comes back as it was, and other bytes are kept by the view.
-    IoBuf => Bytes, |view: IoBuf| match view.0.into_shared() {
-        Ok(bytes) => bytes.0,
-        Err(view) => Bytes::from_owner(IoBuf(view)),
+    /// Copies nothing: a `Bytes` comes back as it was, and other bytes are kept by the view. An empty view drops its
+    /// share of the storage.
+    IoBuf => Bytes, |view: IoBuf| if view.is_empty() {
+        Bytes::new()
+    } else {
+        match view.0.into_shared() {
+            Ok(bytes) => bytes.0,
+            Err(view) => Bytes::from_owner(IoBuf(view)),
+        }
     };
     IoBufMut => Bytes, |part: IoBufMut| part.freeze().into();
 }
