@@ -47,7 +47,7 @@ thread_local! {
     static SPARE: Cell<Option<Apart>> = const { Cell::new(None) };
 }
 
-/// Nothing: `Space::new` makes room for a head.
+/// Nothing: `Space::new` makes room for a head, or the thread keeps its place.
 pub struct Shell(());
 
 impl Shell {
@@ -74,11 +74,13 @@ impl Space {
         Space { storage, limit }
     }
 
-    /// Returns an empty space of a capacity of `n`, and room for a head after that.
+    /// Returns an empty space of a capacity of `n`, and room for a head after that, but of some sizes.
     #[inline]
     pub fn new(alloc: Global, n: usize, shell: Shell) -> Result<(Space, Shell), AllocError> {
-        // glibc's fast bins end at 1,032 bytes: a head apart costs less than leaving them.
-        let room = if (1033 - ROOM..=1032).contains(&n) { 0 } else { ROOM };
+        // glibc's cache of a thread (tcache) has blocks of at most 1,032 bytes: a head apart costs less than leaving it.
+        // Where a refused allocation is an error there is room, so that sharing allocates nothing.
+        let is_apart = ENDS_IF_REFUSED && (1033 - ROOM..=1032).contains(&n);
+        let room = if is_apart { 0 } else { ROOM };
         let storage = Vec::with_capacity(alloc, n.saturating_add(room))?;
         Ok((Space { storage, limit: n }, shell))
     }
@@ -345,7 +347,7 @@ impl Block {
 impl Drop for Block {
     #[inline]
     fn drop(&mut self) {
-        // Without another handle no thread has counted, and none can.
+        // Another handle comes of `share` alone, which stores first: without one, nothing else counts.
         if !self.head().shared.load(Ordering::Relaxed) || self.head().handles.remove() {
             // SAFETY: this was the last handle.
             unsafe { Block::free(self.head) }

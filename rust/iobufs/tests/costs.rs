@@ -1,15 +1,27 @@
-//! Allocations of calls: no more than what they take, give or drop needs, also of many chunks.
+//! Allocations of calls: no more than what they take, give or drop needs, also of many chunks. What a thread keeps.
 use bytes::{Bytes, BytesMut};
 use iobufs::{FrameCodec, FrameReader, FrameWriter, Frames, IoBuf, IoBufMut, IoBufs, IoBufsMut, Prefix};
 use std::alloc::{GlobalAlloc, Layout, System};
 use std::cell::Cell;
 use std::io::Read;
+use std::sync::atomic::{AtomicIsize, Ordering};
+use std::thread;
 
 thread_local! {
     /// How often this thread has allocated, how many bytes, and how many of these it hasn't freed.
     static COUNT: Cell<usize> = const { Cell::new(0) };
     static ALLOCATED: Cell<usize> = const { Cell::new(0) };
     static HELD: Cell<isize> = const { Cell::new(0) };
+    /// Where this thread counts what it holds, so that another can read it after its end.
+    static SEEN: Cell<Option<&'static AtomicIsize>> = const { Cell::new(None) };
+}
+
+/// Counts that this thread holds so many bytes more.
+fn hold(n: isize) {
+    HELD.set(HELD.get() + n);
+    if let Some(seen) = SEEN.get() {
+        seen.fetch_add(n, Ordering::Relaxed);
+    }
 }
 
 struct Counting;
@@ -22,13 +34,13 @@ unsafe impl GlobalAlloc for Counting {
     unsafe fn alloc(&self, layout: Layout) -> *mut u8 {
         COUNT.set(COUNT.get() + 1);
         ALLOCATED.set(ALLOCATED.get() + layout.size());
-        HELD.set(HELD.get() + layout.size() as isize);
+        hold(layout.size() as isize);
         // SAFETY: the caller's duty.
         unsafe { System.alloc(layout) }
     }
 
     unsafe fn dealloc(&self, at: *mut u8, layout: Layout) {
-        HELD.set(HELD.get() - layout.size() as isize);
+        hold(-(layout.size() as isize));
         // SAFETY: the caller's duty.
         unsafe { System.dealloc(at, layout) }
     }
@@ -57,6 +69,17 @@ fn allocations<R>(call: impl FnOnce() -> R) -> usize {
     let before = COUNT.get();
     drop(call());
     COUNT.get() - before
+}
+
+/// How many bytes a new thread holds once its call has ended, and after its own end.
+fn held_by_thread<R>(call: impl FnOnce() -> R + Send + 'static) -> (isize, isize) {
+    let seen: &AtomicIsize = Box::leak(Box::default());
+    let run = move || {
+        SEEN.set(Some(seen));
+        drop(call());
+        seen.load(Ordering::Relaxed)
+    };
+    (thread::spawn(run).join().unwrap(), seen.load(Ordering::Relaxed))
 }
 
 const CHUNKS: usize = 100_000;
@@ -115,17 +138,64 @@ fn heads_of_adopted_vectors() {
         let vec = vec![1; n];
         allocated(|| IoBuf::from(vec))
     };
-    assert_eq!((adopted(64), adopted(64), adopted(1)), (32, 0, 0));
+    assert_eq!((adopted(64), adopted(64), adopted(1)), (48, 0, 0));
     let (first, second) = (vec![1; 64], vec![2; 64]);
     let mut both = None;
-    assert_eq!(allocated(|| both = Some([IoBuf::from(first), IoBuf::from(second)])), 32);
+    assert_eq!(allocated(|| both = Some([IoBuf::from(first), IoBuf::from(second)])), 48);
     let [first, second] = both.unwrap();
     assert_eq!((first.try_into_mut().unwrap().as_ref(), &second[..]), (&[1; 64][..], &[2; 64][..]));
     drop(second);
     assert_eq!(adopted(9), 0);
     let sent = IoBuf::from(vec![3; 9]);
-    std::thread::spawn(move || assert_eq!((sent, adopted(9)), (vec![3; 9].into(), 32))).join().unwrap();
-    assert_eq!(adopted(9), 32);
+    std::thread::spawn(move || assert_eq!((sent, adopted(9)), (vec![3; 9].into(), 48))).join().unwrap();
+    assert_eq!(adopted(9), 48);
+}
+
+/// A buffer has room for its head, unless the cache that glibc has for each thread has no block of that size. Once such a
+/// buffer is full, its head is as that of an adopted `Vec`.
+#[test]
+fn heads_of_buffers() {
+    let sizes = [1, 977, 978, 1032, 1033, 4096].map(|n| allocated(|| IoBufMut::with_capacity(n)) - n);
+    assert_eq!(sizes, [55, 55, 0, 0, 55, 55]);
+    let frozen = |n: usize| {
+        allocations(|| {
+            let mut part = IoBufMut::with_capacity(n);
+            part.put_bytes(1, n);
+            part.freeze()
+        })
+    };
+    assert_eq!([1, 977, 1032, 1032, 1033].map(frozen), [1, 1, 2, 1, 1]);
+}
+
+/// A list of two to four chunks or buffers has space for four. Its thread keeps the last such space that it frees, for
+/// its next list.
+#[test]
+fn small_lists() {
+    let bufs = |n: u8| (0..n).map(|_| IoBuf::from_static(b"chunk")).collect::<IoBufs>();
+    let parts = |n: u8| (0..n).map(|_| IoBufMut::zeroed(100)).collect::<IoBufsMut>();
+    let run = move || {
+        let (two, four, five) = (bufs(2), bufs(4), bufs(5));
+        // A kept clone of two chunks holds 160 bytes.
+        assert_eq!((held(|| two.clone()), held(|| two.clone())), (160, 0));
+        let clones = [two.clone(), four.clone(), two.clone()];
+        assert_eq!([&two, &four, &five].map(|it| allocations(|| it.clone())), [1, 0, 1]);
+        drop(clones);
+        assert_eq!([&two, &four, &five].map(|it| allocations(|| it.clone())), [0, 0, 1]);
+        // Two buffers, whose list takes it; the list of what is frozen of them is made before that is free.
+        assert_eq!([allocations(|| parts(2)), allocations(|| parts(2).freeze())], [2, 3]);
+    };
+    thread::spawn(run).join().unwrap();
+}
+
+/// A thread keeps one list's space and one head's place, 208 bytes, and frees them as it ends.
+#[test]
+fn what_a_thread_keeps() {
+    let lists = || {
+        let text: IoBufs = [IoBuf::from(vec![1; 9]), IoBuf::from(vec![2; 9]), IoBuf::from(vec![3; 9])].into();
+        (0..9).map(|_| text.clone()).collect::<Vec<_>>()
+    };
+    let (nothing, kept) = (held_by_thread(|| ()), held_by_thread(lists));
+    assert_eq!((kept.0 - nothing.0, kept.1 - nothing.1), (208, 0));
 }
 
 /// No bytes keep no storage. The thread may keep the place of a head.
@@ -142,7 +212,7 @@ fn empty_slices() {
         },
     ];
     let kept = slices.map(held);
-    assert!(kept.iter().all(|it| *it <= 32), "{kept:?}");
+    assert!(kept.iter().all(|it| *it <= 48), "{kept:?}");
 }
 
 /// A frame is encoded into space that is reserved at once.

@@ -116,11 +116,23 @@ fn heads_beside_storage() {
     }
 }
 
+/// Space that is made has room for its head.
+#[test]
+fn heads_of_new_space() {
+    for n in [1, 977, 978, 1032, 1033, 4096] {
+        let of = spent(|| {
+            let (space, shell) = Space::new(Global, n, Shell::none()).unwrap();
+            drop(Block::new(Global, shell, space).unwrap());
+        });
+        assert_eq!((of.allocations, of.frees), (1, 1), "{n}");
+    }
+}
+
 /// A head in the spare capacity stays inside it, wherever the storage begins: its neighbour is as it was.
 #[test]
 fn heads_in_storage() {
     let of = spent(|| {
-        for (shift, spare) in (0..8).flat_map(|shift| (30..64).map(move |spare| (shift, spare))) {
+        for (shift, spare) in (0..8).flat_map(|shift| (46..72).map(move |spare| (shift, spare))) {
             let _before = Vec::from_slice(Global, &[1u8; 8][..shift]).unwrap();
             let mut storage = Vec::with_capacity(Global, 5 + spare).unwrap();
             storage.extend_from_slice(b"hello").unwrap();

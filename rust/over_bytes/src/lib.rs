@@ -22,6 +22,8 @@ mod collections_tests;
 mod count;
 #[path = "../../iobufs/layer/deque.rs"]
 mod deque;
+#[path = "../../iobufs/layer/few.rs"]
+mod few;
 #[path = "../../kit/src/fs.rs"]
 pub mod fs;
 #[path = "../../iobufs/layer/held.rs"]
