@@ -1,9 +1,27 @@
-//! An atomic number whose accesses are logged.
+//! An atomic number whose accesses are logged, and a flag whose accesses aren't: they are no steps of the machine.
 #![forbid(unsafe_code)]
 
-use super::sync::{AtomicUsize as Inner, turn};
+use super::sync::{AtomicBool as Flag, AtomicUsize as Inner, turn};
 use crate::log::{Event, note, unlogged};
 pub use std::sync::atomic::Ordering;
+
+pub struct AtomicBool(Flag);
+
+impl AtomicBool {
+    pub fn new(is: bool) -> AtomicBool {
+        AtomicBool(unlogged(|| Flag::new(is)))
+    }
+
+    pub fn load(&self, order: Ordering) -> bool {
+        let _turn = turn();
+        unlogged(|| self.0.load(order))
+    }
+
+    pub fn store(&self, is: bool, order: Ordering) {
+        let _turn = turn();
+        unlogged(|| self.0.store(is, order));
+    }
+}
 
 pub struct AtomicUsize(Inner);
 

@@ -10,6 +10,8 @@ pub mod atomic;
 pub mod block;
 #[path = "../../iobufs/layer/count.rs"]
 mod count;
+#[path = "../../iobufs/layer/few.rs"]
+mod few;
 #[path = "../../iobufs/layer/held.rs"]
 pub mod held;
 #[path = "../../kit/src/bytes.rs"]

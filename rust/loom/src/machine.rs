@@ -9,9 +9,9 @@ use crate::order::in_order;
 use crate::proved::iobufs_owner::{Act, Call, Format, Handle, Kind, Machine, Pending, Reply, Step, Word};
 use std::collections::{BTreeMap, HashMap};
 
-/// Whether a drop of a view may free the storage without a subtraction, if its count was never accessed: the layer's
-/// doesn't.
-pub const FREES_UNSHARED: bool = false;
+/// Whether a drop of a view may free the storage without a subtraction, if its count was never accessed, as the layer's
+/// does.
+pub const FREES_UNSHARED: bool = true;
 
 /// What was executed.
 #[derive(Default)]

@@ -2,7 +2,7 @@
 #![forbid(unsafe_code)]
 
 use loom::cell::UnsafeCell;
-pub use loom::sync::atomic::AtomicUsize;
+pub use loom::sync::atomic::{AtomicBool, AtomicUsize};
 use std::rc::Rc;
 
 /// Nothing is kept in a thread local: loom's threads share those of std.

@@ -2,7 +2,7 @@
 #![forbid(unsafe_code)]
 
 use super::rounds::below;
-pub use std::sync::atomic::AtomicUsize;
+pub use std::sync::atomic::{AtomicBool, AtomicUsize};
 use std::sync::{Mutex, MutexGuard, PoisonError};
 use std::thread;
 
