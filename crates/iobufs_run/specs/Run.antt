@@ -46,56 +46,22 @@ IsFault text range _ = ⊥
 -- where no cause holds, a command may be refused for this: a view that may be shared is declined, or what is read has
 -- a fault
 abbrev pub MayFail : List Slot → Cmd → Refusal → Type 0
-MayFail names (NewMut dst capacity align) refusal = ⊥
-MayFail names (Zeroed dst len align) refusal = ⊥
-MayFail names (Adopt dst bytes) refusal = ⊥
-MayFail names (Static dst text) refusal = ⊥
-MayFail names (FromBytes dst bytes) refusal = ⊥
-MayFail names (Put target bytes) refusal = ⊥
-MayFail names (Fill target byte n) refusal = ⊥
-MayFail names (SetLen target n) refusal = ⊥
-MayFail names (Truncate target n) refusal = ⊥
-MayFail names (Clear target) refusal = ⊥
-MayFail names (Overwrite target bytes) refusal = ⊥
-MayFail names (Freeze src dst) refusal = ⊥
 MayFail names (Recover src dst) refusal = (refusal ≡ Declined) × IsTrue (is_native_view (slot_named names src))
-MayFail names (Clone src dst) refusal = ⊥
-MayFail names (Slice src dst lo hi) refusal = ⊥
-MayFail names (Split src dst at) refusal = ⊥
-MayFail names (Advance target n) refusal = ⊥
-MayFail names (Take target n) refusal = ⊥
-MayFail names (Gather dst sources) refusal = ⊥
-MayFail names (GatherMut dst sources) refusal = ⊥
-MayFail names (Append target src) refusal = ⊥
-MayFail names (Prepend target src) refusal = ⊥
-MayFail names (Coalesce src dst) refusal = ⊥
-MayFail names (Build dst capacity items) refusal = ⊥
-MayFail names (Encode src dst) refusal = ⊥
 MayFail names (Decode src dst range) refusal = IsFault (marked_held (slot_named names src)) range refusal
-MayFail names (Drop target) refusal = ⊥
-MayFail names (Show target) refusal = ⊥
+MayFail names _ refusal = ⊥
 
 -- where no cause holds and nothing fails, the command may be refused for a failed allocation
 abbrev pub MayWantMemory : List Slot → Cmd → Type 0
 MayWantMemory names (NewMut dst capacity align) = IsTrue (not (capacity == 0))
 MayWantMemory names (Zeroed dst len align) = IsTrue (not (len == 0))
 MayWantMemory names (Adopt dst bytes) = IsTrue (not (length bytes.items == 0))
-MayWantMemory names (Static dst text) = ⊥
 MayWantMemory names (FromBytes dst bytes) = IsTrue (not (length bytes.items == 0))
-MayWantMemory names (Put target bytes) = ⊥
-MayWantMemory names (Fill target byte n) = ⊥
-MayWantMemory names (SetLen target n) = ⊥
-MayWantMemory names (Truncate target n) = ⊥
-MayWantMemory names (Clear target) = ⊥
-MayWantMemory names (Overwrite target bytes) = ⊥
 MayWantMemory names (Freeze src dst) = IsTrue (not (readable (slot_named names src) == 0))
-MayWantMemory names (Recover src dst) = ⊥
 MayWantMemory names (Clone src dst) = Unit {0}
 MayWantMemory names (Slice src dst lo hi) =
     IsTrue (not (is_empty_range lo hi (readable (slot_named names src))) && not (is_static_view (slot_named names src)))
 MayWantMemory names (Split src dst at) =
     IsTrue (not (at == 0) && not (at == readable (slot_named names src)) && not (is_static_view (slot_named names src)))
-MayWantMemory names (Advance target n) = ⊥
 MayWantMemory names (Take target n) = IsTrue (not (n == 0))
 MayWantMemory names (Gather dst sources) = IsTrue (not (length sources.items == 0))
 MayWantMemory names (GatherMut dst sources) = IsTrue (not (length sources.items == 0))
@@ -107,8 +73,8 @@ MayWantMemory names (Coalesce src dst) = IsTrue (is_in_pieces (slot_named names 
 MayWantMemory names (Build dst capacity items) = Unit {0}
 MayWantMemory names (Encode src dst) = Unit {0}
 MayWantMemory names (Decode src dst range) = IsViewRead (marked_held (slot_named names src)) range (Err fault.Memory)
-MayWantMemory names (Drop target) = ⊥
 MayWantMemory names (Show target) = Unit {0}
+MayWantMemory names _ = ⊥
 
 -- the names whose buffers a command moves away
 abbrev pub consumed : Cmd → List ℕ
