@@ -253,6 +253,7 @@ fn is_cut(alloc: Global, given: &Given, shape: &Shape, span: Span) -> Result<boo
     let bytes = shape.bytes(span);
     match given {
         Given::Nothing => Ok(true),
+        Given::Wrong => Ok(false),
         Given::View(view) | Given::Shared(view) => Ok(view.as_ref() == bytes),
         Given::Bytes(given) => Ok(given.as_slice() == bytes),
         Given::List(list) => Ok(list.as_slice() == bytes),

@@ -34,6 +34,8 @@ pub enum Given {
     // or a single chunk.
     Chunks(IoBufs),
     Parts(IoBufsMut),
+    // Other bytes than those that the call was given.
+    Wrong,
 }
 
 #[derive(Clone, Copy, Debug)]
@@ -259,12 +261,12 @@ fn memory<T: Drop>(read: Result<T, Error>) -> Result<T, BufError> {
     })
 }
 
-// Nothing, or the cause of a refusal that hands these bytes back.
+// Nothing, or the cause of a refusal that hands these bytes back. Other bytes are wrong.
 fn kept(answer: Result<(), Refused<IoBuf>>, bytes: &[u8]) -> Result<Given, BufError> {
     match answer {
         Ok(()) => Ok(Given::Nothing),
         Err(refused) if refused.value.as_ref() == bytes => Err(refused.cause),
-        Err(_) => Err(BufError::TooLong),
+        Err(_) => Ok(Given::Wrong),
     }
 }
 
