@@ -14,8 +14,8 @@
 //! A view that is read shares the buffer's storage, if it is in one chunk. **A value is read whole: if that fails, the
 //! buffer is unchanged.**
 //!
-//! A struct of a caller is written and read as the tuple of its fields, by [`fields!`](crate::fields). An enum is a
-//! byte that says which variant it is, and then the variant's fields, by [`kinds!`](crate::kinds):
+//! A struct of a caller is written and read field by field, by [`fields!`](crate::fields). An enum is a byte that says
+//! which variant it is, and then the variant's fields, by [`kinds!`](crate::kinds):
 //!
 //! ```
 //! use iobufs::IoBuf;
