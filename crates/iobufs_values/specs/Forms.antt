@@ -348,23 +348,22 @@ read_back {written = written} form x y cfg text skip rest ok e found =
     let whole : d ≡ written y ++ drop (length (written y)) d = whole_by (written y) d front in
     form.no_front x y cfg cfg rest (drop (length (written y)) d) ok ok' (sym e ∙ whole)
 
-pub form_as : {S A C D : Type 0} {w : A → List ℕ} {same : A → A → Type 0} {ok : C → A → Type 0} {found : MarkedText → ℕ → C → A → Type 0}
-    {fault : MarkedText → ℕ → C → Fault → Type 0} → (parts : S → A) (config : D → C) (written : S → List ℕ)
+pub form_as : {S A C : Type 0} {w : A → List ℕ} {same : A → A → Type 0} {ok : C → A → Type 0} {found : MarkedText → ℕ → C → A → Type 0}
+    {fault : MarkedText → ℕ → C → Fault → Type 0} → (parts : S → A) (written : S → List ℕ)
     → ((s : S) → written s ≡ w (parts s))
     → IsForm A C w same ok found fault
-    → IsForm S D written (λ s t. same (parts s) (parts t)) (λ cfg s. ok (config cfg) (parts s))
-    (λ text skip cfg s. found text skip (config cfg) (parts s))
-    (λ text skip cfg f. fault text skip (config cfg) f)
-form_as {w = w} parts config written is form = record {
+    → IsForm S C written (λ s t. same (parts s) (parts t)) (λ cfg s. ok cfg (parts s)) (λ text skip cfg s. found text skip cfg (parts s))
+    fault
+form_as {w = w} parts written is form = record {
   same_written = λ x y h. is x ∙ form.same_written (parts x) (parts y) h ∙ sym (is y);
   no_front = λ x y cfg other u v p q e.
-      form.no_front (parts x) (parts y) (config cfg) (config other) u v p q
+      form.no_front (parts x) (parts y) cfg other u v p q
       (ap (λ zs. zs ++ u) (sym (is x)) ∙ e ∙ ap (λ zs. zs ++ v) (is y));
   found_written = λ x cfg text skip h.
-      let (ok', front) = form.found_written (parts x) (config cfg) text skip h in
+      let (ok', front) = form.found_written (parts x) cfg text skip h in
       (ok', subst (λ (zs : List ℕ). take (length zs) (drop skip text.bytes) ≡ zs) (sym (is x)) front);
-  refuses = λ x cfg text skip rest e p d h. form.refuses (parts x) (config cfg) text skip rest e p (d ∙ ap (λ zs. zs ++ rest) (is x)) h;
-  one_fault = λ s t skip cfg. form.one_fault s t skip (config cfg);
+  refuses = λ x cfg text skip rest e p d h. form.refuses (parts x) cfg text skip rest e p (d ∙ ap (λ zs. zs ++ rest) (is x)) h;
+  one_fault = form.one_fault;
 }
 
 -- ---- a value that is there or not

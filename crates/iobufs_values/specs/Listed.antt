@@ -23,24 +23,29 @@ use Rattle.iobufs_values.specs.declared.fault.Fault.{Fault}
 use Rattle.iobufs_values.specs.Form.{IsForm, IsCodecFault, IsPairFault, no_memory}
 use Rattle.iobufs_values.specs.Forms.{behind_first, found_or_memory, found_same, length_form, read_back, two_bytes}
 
+-- the number of values as a varint, and then each value
 abbrev pub list_written : {Value : Type 0} → (Value → List ℕ) → List Value → List ℕ
 list_written written values = spell (length values) ++ flat_map written values
 
+-- the puts and pushes that write a list
 abbrev pub list_items : {Value : Type 0} → (Value → List PutOrPush) → List Value → List PutOrPush
 list_items items values = put_item (spell (length values)) ∷ flat_map items values
 
+-- each value follows the one before it, the first after `skip` bytes
 abbrev pub AreFound : {Value Cfg : Type 0} → (Value → List ℕ) → (MarkedText → ℕ → Cfg → Value → Type 0) → MarkedText → ℕ → Cfg → List Value
     → Type 0
 AreFound written is_found text skip cfg [] = Unit {0}
 AreFound written is_found text skip cfg (x ∷ xs) = is_found text skip cfg x
     × AreFound written is_found text (skip + length (written x)) cfg xs
 
+-- a number in the range is there, and that many values follow it
 abbrev pub IsListFound : {Value Cfg : Type 0} → (Value → List ℕ) → (MarkedText → ℕ → Cfg → Value → Type 0) → MarkedText → ℕ → RangeCfg × Cfg
     → List Value
     → Type 0
 IsListFound written is_found text skip cfg values = IsLengthRead (drop skip text.bytes) cfg.0 (Ok (length values))
     × AreFound written is_found text (skip + length (spell (length values))) cfg.1 values
 
+-- one of the next `n` values has this fault, and those before it are there
 abbrev pub IsOneFault : {Value Cfg : Type 0} → (Value → List ℕ) → (MarkedText → ℕ → Cfg → Value → Type 0)
     → (MarkedText → ℕ → Cfg → Fault → Type 0)
     → ℕ → MarkedText → ℕ → Cfg → Fault → Type 0
@@ -48,6 +53,7 @@ IsOneFault written is_found is_fault zero text skip cfg fault = ⊥
 IsOneFault written is_found is_fault (suc n) text skip cfg fault =
     IsPairFault written is_found is_fault (λ t k f. IsOneFault written is_found is_fault n t k cfg f) text skip cfg fault
 
+-- no number in the range is there; or a value after it has this fault, or an allocation for one or more values failed
 abbrev pub IsListFault : {Value Cfg : Type 0} → (Value → List ℕ) → (MarkedText → ℕ → Cfg → Value → Type 0)
     → (MarkedText → ℕ → Cfg → Fault → Type 0)
     → MarkedText → ℕ → RangeCfg × Cfg → Fault → Type 0
@@ -56,6 +62,7 @@ IsListFault written is_found is_fault text skip cfg fault = IsCodecFault
     ⊎ ((n : ℕ) × IsLengthRead (drop skip text.bytes) cfg.0 (Ok n)
     × (IsOneFault written is_found is_fault n text (skip + length (spell n)) cfg.1 fault ⊎ ((fault ≡ no_memory) × (0 < n))))
 
+-- as many values, and each is that of the other list
 abbrev pub AreSame : {Value : Type 0} → (Value → Value → Type 0) → List Value → List Value → Type 0
 AreSame same [] [] = Unit {0}
 AreSame same [] (y ∷ ys) = ⊥

@@ -94,7 +94,7 @@ impl<const TAG: u8, T: Look + Drop> Look for Kind<TAG, T> {
         Ok((Kind { value }, 1 + len))
     }
 
-    ghost form = { form_as (λ kind. kind.value) (λ cfg. cfg) (λ kind. TAG ∷ T.written kind.value) (λ kind. refl)
+    ghost form = { form_as (λ kind. kind.value) (λ kind. TAG ∷ T.written kind.value) (λ kind. refl)
         (kind_form TAG T.form) };
 }
 

@@ -78,7 +78,7 @@ impl<T: Look + Drop> Look for List<T> {
         Ok((List { values }, len + more))
     }
 
-    ghost form = { form_as (λ list. list.values.items) (λ cfg. cfg) (λ list. list_written T.written list.values.items)
+    ghost form = { form_as (λ list. list.values.items) (λ list. list_written T.written list.values.items)
         (λ list. refl)
         (list_form T.form) };
 }

@@ -90,7 +90,7 @@ impl<N: SignedNumber> Look for Signed<N> {
         Ok((Signed { value }, len))
     }
 
-    ghost form = { form_as (λ n. n.value) (λ cfg. cfg) (λ n. N.Bits.written (N.bits n.value)) (λ n. refl)
+    ghost form = { form_as (λ n. n.value) (λ n. N.Bits.written (N.bits n.value)) (λ n. refl)
         (signed_form N.fits N.bits N.Bits.form N.one N.admitted) };
 }
 

@@ -81,7 +81,7 @@ impl Look for Message {
     }
 
     // The forms of the fields, paired; `form_as` takes the struct apart.
-    ghost form = { form_as (λ m. (m.number, (m.kind, m.body))) (λ cfg. cfg)
+    ghost form = { form_as (λ m. (m.number, (m.kind, m.body)))
         (λ m. to_be_bytes w32 m.number ++ ((m.kind ∷ []) ++ view_written m.body)) (λ m. refl)
         (pair_form (number_form _ (to_be_bytes w32) 4 form_32) (pair_form (number_form _ (λ n. n ∷ []) 1 form_8)
         (bytes_form (λ view. view.bytes) (λ view made. made ≡ view) (λ view made is. ap (λ v. v.bytes) is)))) };
