@@ -1,4 +1,3 @@
 mod Again
-mod Cut
 mod InOrderLaws
 mod WebLaws

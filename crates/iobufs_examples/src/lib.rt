@@ -1,8 +1,7 @@
-//! Proved callers: frames, messages, senders, stores, a cipher, a pool.
+//! Proved callers: frames, messages, senders, stores, a pool.
 //!
 //! - `frame`: a frame codec. `echo`: frames sent back. `store`, `fill`: writable buffers, and one filled from a reader.
-//!   `cipher`: chunks changed in place. `keys`: views as keys of a map. `pool`, a caller of the machine: the memory of
-//!   freed blocks.
+//!   `pool`, a caller of the machine: the memory of freed blocks.
 //! - `web`: bodies of HTTP messages. `polled`: senders to an async writer.
 //! - `start`: a log of entries, a crate to begin with.
 //! - `note`, `request`: messages, and an enum, read by their parts. `alike`: code that is generic in the value and in
@@ -11,15 +10,12 @@
 #![tactic(auto)]
 
 pub mod alike;
-pub mod cipher;
 pub mod echo;
 pub mod fill;
 pub mod frame;
-pub mod keys;
 pub mod note;
 pub mod polled;
 pub mod pool;
-pub mod records;
 pub mod request;
 pub mod start;
 pub mod store;
