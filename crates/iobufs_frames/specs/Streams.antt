@@ -12,9 +12,11 @@
 --     unsent_frames, unsent_bytes     the frames of a writer of which bytes are not sent, and these bytes
 --     IsIdle          all that was put is sent
 --     BeginsWriting   a writer to which nothing was put
---     PutsFrame       a frame follows those that are not sent, or the body is handed back
+--     CanWait         a frame can be sent, and fewer than 2^64 bytes wait with it
+--     FollowsOthers   a frame follows those that are not sent
+--     PutsFrame       so if some are not sent; or the body is handed back
 --     SendsRest       bytes of the frames went, in order, and the others are left
-use Rattle.std.specs.Prelude.{◌≡◌, ◌≢◌, ◌⊎◌, ℕ, ◌+◌, ◌<◌, ◌==◌, if◌then◌else◌, Bool, true, false, Option, Result, Ok, Err, IfOk, IfSome, List, [], ◌∷◌, ◌++◌, length}
+use Rattle.std.specs.Prelude.{◌≡◌, ◌≢◌, ◌⊎◌, ℕ, ◌+◌, ◌^◌, ◌<◌, Bool, true, false, Option, Result, Ok, Err, IfOk, IfSome, List, [], ◌∷◌, ◌++◌, length}
 use Rattle.std.specs.IoError.{error_kind}
 use Rattle.std.specs.declared.io.Error.{Error as IoError}
 use Rattle.std.specs.declared.io.ErrorKind.TheVariants.{Interrupted}
@@ -28,7 +30,7 @@ use Rattle.iobufs_core.specs.declared.codec.base.RangeCfg.{RangeCfg}
 use Rattle.iobufs_core.specs.declared.codec.base.Refused.{Refused}
 use Rattle.iobufs_frames.specs.Frames.{CanBeSent, IsFirstOf, IsFramed, LacksFrame, Parts, ReadsBy, Takes, has_bytes, is_any, is_body, is_whole}
 use Rattle.iobufs_frames.specs.Receiving.{KeepsReceived, is_bytes_view}
-use Rattle.iobufs_frames.specs.Unsent.{ArePassed, IsShort, UnsentBytes, frames_bytes, unsent_frame, unsent_nothing}
+use Rattle.iobufs_frames.specs.Unsent.{ArePassed, CanBeCopied, UnsentBytes, frames_bytes, unsent_frame, unsent_nothing}
 use Rattle.iobufs_frames.specs.declared.End.{End}
 use Rattle.iobufs_frames.specs.declared.End.TheVariants.{Open}
 use Rattle.iobufs_frames.specs.declared.error.FrameError.{FrameError}
@@ -123,38 +125,42 @@ ReadsMore remaining old (Err (Io error)) new = StaysRead remaining old new × (e
 
 -- the frames of which bytes are not sent, in order; and all these bytes
 abbrev pub unsent_frames : {W : Type 0} → FrameWriter W → List UnsentBytes
-unsent_frames writer = writer.rest ∷ writer.more.items
+unsent_frames writer = writer.rest ∷ writer.more
 
 abbrev pub unsent_bytes : {W : Type 0} → FrameWriter W → List ℕ
 unsent_bytes writer = frames_bytes (unsent_frames writer)
 
 -- all that was put is sent
 abbrev pub IsIdle : {W : Type 0} → FrameWriter W → Type 0
-IsIdle writer = (writer.rest.bytes ≡ []) × (writer.more.items ≡ [])
+IsIdle writer = (writer.rest.bytes ≡ []) × (writer.more ≡ [])
 
 -- a writer to which nothing was put
 abbrev pub BeginsWriting : {W : Type 0} → W → Layout → RangeCfg → FrameWriter W → Type 0
 BeginsWriting to layout range writer = (writer.to ≡ to) × (writer.layout ≡ layout) × (writer.range ≡ range)
-    × (writer.rest ≡ unsent_nothing) × (writer.more.items ≡ []) × (writer.is_flushed ≡ true)
+    × (writer.rest ≡ unsent_nothing) × (writer.more ≡ []) × (writer.is_flushed ≡ true)
+
+-- a frame of this body, with these bytes around its length, can be sent, and fewer than 2^64 bytes wait with it
+abbrev pub CanWait : {W : Type 0} → List ℕ → List ℕ → FrameWriter W → MarkedText → Type 0
+CanWait before after writer body = CanBeSent writer.layout writer.range before after (length body.bytes)
+    × (length (unsent_bytes writer) + length (unsent_frame writer.layout before after body).bytes < 2 ^ 64)
 
 -- A frame follows those that are not sent, in its chunks. Or all of these are in `rest`, its body is short, and a copy of its
 -- bytes follows them there.
 abbrev pub FollowsOthers : {W : Type 0} → FrameWriter W → UnsentBytes → FrameWriter W → Type 0
-FollowsOthers old frame new = ((new.more.items ≡ old.more.items ++ frame ∷ []) × (new ≡ record old { more = new.more }))
-    ⊎ (IsShort frame.body × (old.more.items ≡ []) × (new ≡ record old { rest = record old.rest { bytes = old.rest.bytes ++ frame.bytes } }))
+FollowsOthers old frame new = (new ≡ record old { more = old.more ++ frame ∷ [] })
+    ⊎ (CanBeCopied frame.body × (old.more ≡ []) × (new ≡ record old { rest = record old.rest { bytes = old.rest.bytes ++ frame.bytes } }))
 
 -- `put_with`: a frame with these bytes around its length, of which nothing is sent, follows those that are not; or the body is
 -- handed back, and all stays
 abbrev pub PutsFrame : {W : Type 0} → List ℕ → List ℕ → FrameWriter W → MarkedText → Result (Unit {0}) (Refused MarkedText)
     → FrameWriter W → Type 0
-PutsFrame before after old body (Ok done) new = CanBeSent old.layout old.range before after (length body.bytes)
+PutsFrame before after old body (Ok done) new = CanWait before after old body
     × (IsIdle old → new ≡ record old { rest = unsent_frame old.layout before after body })
     × ((IsIdle old → ⊥) → FollowsOthers old (unsent_frame old.layout before after body) new)
     × (unsent_bytes new ≡ unsent_bytes old ++ (unsent_frame old.layout before after body).bytes)
-PutsFrame before after old body (Err refused) new = (refused.value ≡ body)
-    × (new.more.items ≡ old.more.items) × (new ≡ record old { more = new.more })
-    × (((CanBeSent old.layout old.range before after (length body.bytes) → ⊥) × (refused.cause ≡ TooLong) × (new ≡ old))
-    ⊎ (CanBeSent old.layout old.range before after (length body.bytes) × (refused.cause ≡ Memory) × (IsIdle old → ⊥)))
+PutsFrame before after old body (Err refused) new = (refused.value ≡ body) × (new ≡ old)
+    × (((CanWait before after old body → ⊥) × (refused.cause ≡ TooLong))
+    ⊎ (CanWait before after old body × (refused.cause ≡ Memory) × (IsIdle old → ⊥)))
 
 -- how a send ends: all went; or some bytes are left after an error that was no interruption
 abbrev pub EndsSend : {W : Type 0} → FrameWriter W → Result (Unit {0}) IoError → Type 0
@@ -165,7 +171,7 @@ EndsSend writer (Err error) = (0 < length (unsent_bytes writer)) × (error_kind 
 pub record SendsRest {W : Type 0} (contents : W → Option (List ℕ)) (old : FrameWriter W) (result : Result (Unit {0}) IoError)
     (new : FrameWriter W) : Type 0 where
   pub sent : IsSent (contents old.to) (contents new.to) (unsent_bytes old) (unsent_bytes new)
-  pub passed : ArePassed (unsent_frames old) new.rest new.more.items
+  pub passed : ArePassed (unsent_frames old) new.rest new.more
   pub ends : EndsSend new result
   pub idle : IsIdle old → new ≡ old
   pub flushed : 0 < length (unsent_bytes old) → new.is_flushed ≡ false

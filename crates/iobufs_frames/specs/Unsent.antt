@@ -6,7 +6,7 @@
 --     rest_after     so if copies of other frames follow it
 --     unsent_after,  what several counts of bytes leave; some bytes went, a few at a time
 --     IsAdvanced
---     IsShort        a body that may be copied: one chunk of at most 256 bytes
+--     CanBeCopied    a body that may be copied: one chunk of at most 256 bytes
 --     IsFront        the first bytes
 --     frames_bytes   the bytes of several frames, in order
 --     ArePassed      the first frames went, and some bytes of the next, a few at a time
@@ -61,8 +61,8 @@ abbrev pub IsAdvanced : UnsentBytes → UnsentBytes → Type 0
 IsAdvanced old new = (counts : List ℕ) × (new ≡ unsent_after old counts)
 
 -- a body of one chunk and at most 256 bytes
-abbrev pub IsShort : MarkedText → Type 0
-IsShort body = (is_single body ≡ true) × (length body.bytes ≤ 256)
+abbrev pub CanBeCopied : MarkedText → Type 0
+CanBeCopied body = (is_single body ≡ true) × (length body.bytes ≤ 256)
 
 -- the first of these bytes
 abbrev pub IsFront : List ℕ → List ℕ → Type 0

@@ -15,6 +15,7 @@ pub mod error;
 mod heads;
 pub mod laws;
 mod lengths;
+pub mod queue;
 pub mod reader;
 pub mod rest;
 mod shown;

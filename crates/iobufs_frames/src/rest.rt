@@ -4,7 +4,7 @@ ghost use Rattle.bytes.specs.Unread.{IsChunkOf};
 ghost use Rattle.iobufs_core.specs.Chunks.{IsChunkOf as IsOurChunkOf};
 ghost use Rattle.iobufs_core.specs.MarkedText.{is_single};
 ghost use Rattle.std.specs.Io.Slices.{io_slices_bytes};
-ghost use Rattle.iobufs_frames.specs.Unsent.{IsFront, IsShort, rest_after, unsent_nothing};
+ghost use Rattle.iobufs_frames.specs.Unsent.{CanBeCopied, IsFront, rest_after, unsent_nothing};
 
 use crate::Head;
 use crate::unsent::Unsent;
@@ -17,7 +17,7 @@ use std::marker::Model;
 // How many bytes a body has at most that is copied.
 const SHORT: usize = 256;
 
-// No more is copied behind so many bytes.
+// Nothing is copied after so many bytes.
 const MOST: usize = 1 << 14;
 
 /// The rest of the first frame that isn't sent, and copies of short ones after it.
@@ -75,12 +75,13 @@ impl Rest {
         self.sent = 0;
     }
 
-    // Copies a frame behind the others, if it is short and an allocation doesn't fail. Returns whether it is there.
+    // Copies a frame after the others, if it is short and an allocation doesn't fail. Returns whether it is there.
     #[inline(always)]
     pub(crate) fn copy_in(&mut self, head: &Head, body: &IoBufs) -> bool
+        requires { length self.old.bytes + (length head.now.filled + length body.now.bytes) < 2 ^ 64 }
         ensures copied { result ≡ true
             → self.new ≡ record self.old { bytes = self.old.bytes ++ (head.now.filled ++ body.now.bytes) } }
-        ensures short { result ≡ true → IsShort body.now }
+        ensures short { result ≡ true → CanBeCopied body.now }
         ensures same { result ≡ false → self.new ≡ self.old }
     {
         let Some(chunk) = body.as_single() else {
@@ -90,9 +91,6 @@ impl Rest {
         if chunk.len() > SHORT || at > MOST {
             return false;
         }
-        let Some(len) = self.len.checked_add(head.len() + chunk.len()) else {
-            return false;
-        };
         if self.tail.extend_from_slice(head.as_slice()).is_err() {
             return false;
         }
@@ -100,7 +98,7 @@ impl Rest {
             self.tail.truncate(at);
             return false;
         }
-        self.len = len;
+        self.len += head.len() + chunk.len();
         true
     }
 

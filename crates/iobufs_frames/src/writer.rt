@@ -1,16 +1,17 @@
 //! Frames as lists of chunks, for writes of any size.
-ghost use Rattle.std.specs.Prelude.{◌≡◌, ◌≢◌, ◌≤◌, [], ◌∷◌, ◌++◌, length, drop, take, IfErr, OnErr, OnOk};
+ghost use Rattle.std.specs.Prelude.{◌≡◌, ◌≢◌, ◌+◌, ◌-◌, ◌^◌, ◌≤◌, [], ◌∷◌, length, drop, min, nat_lt, take, IfErr};
 ghost use Rattle.std.specs.Io.{WritesAtMost};
 ghost use Rattle.std.specs.Io.KnownBytes.{WriteAppends};
 ghost use Rattle.std.specs.Io.Slices.{io_slices_bytes};
 ghost use Rattle.std.specs.IoError.{error_kind};
 ghost use Rattle.std.specs.declared.io.ErrorKind.TheVariants.{Interrupted};
-ghost use Rattle.iobufs_core.specs.declared.codec.base.BufError.TheVariants.{Memory};
+ghost use Rattle.iobufs_core.specs.declared.codec.base.BufError.TheVariants.{TooLong};
 ghost use Rattle.iobufs_frames.specs.Prefixes.{bare};
 ghost use Rattle.iobufs_frames.specs.Streams.{BeginsWriting, PutsFrame, SendsRest, unsent_bytes, unsent_frames};
 ghost use Rattle.iobufs_frames.specs.Unsent.{ArePassed, IsFront, frames_bytes};
 ghost use Rattle.iobufs_frames.specs.declared.lengths.Prefix.TheVariants.{Spelled};
 
+use crate::queue::Queue;
 use crate::rest::Rest;
 use crate::unsent::Unsent;
 use crate::{Layout, Prefix};
@@ -22,7 +23,7 @@ use std::collections::VecDeque;
 use std::io::{self, ErrorKind, IoSlice, Write};
 
 /// A writer to which whole frames are sent, of lengths in a range. Headers and chunks of all frames that were put are
-/// written from where they are, up to `BATCH` at a time. Short frames behind the first are copied one behind another.
+/// written from where they are, up to `BATCH` at a time. Short frames after the first are copied into one block.
 #[derive(Drop)]
 pub struct FrameWriter<W> {
     /// The writer: `&writer.to` and `&mut writer.to` are the `get_ref` and `get_mut` of std's writers.
@@ -35,10 +36,20 @@ pub struct FrameWriter<W> {
     /// sent.
     pub rest: Rest,
     /// The frames after `rest`, of which nothing is sent.
-    pub more: VecDeque<Unsent>,
+    pub more: Queue,
     /// Whether nothing was sent since this was set: a `send` that has bytes clears it. Set it after `to.flush()`, to
     /// spare the next flush.
     pub is_flushed: bool,
+}
+
+// A body that can't be sent, or can't wait.
+fn too_long(body: IoBufs) -> Refused<IoBufs>
+    ensures { result ≡ record { cause = TooLong; value = body } }
+{
+    Refused {
+        cause: BufError::TooLong,
+        value: body,
+    }
 }
 
 impl<W: Drop> FrameWriter<W> {
@@ -65,16 +76,16 @@ impl<W: Drop> FrameWriter<W> {
             layout,
             range,
             rest: Rest::new(alloc),
-            more: VecDeque::new(alloc),
+            more: Queue::new(alloc),
             is_flushed: true,
         }
     }
 
     /// Puts a frame of this body after those that aren't sent; nothing is sent yet. A body of one chunk and at most 256
-    /// bytes may be copied if others aren't sent. The chunks of any other aren't copied.
+    /// bytes may be copied if others aren't sent, and is then dropped here. The chunks of any other aren't copied.
     /// Fails with `BufError::TooLong` if the body's length is outside the range, if the length in the header doesn't
-    /// fit (see `Prefix::fits`), if the frame is longer than `usize::MAX`, or if the layout has bytes around the
-    /// length. Fails with `BufError::Memory` if allocation fails; nothing is allocated if all is sent.
+    /// fit (see `Prefix::fits`), if more than `usize::MAX` bytes would wait with it, or if the layout has bytes around
+    /// the length. Fails with `BufError::Memory` if allocation fails; nothing is allocated if all is sent.
     pub fn put(&mut self, body: IoBufs) -> Result<(), Refused<IoBufs>>
         ensures { PutsFrame [] [] self.old body result self.new }
     {
@@ -97,38 +108,36 @@ impl<W: Drop> FrameWriter<W> {
             .layout
             .header_within(before, after, body.len(), &self.range)
         else {
-            return Err(Refused {
-                cause: BufError::TooLong,
-                value: body,
-            });
+            return Err(too_long(body));
         };
-        if self.more.is_empty() {
-            if self.rest.is_empty() {
-                self.rest.set(Unsent::new(head, body));
-                return Ok(());
-            }
-            if self.rest.copy_in(&head, &body) {
-                return Ok(());
-            }
+        if self.more.is_empty() && self.rest.is_empty() {
+            self.rest.set(Unsent::new(head, body));
+            return Ok(());
         }
-        self.push(Unsent::new(head, body))
+        if !self.can_wait(head.len() + body.len()) {
+            return Err(too_long(body));
+        }
+        if self.more.is_empty() && self.rest.copy_in(&head, &body) {
+            return Ok(());
+        }
+        self.more.push(Unsent::new(head, body))
     }
 
-    // Adds a frame after the others.
-    #[inline(never)]
-    fn push(&mut self, frame: Unsent) -> Result<(), Refused<IoBufs>>
-        ensures ok { OnOk result (self.new.more.items ≡ self.old.more.items ++ frame ∷ []) }
-        ensures unchanged { OnErr result (self.new.more.items ≡ self.old.more.items) }
-        ensures err { IfErr result (λ refused. refused ≡ record { cause = Memory; value = frame.body }) }
-        ensures same { self.new ≡ record self.old { more = self.new.more } }
+    // Returns whether `n` bytes can wait after those that do.
+    #[inline(always)]
+    fn can_wait(&self, n: usize) -> bool
+        ensures { result ≡ nat_lt (length (unsent_bytes self.now) + n) (2 ^ 64) }
     {
-        match self.more.push_back(frame) {
-            Ok(()) => Ok(()),
-            Err(failed) => Err(Refused {
-                cause: BufError::Memory,
-                value: failed.value.into_body(),
-            }),
-        }
+        let space = usize::MAX - self.rest.len();
+        self.more.len() <= space && n <= space - self.more.len()
+    }
+
+    /// Returns how many bytes wait: those of all frames that aren't sent. Returns `usize::MAX` if there are more, which
+    /// `put` doesn't admit.
+    pub fn unsent(&self) -> usize
+        ensures { result ≡ min (length (unsent_bytes self.now)) (2 ^ 64 - 1) }
+    {
+        self.rest.len().saturating_add(self.more.len())
     }
 
     // Drops the first `n` unsent bytes, and frames of which none are left.
@@ -136,8 +145,8 @@ impl<W: Drop> FrameWriter<W> {
     fn drop_sent(&mut self, n: usize)
         requires { n ≤ length (unsent_bytes self.old) }
         ensures bytes { unsent_bytes self.new ≡ drop n (unsent_bytes self.old) }
-        ensures passed { ArePassed (unsent_frames self.old) self.new.rest self.new.more.items }
-        ensures settled { self.new.rest.bytes ≡ [] → self.new.more.items ≡ [] }
+        ensures passed { ArePassed (unsent_frames self.old) self.new.rest self.new.more }
+        ensures settled { self.new.rest.bytes ≡ [] → self.new.more ≡ [] }
         ensures same { self.new ≡ record self.old { rest = self.new.rest; more = self.new.more } }
     {
         if self.more.is_empty() {
@@ -149,16 +158,17 @@ impl<W: Drop> FrameWriter<W> {
 
     // Acts as `drop_sent` if frames wait.
     #[inline(never)]
+    #[tactic(auto, using(crate::proofs::UnsentLaws::passed_none))]
     fn drop_frames(&mut self, n: usize)
         requires { n ≤ length (unsent_bytes self.old) }
         ensures bytes { unsent_bytes self.new ≡ drop n (unsent_bytes self.old) }
-        ensures passed { ArePassed (unsent_frames self.old) self.new.rest self.new.more.items }
-        ensures settled { self.new.rest.bytes ≡ [] → self.new.more.items ≡ [] }
+        ensures passed { ArePassed (unsent_frames self.old) self.new.rest self.new.more }
+        ensures settled { self.new.rest.bytes ≡ [] → self.new.more ≡ [] }
         ensures same { self.new ≡ record self.old { rest = self.new.rest; more = self.new.more } }
     {
         let mut left = n;
         while left >= self.rest.len() {
-            let Some(next) = self.more.pop_front() else {
+            let Some(next) = self.more.pop() else {
                 break;
             };
             left -= self.rest.len();
@@ -225,6 +235,7 @@ impl<W: Write + Drop> FrameWriter<W> {
     /// Sends all frames that were put, up to `BATCH` chunks at a time. An error is that of `write_chunks_again`, or
     /// `ErrorKind::WriteZero` if the writer takes no byte. After an error no byte is lost or sent twice: `send` may be
     /// called again.
+    #[tactic(auto, using(crate::proofs::UnsentLaws::passed_none, iobufs::proofs::CallerFacts::sent_nothing))]
     pub fn send(&mut self) -> io::Result<()>
         ensures { SendsRest W.contents self.old result self.new }
     {
@@ -255,7 +266,7 @@ impl<W: Write + Drop> FrameWriter<W> {
         if self.more.is_empty() && self.rest.is_single() {
             write_three(&mut self.to, &self.rest)
         } else {
-            write_batch(&mut self.to, &self.rest, &self.more)
+            write_batch(&mut self.to, &self.rest, self.more.frames())
         }
     }
 }

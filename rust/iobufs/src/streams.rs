@@ -437,8 +437,8 @@ impl<R: fmt::Debug> fmt::Debug for FrameReader<R> {
     }
 }
 
-/// Sends frames to a writer: lengths, or headers of a [`Layout`], each followed by a body. Chunks aren't copied, except a
-/// short body that waits behind another frame (see [`put`](Self::put)).
+/// Sends frames to a writer: lengths, or headers of a [`Layout`], each followed by a body. Chunks aren't copied, except
+/// those of short bodies that wait after another frame (see [`put`](Self::put)).
 ///
 /// ```
 /// let mut to = iobufs::FrameWriter::new(Vec::new(), ..=1024);
@@ -498,8 +498,9 @@ impl<W> FrameWriter<W> {
     }
 
     /// Puts a frame of this body after those that aren't sent yet; nothing is written. From the second unsent frame on it
-    /// allocates space, for the list of frames or for copies: a body of one chunk and at most 256 bytes is copied if
-    /// only copies and the first frame wait, up to about 16 KiB. Making an [`IoBufs`] of the body may allocate too.
+    /// allocates space for the list of frames, or for copies. A body of one chunk and at most 256 bytes is copied, unless
+    /// all is sent, or the list has frames, or the copies have more than 16 KiB. Making an [`IoBufs`] of the body may
+    /// allocate too.
     ///
     /// ```
     /// let mut to = iobufs::FrameWriter::new(Vec::<u8>::new(), ..=4);
@@ -511,10 +512,11 @@ impl<W> FrameWriter<W> {
     ///
     /// # Errors
     /// Returns [`Error::InvalidLength`] if the length is outside the range, or no header can have it, or headers have
-    /// bytes around their lengths. Then nothing is put.
+    /// bytes around their lengths, or more than `usize::MAX` bytes would wait. Then nothing is put.
     ///
     /// # Panics
-    /// If the `Drop` of the body's owner panics. The owner is dropped here if the body is copied: then its frame is put.
+    /// If the `Drop` of the body's owner panics. An owner is dropped here if the body is copied or refused. If it was
+    /// copied, its frame is put.
     pub fn put(&mut self, body: impl Into<IoBufs>) -> Result<(), Error> {
         self.put_with(&[], &[], body)
     }
@@ -557,7 +559,7 @@ impl<W> FrameWriter<W> {
         self.0.rest.is_empty()
     }
 
-    /// Returns how many bytes of frames were put and are not written. It adds up the frames that wait.
+    /// Returns how many bytes of frames were put and are not written.
     ///
     /// ```
     /// let mut to = iobufs::FrameWriter::new(Vec::<u8>::new(), ..=1024);
@@ -565,7 +567,7 @@ impl<W> FrameWriter<W> {
     /// assert_eq!(to.unsent(), 3); // the length, and the body
     /// ```
     pub fn unsent(&self) -> usize {
-        self.0.more.0.iter().fold(self.0.rest.len(), |sum, frame| sum.saturating_add(frame.len()))
+        self.0.unsent()
     }
 
     /// Returns the writer.

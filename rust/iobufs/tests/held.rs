@@ -168,6 +168,24 @@ fn memory_of_one_body() {
     }
 }
 
+/// How many bytes come of a frame whose length says a gibibyte, and the largest block for them.
+const PROMISES: [(usize, usize); 6] =
+    [(5, 4_096), (4_095, 4_096), (4_096, 8_192), (16_383, 16_384), (16_384, BLOCK), (60_000, BLOCK)];
+
+/// A length gets a larger block only from 16 KiB on.
+#[test]
+fn memory_of_promises() {
+    for (sent, block) in PROMISES {
+        let mut wire = (1_u32 << 30).to_be_bytes().to_vec();
+        wire.resize(sent, 7);
+        let before = HELD.get();
+        let mut from = FrameReader::with_prefix(&wire[..], Prefix::U32Be, ..);
+        assert!(from.next().is_err());
+        let held = (HELD.get() - before) as usize;
+        assert!(block <= held && held <= block + 128, "{held} for {sent} bytes");
+    }
+}
+
 /// A frame above a block is alone in its block, and its body shares that, whatever its length counts besides.
 #[test]
 fn a_large_body_is_not_copied() {

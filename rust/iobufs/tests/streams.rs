@@ -295,6 +295,7 @@ fn writes_with_faults() {
                 _ => assert!(sent.unwrap().is_ok()),
             }
             assert_eq!(to.is_sent(), of_flush || fault == Fault::Interrupted, "{fault:?} by {most} at {at}");
+            assert_eq!(to.unsent(), SENT.len() - to.get_ref().bytes.len(), "{fault:?} by {most} at {at}");
             to.put(b"more").unwrap();
             to.send().unwrap();
             let to = to.into_inner();
@@ -353,7 +354,7 @@ const PUT: [(&[&[usize]], usize); 8] = [
     (&[&[], &[3], &[257]], 1),
 ];
 
-// A body of one chunk and at most 256 bytes is copied if it is put while a frame waits, and nothing but copies after it.
+// A body of one chunk and at most 256 bytes is copied if it is put while one frame waits, or copies after it.
 #[test]
 fn short_bodies_are_copied() {
     for (lens, kept) in PUT {
@@ -361,7 +362,9 @@ fn short_bodies_are_copied() {
             lens.iter().map(|body| body.iter().map(|len| IoBuf::from(vec![7; *len])).collect()).collect();
         let mut to = FrameWriter::new(Narrow::new(b"", usize::MAX), ..);
         bodies.iter().for_each(|body| to.put(IoBufs::from(body.clone())).unwrap());
+        let waits = to.unsent();
         to.send().unwrap();
+        assert_eq!((waits, to.unsent()), (to.get_ref().bytes.len(), 0), "{lens:?}");
         let to = to.into_inner();
         let found = bodies.iter().flatten().filter(|chunk| to.chunks.contains(&chunk.as_ptr())).count();
         assert_eq!(found, kept, "{lens:?}");

@@ -80,9 +80,9 @@ fn assert_queued(rt: &(impl Abort + AllocGlobal), case: &Writing, most: usize) -
     for body in bodies {
         put_chunks(rt.alloc(), &mut writer, body)?;
     }
-    assert!(rt; !writer.rest.is_empty());
+    assert_same!(rt; writer.unsent(), written.len());
     writer.send()?;
-    assert!(rt; writer.rest.is_empty());
+    assert_same!(rt; writer.unsent(), 0);
     assert_same!(rt; writer.to.record.as_slice(), written, "{prefix:?} by {most}");
     Ok(())
 }
@@ -105,29 +105,33 @@ fn a_frame_follows_the_rest_of_another(rt: HostRuntime) -> Result<(), Fail> {
     put_chunks(rt.alloc(), &mut writer, &[b"abc"])?;
     assert!(rt; writer.send().is_err());
     put_chunks(rt.alloc(), &mut writer, &[b"d"])?;
-    assert_same!(rt; writer.rest.len(), 5);
+    assert_same!(rt; (writer.unsent(), writer.rest.len()), (5, 5));
     writer.send()?;
     assert_same!(rt; writer.to.record.as_slice(), b"\x03abc\x01d".as_slice());
     Ok(())
 }
 
-// The lengths of two bodies, and how many bytes are in `rest`: a short body is copied there behind the first.
-const PAIRS: [(usize, usize, usize); 5] = rows! {
-    4, 0, 6;
-    4, 256, 263;
-    4, 257, 5;
-    0, 1, 3;
-    300, 3, 306;
+// The lengths of two bodies, and how many bytes wait, and are in `rest`: a short body is copied there.
+const PAIRS: [(usize, usize, usize, usize); 5] = rows! {
+    4, 0, 6, 6;
+    4, 256, 263, 263;
+    4, 257, 264, 5;
+    0, 1, 3, 3;
+    300, 3, 306, 306;
 };
 
 #[test]
 fn a_short_body_is_copied(rt: HostRuntime) -> Result<(), Fail> {
     let alloc = rt.alloc();
-    for (first, second, rest) in PAIRS {
+    for (first, second, unsent, rest) in PAIRS {
         let mut writer = FrameWriter::new(alloc, FakeWriter::new(alloc, 100), LONG);
         writer.put(long(alloc, first)?)?;
         writer.put(long(alloc, second)?)?;
-        assert_same!(rt; writer.rest.len(), rest, "{first:?}, {second:?}");
+        let found = (writer.unsent(), writer.rest.len());
+        assert_same!(rt; found, (unsent, rest), "{first:?}, {second:?}");
+        writer.send()?;
+        let found = (writer.unsent(), writer.to.record.len());
+        assert_same!(rt; found, (0, unsent), "{first:?}, {second:?}");
     }
     Ok(())
 }

@@ -8,9 +8,9 @@ abbrev pub invariant-loop-left : goal.invariant-loop-left
 invariant-loop-left g l = record {
   within : l.left ≤ length (unsent_bytes l.self);
   bytes : drop l.left (unsent_bytes l.self) ≡ drop l.fn.n (unsent_bytes l.fn.self);
-  passed : ArePassed (unsent_frames l.fn.self) l.self.rest l.self.more.items;
+  passed : ArePassed (unsent_frames l.fn.self) l.self.rest l.self.more;
   same : l.self ≡ record l.fn.self { rest = l.self.rest; more = l.self.more };
 }
 
 abbrev pub decreases-loop-left : goal.decreases-loop-left
-decreases-loop-left g l = length l.self.more.items
+decreases-loop-left g l = length l.self.more
