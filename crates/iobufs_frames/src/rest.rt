@@ -20,6 +20,9 @@ const SHORT: usize = 256;
 // Nothing is copied after so many bytes.
 const MOST: usize = 1 << 14;
 
+// A block of copies above this is freed once all are sent.
+const KEPT: usize = 1 << 12;
+
 /// The rest of the first frame that isn't sent, and copies of short ones after it.
 #[derive(Drop)]
 pub struct Rest {
@@ -52,6 +55,14 @@ fn unsent_copies(tail: &Vec<u8>, sent: usize) -> &[u8]
     &tail.as_slice()[sent..]
 }
 
+// Frees the block of copies.
+#[inline(never)]
+fn release(tail: &mut Vec<u8>)
+    ensures { tail.new.items ≡ [] }
+{
+    *tail = Vec::new(*tail.allocator());
+}
+
 impl Rest {
     // Nothing.
     pub(crate) fn new(alloc: Global) -> Rest
@@ -73,6 +84,18 @@ impl Rest {
         self.frame = frame;
         self.tail.clear();
         self.sent = 0;
+    }
+
+    // Frees a large block of copies if no byte is left.
+    #[inline(always)]
+    fn free(&mut self)
+        ensures { self.new ≡ self.old }
+    {
+        if self.tail.capacity() <= KEPT || self.len > 0 {
+            return;
+        }
+        self.sent = 0;
+        release(&mut self.tail);
     }
 
     // Copies a frame after the others, if it is short and an allocation doesn't fail. Returns whether it is there.
@@ -196,5 +219,6 @@ impl Buf for Rest {
         }
         self.frame.advance(n);
         self.sent += cnt - n;
+        self.free();
     }
 }

@@ -23,7 +23,8 @@ use std::collections::VecDeque;
 use std::io::{self, ErrorKind, IoSlice, Write};
 
 /// A writer to which whole frames are sent, of lengths in a range. Headers and chunks of all frames that were put are
-/// written from where they are, up to `BATCH` at a time. Short frames after the first are copied into one block.
+/// written from where they are, up to `BATCH` at a time. Short frames after the first are copied into one block. Once
+/// all is sent, a block above 4 KiB is freed; a smaller one stays, and the space for the list `more`.
 #[derive(Drop)]
 pub struct FrameWriter<W> {
     /// The writer: `&writer.to` and `&mut writer.to` are the `get_ref` and `get_mut` of std's writers.

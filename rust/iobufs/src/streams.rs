@@ -438,7 +438,8 @@ impl<R: fmt::Debug> fmt::Debug for FrameReader<R> {
 }
 
 /// Sends frames to a writer: lengths, or headers of a [`Layout`], each followed by a body. Chunks aren't copied, except
-/// those of short bodies that wait after another frame (see [`put`](Self::put)).
+/// those of short bodies that wait after another frame (see [`put`](Self::put)). Once all is sent, a writer keeps the
+/// space of its list of frames, and a block for copies of at most 4 KiB.
 ///
 /// ```
 /// let mut to = iobufs::FrameWriter::new(Vec::new(), ..=1024);

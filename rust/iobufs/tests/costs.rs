@@ -253,6 +253,29 @@ fn queues_of_writers() {
     assert!(kept <= 2048, "{kept} bytes of an idle writer");
 }
 
+/// How many frames of 202 bytes are put, and how many bytes a writer holds for them before they are sent, and after.
+const COPIES: [(usize, [isize; 2], [isize; 2]); 4] = [
+    (1, [0, 0], [0, 0]),
+    (17, [3_232, 4_096], [3_232, 4_096]),
+    (30, [5_858, 2 * 5_858], [0, 0]),
+    (80, [15_958, 2 * 15_958], [0, 0]),
+];
+
+/// A writer holds copies of short frames. Once all is sent, it keeps their block, if that has at most 4 KiB.
+#[test]
+fn copies_of_writers() {
+    for (count, waits, kept) in COPIES {
+        let mut to = FrameWriter::new(std::io::sink(), ..=1024);
+        let before = HELD.get();
+        (0..count).for_each(|_| to.put(IoBuf::from_static(&[7; 200])).unwrap());
+        let more = HELD.get() - before;
+        assert!(waits[0] <= more && more <= waits[1], "{more} bytes for {count} frames");
+        to.send().unwrap();
+        let more = HELD.get() - before;
+        assert!(kept[0] <= more && more <= kept[1], "{more} bytes after {count} frames");
+    }
+}
+
 /// A read takes from all buffers.
 #[test]
 fn reads_of_buffers() {
