@@ -16,7 +16,8 @@ returns c =
     let n = length r.frame.bytes in
     let told : c.len-n.result ≡ n = c.len-n.ensures.value in
     let gone : c.advance-2.new.self ≡ unsent_rest r.frame n = c.advance-2.ensures ∙ ap (unsent_rest r.frame) told in
-    c.free.ensures ∙ ap (λ k. record c.advance-2.new.self { bytes = c.advance-2.new.self.bytes ++ drop (r.sent + (c.args.cnt - k)) r.tail.items }) told
+    c.free.ensures
+    ∙ ap (λ k. record c.advance-2.new.self { bytes = c.advance-2.new.self.bytes ++ drop (r.sent + (c.args.cnt - k)) r.tail.items }) told
     ∙ copies_go r.frame c.advance-2.new.self r.tail.items r.sent c.args.cnt c.len-n.ensures.parts
     (omega (arith, c.if-cnt-n.false, told)) gone
     ∙ ap (λ (u : UnsentBytes). rest_after u c.args.cnt) c.self.view_is
