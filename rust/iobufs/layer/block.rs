@@ -21,13 +21,13 @@ use std::ptr::NonNull;
 use std::{ptr, slice, vec};
 
 /// The count of the handles, whether there was ever more than one, the parts of the `Vec`, and the limit: at least the
-/// length, at most the capacity.
+/// length, at most what is allocated.
 struct Head {
     handles: Count,
     shared: AtomicBool,
     at: NonNull<u8>,
     len: usize,
-    capacity: usize,
+    allocated: usize,
     limit: usize,
 }
 
@@ -295,10 +295,10 @@ impl Block {
     fn of(space: Space, apart: Option<Apart>) -> Result<Block, AllocError> {
         let Space { storage, limit } = space;
         let mut bytes = ManuallyDrop::new(storage.0);
-        let (at, len, capacity) = (bytes.as_mut_ptr(), bytes.len(), bytes.capacity());
+        let (at, len, allocated) = (bytes.as_mut_ptr(), bytes.len(), bytes.capacity());
         let after = at.wrapping_add(len);
         let place = match apart {
-            _ if capacity - len >= ROOM => after.wrapping_add(after.addr().wrapping_neg() % HEAD.align()),
+            _ if allocated - len >= ROOM => after.wrapping_add(after.addr().wrapping_neg() % HEAD.align()),
             Some(apart) => Box::into_raw(apart).cast(),
             None => new_apart(),
         };
@@ -307,9 +307,10 @@ impl Block {
             return Err(AllocError);
         };
         debug_assert!(head.is_aligned(), "the head's place");
+        let value = Head { handles: Count::new(), shared: AtomicBool::new(false), at, len, allocated, limit };
         // SAFETY: the place is aligned, and has room for a head, which nothing else uses: it is an allocation of its own,
         // or spare capacity of a `Vec` that is taken apart, by whose own address it was found.
-        unsafe { head.write(Head { handles: Count::new(), shared: AtomicBool::new(false), at, len, capacity, limit }) };
+        unsafe { head.write(value) };
         Ok(Block { head })
     }
 
@@ -320,12 +321,12 @@ impl Block {
     #[inline]
     unsafe fn joined(head: NonNull<Head>) -> (vec::Vec<u8>, usize, Option<Apart>) {
         // SAFETY: the head is where `of` wrote it.
-        let Head { at, len, capacity, limit, .. } = unsafe { head.read() };
-        let is_apart = head.addr().get().wrapping_sub(at.addr().get()) >= capacity;
+        let Head { at, len, allocated, limit, .. } = unsafe { head.read() };
+        let is_apart = head.addr().get().wrapping_sub(at.addr().get()) >= allocated;
         // SAFETY: a head that isn't within the capacity was allocated with its layout, or was in such a box.
         let apart = is_apart.then(|| unsafe { Box::from_raw(head.cast().as_ptr()) });
         // SAFETY: these are the parts of the `Vec` that `of` took apart, and no handle lends its bytes.
-        (unsafe { vec::Vec::from_raw_parts(at.as_ptr(), len, capacity) }, limit, apart)
+        (unsafe { vec::Vec::from_raw_parts(at.as_ptr(), len, allocated) }, limit, apart)
     }
 
     // Stands apart, so that a drop is short where it is inlined.
