@@ -3,7 +3,7 @@
 //! words.
 //!
 //! No file names the crate's root, so that another crate can have these files as modules of a module `kit`, with a
-//! `bytes.rs` of its own. `unsafe` code is in `arc`, `block`, `held` and `vec`, and in one module of `bytes`.
+//! `bytes.rs` of its own. `unsafe` code is in `arc`, `block`, `deque`, `few`, `held` and `vec`, and in one module of `bytes`.
 #![deny(unsafe_code)]
 
 #[allow(unsafe_code)]
@@ -19,10 +19,10 @@ mod count;
 #[allow(unsafe_code)]
 #[path = "../../iobufs/layer/deque.rs"]
 mod deque;
-pub mod fs;
 #[allow(unsafe_code)]
 #[path = "../../iobufs/layer/few.rs"]
 mod few;
+pub mod fs;
 #[allow(unsafe_code)]
 #[path = "../../iobufs/layer/held.rs"]
 pub mod held;
