@@ -32,12 +32,13 @@ mod vec;
 pub use base::{Clone, Global};
 pub use names::{prelude, std};
 
-// The kit's `Bytes` has its address elsewhere.
+// The kit's `Bytes` has its address elsewhere, and there no thread keeps space.
 #[cfg(test)]
 #[allow(unsafe_code)]
 mod tests {
     use super::bytes::Bytes;
     use super::held::Held;
+    use super::{few, vec};
 
     /// Which words of a view are its address and its length.
     fn places(held: &Held) -> [Option<usize>; 2] {
@@ -54,5 +55,15 @@ mod tests {
         let (own, shared) = (Held::of_static(b"abcde"), Held::of_bytes(Bytes::from_static(b"abcdefg")));
         assert_eq!((own.is_shared(), shared.is_shared()), (false, true));
         assert!(places(&own).iter().all(Option::is_some) && places(&own) == places(&shared));
+    }
+
+    /// A thread keeps the space of four items alone, and gives it once.
+    #[test]
+    fn space_of_four_is_kept() {
+        let kept = || few::kept::<[u64; 5]>().map(|it| (it.len(), it.capacity()));
+        for n in 1..9 {
+            few::keep(vec::Vec::from_elem(super::Global, [7_u64; 5], n).expect("there is memory").0);
+            assert_eq!((kept(), kept()), ((n == 4).then_some((0, 4)), None), "{n}");
+        }
     }
 }
