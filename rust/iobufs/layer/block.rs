@@ -105,7 +105,7 @@ impl Space {
 
     /// Returns the limit.
     #[inline]
-    pub fn capacity(&self) -> usize {
+    pub const fn capacity(&self) -> usize {
         self.limit
     }
 

@@ -8,7 +8,7 @@
 use super::base::AllocError;
 use super::block::Block;
 use super::bytes::Bytes;
-use std::ptr::NonNull;
+use std::ptr::{self, NonNull};
 
 /// A range of a block.
 pub struct Native {
@@ -83,7 +83,7 @@ enum Storage {
 #[allow(clippy::len_without_is_empty)]
 impl Held {
     #[inline]
-    fn own(bytes: NonNull<[u8]>, block: Option<Block>) -> Held {
+    const fn own(bytes: NonNull<[u8]>, block: Option<Block>) -> Held {
         Held(Storage::Own(Own { bytes, block }))
     }
 
@@ -96,8 +96,11 @@ impl Held {
 
     /// Shows static bytes.
     #[inline]
-    pub fn of_static(text: &'static [u8]) -> Held {
-        Held::own(NonNull::from(text), None)
+    pub const fn of_static(text: &'static [u8]) -> Held {
+        match NonNull::new(ptr::from_ref(text).cast_mut()) {
+            Some(bytes) => Held::own(bytes, None),
+            None => panic!("a reference isn't null"),
+        }
     }
 
     /// Shows all of a `Bytes`.
@@ -107,8 +110,11 @@ impl Held {
     }
 
     #[inline]
-    pub fn len(&self) -> usize {
-        self.as_slice().len()
+    pub const fn len(&self) -> usize {
+        match &self.0 {
+            Storage::Shared(bytes) => bytes.len(),
+            Storage::Own(own) => own.bytes.len(),
+        }
     }
 
     /// Returns the bytes.

@@ -167,7 +167,7 @@ impl IoBufMut {
     /// assert_eq!((buf.len(), buf.capacity()), (1, 2));
     /// ```
     #[inline]
-    pub fn capacity(&self) -> usize {
+    pub const fn capacity(&self) -> usize {
         self.0.capacity()
     }
 

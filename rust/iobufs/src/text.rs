@@ -62,7 +62,7 @@ impl IoBufs {
     /// assert!(iobufs::IoBufs::from("").is_empty());
     /// ```
     #[inline]
-    pub fn is_empty(&self) -> bool {
+    pub const fn is_empty(&self) -> bool {
         self.0.is_empty()
     }
 

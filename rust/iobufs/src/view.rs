@@ -55,19 +55,19 @@ impl IoBuf {
     /// ```
     /// assert!(iobufs::IoBuf::new().is_empty());
     /// ```
-    pub fn new() -> Self {
-        Self::default()
+    pub const fn new() -> Self {
+        Self::from_static(&[])
     }
 
     /// Makes a view of these bytes, which aren't copied. It allocates nothing.
     ///
     /// ```
     /// static WORDS: [u8; 3] = *b"one";
-    /// let view = iobufs::IoBuf::from_static(&WORDS);
-    /// assert_eq!(view.as_ptr(), WORDS.as_ptr());
+    /// static NAMES: [iobufs::IoBuf; 2] = [iobufs::IoBuf::from_static(&WORDS), iobufs::IoBuf::new()];
+    /// assert_eq!((NAMES[0].as_ptr(), NAMES[1].len()), (WORDS.as_ptr(), 0));
     /// ```
-    pub fn from_static(bytes: &'static [u8]) -> Self {
-        Self::from(bytes)
+    pub const fn from_static(bytes: &'static [u8]) -> Self {
+        IoBuf(inner::IoBuf::of_static(bytes))
     }
 
     /// Makes a view of the bytes of `owner`, which aren't copied. `as_ref` is called once.
@@ -128,7 +128,7 @@ impl IoBuf {
     /// assert_eq!(iobufs::IoBuf::from("one").len(), 3);
     /// ```
     #[inline]
-    pub fn len(&self) -> usize {
+    pub const fn len(&self) -> usize {
         self.0.len()
     }
 
@@ -138,7 +138,7 @@ impl IoBuf {
     /// assert!(iobufs::IoBuf::from("").is_empty());
     /// ```
     #[inline]
-    pub fn is_empty(&self) -> bool {
+    pub const fn is_empty(&self) -> bool {
         self.0.is_empty()
     }
 

@@ -16,6 +16,7 @@
 //! | `#[macro_export] macro_rules! name` | `macro_rules! name` and `pub(crate) use name;` |
 //! | `std::`, `bytes::`, `hex::`, `memchr::` | the modules of `crate::kit` that have their signatures |
 //! | `fn main` of a program | `pub fn main`, which the binary calls |
+//! | `fn` of `Also::consts` | `const fn` |
 //! | a file of `BY_HAND` | the names of a module of `crate::kit`, which is written by hand |
 //! | a function that takes `impl Abort` | `#[track_caller]`: a failed test names its own line |
 //! | another function with a body | `#[inline]`, since rustc inlines no other function across crates |
@@ -43,6 +44,8 @@ pub type Spare<'a> = (&'a str, &'a Path);
 #[derive(Clone, Copy, Default)]
 pub struct Also<'a> {
     pub spares: &'a [Spare<'a>],
+    /// Functions that become `const`: the file and the head of each, as in `pub fn len(&self)`.
+    pub consts: &'a [(&'a str, &'a str)],
     /// Files that are left empty, as in `iobufs_examples/web.rt`.
     pub left_out: &'a [&'a str],
     /// Whether these are tests: an error shows what `#[error(..)]` says, and kinds of error that Rust 1.85 hasn't are
@@ -87,6 +90,9 @@ pub fn write_crates<S: AsRef<str>>(crates: &[S], also: Also<'_>, from: &Path, to
             if let Some((_, module)) = BY_HAND.iter().find(|(of, _)| Path::new(name).join(below) == Path::new(of)) {
                 rust = format!("pub(super) use crate::kit::{module}::*;\n");
             }
+            for (_, head) in also.consts.iter().filter(|(of, _)| Path::new(name).join(below) == Path::new(of)) {
+                rust = made_const(&rust, head).ok_or(format!("{}: not one `{head}`", file.display()))?;
+            }
             for (_, spare) in also.spares.iter().filter(|(of, _)| Path::new(name).join(below) == Path::new(of)) {
                 rust += &format!("\n#[path = {spare:?}]\nmod spare;\n");
             }
@@ -98,6 +104,12 @@ pub fn write_crates<S: AsRef<str>>(crates: &[S], also: Also<'_>, from: &Path, to
         modules += &format!("#[path = {:?}]\npub mod {name};\n", to.join(name).join(root));
     }
     named(to, fs::write(to.join("proved.rs"), modules))
+}
+
+/// Makes the function with this head `const`, if there is one.
+fn made_const(rust: &str, head: &str) -> Option<String> {
+    let is_one = rust.matches(head).count() == 1;
+    is_one.then(|| rust.replace(head, &head.replacen("fn ", "const fn ", 1)))
 }
 
 fn named<T>(file: &Path, done: io::Result<T>) -> Result<T, String> {

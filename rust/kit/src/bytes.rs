@@ -99,7 +99,7 @@ mod block {
         }
 
         #[inline]
-        pub(super) fn len(&self) -> usize {
+        pub(super) const fn len(&self) -> usize {
             self.len
         }
 
@@ -281,7 +281,7 @@ impl Bytes {
 
     /// Returns the number of bytes.
     #[inline]
-    pub fn len(&self) -> usize {
+    pub const fn len(&self) -> usize {
         match &self.0 {
             Kind::Static(bytes) => bytes.len(),
             Kind::Block(block) => block.len(),

@@ -116,12 +116,13 @@ fn heads_beside_storage() {
     }
 }
 
-/// Space that is made has room for its head.
+/// Space that is made has room for its head, also once it is full.
 #[test]
 fn heads_of_new_space() {
     for n in [1, 977, 978, 1032, 1033, 4096] {
         let of = spent(|| {
-            let (space, shell) = Space::new(Global, n, Shell::none()).unwrap();
+            let (mut space, shell) = Space::new(Global, n, Shell::none()).unwrap();
+            space.resize(n, 7);
             drop(Block::new(Global, shell, space).unwrap());
         });
         assert_eq!((of.allocations, of.frees), (1, 1), "{n}");

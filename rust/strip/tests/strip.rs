@@ -219,7 +219,8 @@ fn what_is_refused() {
 /// What a file offers: each public function, type and field, in one line without its body.
 fn offered(rust: &str) -> Vec<String> {
     let lines: Vec<&str> = rust.lines().filter_map(|line| line.split("//").next()).collect();
-    let code = lines.join(" ").replace("pub(super) ", "pub ").replace("(mut self", "(self");
+    let code =
+        lines.join(" ").replace("pub(super) ", "pub ").replace("pub const fn", "pub fn").replace("(mut self", "(self");
     let ends = |it: &str| match it.split_whitespace().next() {
         Some("fn") => it.find('{'),
         Some("struct" | "enum") => it.find(['{', '(', ';']),

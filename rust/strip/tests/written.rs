@@ -278,6 +278,13 @@ fn fault_of_file(of: &Path, written: &Path, name: &str, also: Also) -> Option<St
     }
     let spares = also.spares.iter().filter(|it| is(it.0));
     let added: String = spares.map(|it| format!("\n#[path = {:?}]\nmod spare;\n", it.1)).collect();
+    let mut rust = rust;
+    for (_, head) in also.consts.iter().filter(|it| is(it.0)) {
+        let [before, after] = rust.split(&head.replace("pub fn", "pub const fn")).collect::<Vec<_>>()[..] else {
+            return Some(format!("{head} isn't const"));
+        };
+        rust = format!("{before}{head}{after}");
+    }
     match rust.strip_suffix(&added) {
         Some(rust) => difference(&fs::read_to_string(of).unwrap(), rust, name, also.is_tests),
         None => Some(format!("no {added}")),
@@ -328,7 +335,7 @@ fn what_is_written_is_the_source() {
     let counts = [
         look_at("iobuf", iobuf::write, Also::default()),
         look_at("c", c::write, Also::default()),
-        look_at("iobufs", iobufs::write, Also { spares: &spares, ..Default::default() }),
+        look_at("iobufs", iobufs::write, Also { spares: &spares, consts: &iobufs::CONSTS, ..Default::default() }),
         look_at("tests", tests::write, Also { left_out: &tests::LEFT_OUT, is_tests: true, ..Default::default() }),
     ];
     assert!(counts.iter().all(|it| *it > 50), "{counts:?}");
