@@ -3,6 +3,7 @@
 use super::bytes::ENDS_IF_REFUSED;
 use std::cell::Cell;
 use std::mem::{ManuallyDrop, MaybeUninit};
+use std::ptr;
 use std::vec::Vec;
 
 /// The number of items that have space.
@@ -40,12 +41,14 @@ pub(crate) fn keep<T>(items: Vec<T>) {
     if !fits::<T>() || items.capacity() != FEW {
         return;
     }
-    // If the drop of an item panics, the space is never freed.
     let mut items = ManuallyDrop::new(items);
-    items.clear();
-    // SAFETY: it was allocated with the layout of `FEW` items of this size and alignment. None is left in it, and the
-    // vector isn't used any more, nor dropped.
-    let space: Space = unsafe { Box::from_raw(items.as_mut_ptr().cast()) };
+    // SAFETY: it was allocated with the layout of `FEW` items of this size and alignment. The vector isn't used any more,
+    // nor dropped, so its items are dropped once; if one panics, the space is freed.
+    let space = unsafe {
+        let mut space: Space = Box::from_raw(items.as_mut_ptr().cast());
+        ptr::drop_in_place(ptr::slice_from_raw_parts_mut(space.as_mut_ptr().cast::<T>(), items.len()));
+        space
+    };
     // At its end a thread keeps none.
     let _ = SPARE.try_with(|spare| spare.set(Some(space)));
 }

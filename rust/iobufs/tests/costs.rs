@@ -4,6 +4,7 @@ use iobufs::{FrameCodec, FrameReader, FrameWriter, Frames, IoBuf, IoBufMut, IoBu
 use std::alloc::{GlobalAlloc, Layout, System};
 use std::cell::Cell;
 use std::io::Read;
+use std::panic::{catch_unwind, resume_unwind};
 use std::sync::atomic::{AtomicIsize, Ordering};
 use std::thread;
 
@@ -12,15 +13,18 @@ thread_local! {
     static COUNT: Cell<usize> = const { Cell::new(0) };
     static ALLOCATED: Cell<usize> = const { Cell::new(0) };
     static HELD: Cell<isize> = const { Cell::new(0) };
-    /// Where this thread counts what it holds, so that another can read it after its end.
-    static SEEN: Cell<Option<&'static AtomicIsize>> = const { Cell::new(None) };
+    /// Whether another thread reads what this one holds, after its end.
+    static IS_SEEN: Cell<bool> = const { Cell::new(false) };
 }
+
+/// What the threads that are seen hold.
+static SEEN: AtomicIsize = AtomicIsize::new(0);
 
 /// Counts that this thread holds so many bytes more.
 fn hold(n: isize) {
     HELD.set(HELD.get() + n);
-    if let Some(seen) = SEEN.get() {
-        seen.fetch_add(n, Ordering::Relaxed);
+    if IS_SEEN.get() {
+        SEEN.fetch_add(n, Ordering::Relaxed);
     }
 }
 
@@ -71,15 +75,16 @@ fn allocations<R>(call: impl FnOnce() -> R) -> usize {
     COUNT.get() - before
 }
 
-/// How many bytes a new thread holds once its call has ended, and after its own end.
+/// How many bytes a new thread holds once its call has ended, and after its own end. One test at a time may call it.
 fn held_by_thread<R>(call: impl FnOnce() -> R + Send + 'static) -> (isize, isize) {
-    let seen: &AtomicIsize = Box::leak(Box::default());
+    let before = SEEN.load(Ordering::Relaxed);
+    let more = move || SEEN.load(Ordering::Relaxed) - before;
     let run = move || {
-        SEEN.set(Some(seen));
+        IS_SEEN.set(true);
         drop(call());
-        seen.load(Ordering::Relaxed)
+        more()
     };
-    (thread::spawn(run).join().unwrap(), seen.load(Ordering::Relaxed))
+    (thread::spawn(run).join().unwrap(), more())
 }
 
 const CHUNKS: usize = 100_000;
@@ -185,6 +190,27 @@ fn small_lists() {
         assert_eq!([allocations(|| parts(2)), allocations(|| parts(2).freeze())], [2, 3]);
     };
     thread::spawn(run).join().unwrap();
+}
+
+/// If an owner panics as it is dropped, its list's space is freed.
+#[test]
+fn a_list_of_an_owner_that_panics() {
+    struct Panics;
+    impl AsRef<[u8]> for Panics {
+        fn as_ref(&self) -> &[u8] {
+            b"owned"
+        }
+    }
+    impl Drop for Panics {
+        fn drop(&mut self) {
+            resume_unwind(Box::new(()));
+        }
+    }
+    let bufs = || IoBufs::from([IoBuf::from_owner(Panics), IoBuf::from_static(b"ab")]);
+    let left = move || held(|| assert!(catch_unwind(|| drop(bufs())).is_err()));
+    let (first, second) = thread::spawn(move || (left(), left())).join().unwrap();
+    // The first panic of a thread may hold some of std's own.
+    assert!(second == 0 && first < 160, "{first} and {second} bytes");
 }
 
 /// A thread keeps one list's space and one head's place, 208 bytes, and frees them as it ends.
