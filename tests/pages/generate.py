@@ -296,8 +296,29 @@ def differences():
     yield "|for example|original|Rust crate|reason|how many|\n|---|---|---|---|--:|"
     for reason, rows in reasons.items():
         (name, here), count = rows[0], len(rows)
-        shown, then = (f"`{name[5:]}`", "compiles") if name[:5] == "use: " else (name, original[name])
+        shown, then = name, original.get(name, "compiles")
+        if name.startswith("use: "):
+            shown = f"`{name.removeprefix('use: ').removeprefix('items: ')}`"
         yield f"|{shown}|{then}|{here}|{reason}|{count}|"
+
+
+def public_calls(buffer):
+    """The names of the methods that a type of the Rust crate has by itself, those of the macros of calls.rs too."""
+    source = "".join(file.read_text() for file in sorted((ROOT / "rust/iobufs/src").glob("*.rs")))
+    for block in re.findall(rf"^impl {buffer} \{{\n(.*?)^\}}", source, re.M | re.S):
+        yield from re.findall(r"^    pub (?:const )?(?:unsafe )?fn (\w+)", block, re.M)
+        for name in re.findall(r"^    (\w+)! \{", block, re.M):
+            macro = re.search(rf"^macro_rules! {name} \{{\n(.*?)^\}}", source, re.M | re.S)[1]
+            yield from re.findall(r"^ +pub fn (\w+)", macro, re.M)
+            yield from re.findall(r"\b((?:try_)?(?:get|put)_u\d+)\b(?=, )", macro)
+
+
+def inherent():
+    """The methods of the Rust crate's buffers that the original's lack, which therefore come before a trait's."""
+    for line in (ROOT / "rust/iobufs/tests/same/calls").read_text().splitlines():
+        buffer, known = line.split(": ")
+        own = dict.fromkeys(name for name in public_calls(buffer) if name not in known.split())
+        yield f"- {buffer}: {', '.join(f'`{name}`' for name in own)}"
 
 
 def speed():
@@ -421,8 +442,8 @@ def trusted():
 
 PARTS = {
     "trusted": trusted, "api": api, "own calls": own, "matrix": matrix, "crates": crates, "graph": graph,
-    "promises": promises, "by hand": by_hand, "differences": differences, "speed": speed, "slowest": slowest,
-    "believe": believe, "unseen bug": unseen,
+    "promises": promises, "by hand": by_hand, "differences": differences, "inherent": inherent, "speed": speed,
+    "slowest": slowest, "believe": believe, "unseen bug": unseen,
 }
 
 

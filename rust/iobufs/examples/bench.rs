@@ -5,7 +5,7 @@
 //! Prints the nanoseconds an operation of each, or with `--sums` what one run of each saw, and its operations.
 use bytes::BufMut as _;
 use iobufs::codec::{Decode as _, Encode as _};
-use iobufs::{Builder, FrameWriter, IoBuf, IoBufMut, IoBufs, IoBufsMut, Prefix};
+use iobufs::{Builder, FrameWriter, IoBuf, IoBufMut, IoBufs, IoBufsMut, Prefix, ReadLength};
 use std::hint::black_box;
 use std::time::Instant;
 use std::{env, io};

@@ -194,22 +194,6 @@ macro_rules! puts {
             }
         }
 
-        /// Puts a length as a varint, of [`length_size`](crate::length_size) bytes (`usize::write`).
-        ///
-        /// ```
-        #[doc = $make]
-        /// buf.put_length(300);
-        #[doc = concat!("assert_eq!(buf.", $end, "(), [0xac, 0x02]);")]
-        /// ```
-        ///
-        /// # Panics
-        /// Panics if it doesn't fit.
-        #[inline]
-        #[track_caller]
-        pub fn put_length(&mut self, n: usize) {
-            self.put_slice(crate::proved::iobufs_frames::Prefix::Spelled.head(n).as_slice());
-        }
-
         /// Puts a byte (`BufMut`).
         ///
         /// ```
@@ -349,7 +333,7 @@ macro_rules! reads {
 }
 pub(crate) use reads;
 
-/// Takes from the front, and reads numbers and lengths: for `IoBuf` and `IoBufs`, by whose name the examples call it.
+/// Takes from the front, and reads numbers: for `IoBuf` and `IoBufs`, by whose name the examples call it.
 macro_rules! gets {
     ($buffer:literal) => {
         crate::calls::gets! { $buffer,
@@ -374,7 +358,10 @@ macro_rules! gets {
         #[inline]
         #[track_caller]
         pub fn take_view(&mut self, n: usize) -> IoBuf {
-            self.taken(n, "take_owned out of bounds")
+            match self.taken(n) {
+                Some(view) => view,
+                None => split_outside(n, self.len()),
+            }
         }
 
         /// Takes the first `n` bytes, as [`take_view`](Self::take_view) does, as a `T` (`Buf`).
@@ -394,12 +381,12 @@ macro_rules! gets {
             self.take_view(n).into()
         }
 
+        /// Takes the first `n` bytes, if there are as many.
         #[inline]
-        #[track_caller]
-        fn taken(&mut self, n: usize, message: &str) -> IoBuf {
+        fn taken(&mut self, n: usize) -> Option<IoBuf> {
             match core::OwnedBuf::try_take_owned(&mut self.0, Global, n) {
-                Ok(view) => IoBuf(view),
-                Err(core::Error::EndOfBuffer) => panic!("{message}"),
+                Ok(view) => Some(IoBuf(view)),
+                Err(core::Error::EndOfBuffer) => None,
                 Err(_) => crate::error::out_of_memory(Some(n)),
             }
         }
@@ -443,25 +430,6 @@ macro_rules! gets {
             }
         )*
 
-        /// Reads the length at the front, a varint, if it is in the range (`usize::read_cfg`).
-        ///
-        /// ```
-        #[doc = concat!("let mut buf = iobufs::", $buffer, "::from(b\"\\xac\\x02\");")]
-        /// assert_eq!(buf.read_length(..=255), Err(iobufs::Error::InvalidLength(300)));
-        /// assert_eq!(buf.read_length(..=1024), Ok(300));
-        /// assert_eq!(buf.read_length(..), Err(iobufs::Error::EndOfBuffer));
-        /// ```
-        ///
-        /// # Errors
-        /// Returns [`Error::InvalidVarint`](crate::Error::InvalidVarint) if no varint of 64 bits begins here,
-        /// [`Error::InvalidLength`](crate::Error::InvalidLength) if the length is outside the range, and
-        /// [`Error::EndOfBuffer`](crate::Error::EndOfBuffer) if the bytes end inside the varint. Then nothing changes.
-        #[inline]
-        pub fn read_length(&mut self, range: impl RangeBounds<usize>) -> Result<usize, crate::Error> {
-            let range = core::RangeCfg::new(range);
-            <usize as core::Read>::read_cfg(Global, &mut self.0, &range).map_err(crate::error::fault)
-        }
-
         /// Reads the bytes after a length in the range, as one view: shared within a chunk, copied across chunks
         /// (`IoBuf::read_cfg`).
         ///
@@ -473,7 +441,7 @@ macro_rules! gets {
         /// ```
         ///
         /// # Errors
-        /// Returns the errors of [`read_length`](Self::read_length), and
+        /// Returns the errors of [`read_length`](crate::ReadLength::read_length), and
         /// [`Error::EndOfBuffer`](crate::Error::EndOfBuffer) if fewer bytes follow. Then nothing changes.
         #[inline]
         pub fn read_view(&mut self, range: impl RangeBounds<usize>) -> Result<IoBuf, crate::Error> {

@@ -9,6 +9,8 @@ use std::{fmt, process};
 pub(crate) const PAST: &str = "cannot advance past end of buffer";
 /// Its message for a size that no allocation has.
 pub(crate) const LAYOUT: &str = "alignment must be a power of two and the size must fit a layout";
+/// Its message if the buffer is to be filled with zeros.
+pub(crate) const ZEROED: &str = "alignment must be a power of two and the size must fit a layout: LayoutError";
 
 /// Why a value was not read (the codec's `Error`).
 ///

@@ -22,6 +22,7 @@ mod io;
 #[allow(dead_code, missing_docs, clippy::new_without_default)]
 mod kit;
 mod layout;
+mod lengths;
 #[allow(unsafe_code)]
 mod lent;
 mod part;
@@ -40,6 +41,7 @@ mod view;
 pub use commonware::EncodeExt;
 pub use error::{AllocError, Error, TryGetError};
 pub use layout::{Layout, Whole};
+pub use lengths::{PutLength, ReadLength};
 pub use part::IoBufMut;
 pub use parts::{Builder, IoBufsMut};
 pub use streams::{FrameCodec, FrameError, FrameReader, FrameWriter};

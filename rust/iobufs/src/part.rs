@@ -1,7 +1,7 @@
 //! `IoBufMut`.
 use crate::IoBuf;
 use crate::calls::{derefs, equals_bytes, puts, reads, shown};
-use crate::error::{AllocError, LAYOUT, made, shared, tried};
+use crate::error::{AllocError, LAYOUT, ZEROED, made, shared, tried};
 use crate::kit::{self, Global};
 use crate::proved::iobufs_core::{self as inner, codec as core};
 use bytes::Bytes;
@@ -50,11 +50,15 @@ impl IoBufMut {
     /// capacity is 0. If the storage can't be allocated, the process ends.
     #[track_caller]
     pub fn with_alignment(capacity: usize, alignment: NonZeroUsize) -> Self {
-        let align = alignment.get();
+        Self::aligned(capacity, alignment.get(), LAYOUT)
+    }
+
+    #[track_caller]
+    fn aligned(capacity: usize, align: usize, outside: &str) -> Self {
         if align == 1 || capacity == 0 {
-            return Self::with_capacity(capacity);
+            return IoBufMut(made(inner::IoBufMut::with_capacity(Global, capacity), Some(capacity), outside));
         }
-        assert!(Layout::from_size_align(capacity, align).is_ok(), "{LAYOUT}");
+        assert!(Layout::from_size_align(capacity, align).is_ok(), "{outside}");
         let mut block: Vec<u8> = Vec::with_capacity(capacity + align - 1);
         let gap = block.as_ptr().align_offset(align);
         block.resize(gap, 0);
@@ -74,7 +78,7 @@ impl IoBufMut {
     /// Panics above `isize::MAX`. If the storage can't be allocated, the process ends.
     #[track_caller]
     pub fn zeroed(len: usize) -> Self {
-        IoBufMut(made(inner::IoBufMut::zeroed(Global, len), Some(len), LAYOUT))
+        IoBufMut(made(inner::IoBufMut::zeroed(Global, len), Some(len), ZEROED))
     }
 
     /// Makes a buffer of `len` zeros, whose first byte has this alignment, in bytes.
@@ -89,7 +93,7 @@ impl IoBufMut {
     /// Panics as [`with_alignment`](Self::with_alignment) does.
     #[track_caller]
     pub fn zeroed_with_alignment(len: usize, alignment: NonZeroUsize) -> Self {
-        let mut zeros = Self::with_alignment(len, alignment);
+        let mut zeros = Self::aligned(len, alignment.get(), ZEROED);
         zeros.put_bytes(0, len);
         zeros
     }

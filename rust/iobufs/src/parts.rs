@@ -326,6 +326,8 @@ fn claimed<T: Into<Bytes> + 'static>(chunk: T) -> IoBuf {
 /// Encoded bytes and existing buffers, put together as one [`IoBufs`].
 ///
 /// ```
+/// use iobufs::PutLength;
+///
 /// let mut builder = iobufs::Builder::new(1);
 /// builder.put_length(5);
 /// builder.push("world"); // not copied

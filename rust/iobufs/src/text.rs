@@ -416,8 +416,8 @@ impl IoBufs {
     #[track_caller]
     pub fn copy_to_bytes(&mut self, n: usize) -> Bytes {
         let is_single = self.is_single();
-        self.taken(n, if is_single { "copy_to_bytes out of bounds" } else { "IoBufs::copy_to_bytes: not enough data" })
-            .into()
+        let outside = if is_single { "copy_to_bytes out of bounds" } else { "IoBufs::copy_to_bytes: not enough data" };
+        self.taken(n).expect(outside).into()
     }
 
     reads! { crate::error::short_chunks, "let mut buf = iobufs::IoBufs::from([\"he\".into(), \"llo\".into()]);" }

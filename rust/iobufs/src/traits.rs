@@ -153,13 +153,13 @@ conversions! {
     IoBufMut => Bytes, |part: IoBufMut| part.freeze().into();
 }
 
-/// `BufMut`, which is an unsafe trait.
+/// `BufMut`, which is an unsafe trait, of buffers that panic by a function if what is put doesn't fit.
 macro_rules! buf_mut {
-    ($($buffer:ident)*) => {$(
-        buf_mut! { $buffer, put_slice(src: &[u8]), put_bytes(value: u8, n: usize), put_u8(n: u8), put_u16(n: u16),
+    ($($buffer:ident $past:path;)*) => {$(
+        buf_mut! { $buffer, $past, put_slice(src: &[u8]), put_bytes(value: u8, n: usize), put_u8(n: u8), put_u16(n: u16),
             put_u32(n: u32), put_u64(n: u64) }
     )*};
-    ($buffer:ident, $($put:ident($($arg:ident: $type:ty),*)),*) => {
+    ($buffer:ident, $past:path, $($put:ident($($arg:ident: $type:ty),*)),*) => {
         // SAFETY: `space` is within the capacity, and `fill` counts no more than that.
         #[allow(unsafe_code)]
         unsafe impl BufMut for $buffer {
@@ -183,7 +183,9 @@ macro_rules! buf_mut {
             #[inline]
             #[track_caller]
             fn put<B: Buf>(&mut self, mut src: B) {
-                assert!(src.remaining() <= self.remaining_mut(), "{}", crate::error::PAST);
+                if src.remaining() > self.remaining_mut() {
+                    $past(src.remaining(), self.remaining_mut());
+                }
                 while src.has_remaining() {
                     let chunk = src.chunk();
                     let n = chunk.len();
@@ -202,4 +204,4 @@ macro_rules! buf_mut {
     };
 }
 
-buf_mut! { IoBufMut IoBufsMut Builder }
+buf_mut! { IoBufMut crate::error::full; IoBufsMut crate::error::past; Builder crate::error::past; }

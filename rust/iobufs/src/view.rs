@@ -292,7 +292,7 @@ impl IoBuf {
     #[inline]
     #[track_caller]
     pub fn copy_to_bytes(&mut self, n: usize) -> Bytes {
-        self.taken(n, "copy_to_bytes out of bounds").into()
+        self.taken(n).expect("copy_to_bytes out of bounds").into()
     }
 
     reads! { crate::error::too_short, "let mut buf = iobufs::IoBuf::from(\"hello\");" }

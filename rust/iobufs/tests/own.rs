@@ -1,7 +1,10 @@
 //! Texts and parts, worked by hand: equality, failed allocations, lengths, panics and threads.
-use iobufs::{Error, IoBuf, IoBufMut, IoBufs, IoBufsMut, Prefix};
+use bytes::{Buf, BufMut, BytesMut};
+use iobufs::{Builder, Error, IoBuf, IoBufMut, IoBufs, IoBufsMut, Prefix, PutLength, ReadLength, length_size};
 use std::io::IoSlice;
+use std::num::NonZeroUsize;
 use std::ops::Bound;
+use std::panic::catch_unwind;
 use std::process::Command;
 use std::thread;
 
@@ -73,6 +76,61 @@ fn ranges_of_lengths() {
     }
 }
 
+/// Bytes in chunks, of which `chunks_vectored` shows only the first.
+struct Hidden(Vec<&'static [u8]>);
+
+impl Buf for Hidden {
+    fn remaining(&self) -> usize {
+        self.0.iter().map(|chunk| chunk.len()).sum()
+    }
+
+    fn chunk(&self) -> &[u8] {
+        self.0.first().copied().unwrap_or_default()
+    }
+
+    fn advance(&mut self, n: usize) {
+        self.0[0].advance(n);
+        self.0.retain(|chunk| !chunk.is_empty());
+    }
+}
+
+/// Bytes, what a length at their front is in the range up to 1024, and how many bytes it has.
+const LENGTHS: [(&[u8], Result<usize, Error>, usize); 9] = [
+    (b"", Err(Error::EndOfBuffer), 0),
+    (b"\x05", Ok(5), 1),
+    (b"\x05hello", Ok(5), 1),
+    (b"\xac\x02-", Ok(300), 2),
+    (b"\x80\x08----------", Ok(1024), 2),
+    (b"\x81\x08----------", Err(Error::InvalidLength(1025)), 2),
+    (b"\x81", Err(Error::EndOfBuffer), 1),
+    (b"\x80\x00-", Err(Error::InvalidVarint), 2),
+    (b"\xff\xff\xff\xff\xff\xff\xff\xff\xff\x02-", Err(Error::InvalidVarint), 10),
+];
+
+// A length is read from any buffer, however its bytes are cut. After an error nothing changes, unless bytes are hidden.
+#[test]
+fn lengths_at_the_front_of_any_buffer() {
+    fn read(mut buf: impl Buf) -> (Result<usize, Error>, usize) {
+        (buf.read_length(..=1024), buf.remaining())
+    }
+    for (bytes, wanted, len) in LENGTHS {
+        let left = |is_hidden| bytes.len() - if wanted.is_ok() || is_hidden { len } else { 0 };
+        assert_eq!([read(bytes), read(BytesMut::from(bytes)), read(IoBufMut::from(bytes))], [(wanted, left(false)); 3]);
+        for n in 1..4 {
+            let bufs: IoBufs = bytes.chunks(n).map(IoBuf::from).collect();
+            let (front, back) = bytes.split_at(n.min(bytes.len()));
+            assert_eq!([read(bufs), read(front.chain(back))], [(wanted, left(false)); 2], "{bytes:?}, chunks of {n}");
+            let shows_all = bytes.len() <= n;
+            assert_eq!(read(Hidden(bytes.chunks(n).collect())), (wanted, left(!shows_all)), "{bytes:?}, hidden");
+        }
+    }
+    for n in [0, 127, 128, usize::MAX] {
+        let mut to = Vec::new();
+        to.put_length(n);
+        assert_eq!((to.len(), (&to[..]).read_length(..)), (length_size(n), Ok(n)));
+    }
+}
+
 // The chunks of an `IoBufs`, each byte and its offset, and a slice of one chunk.
 #[test]
 fn bytes_and_chunks() {
@@ -115,10 +173,29 @@ fn a_failed_allocation_tells_its_size() {
     assert!(!ended.status.success() && said.contains("4611686018427387904 bytes failed"), "{said}");
 }
 
+/// Calls that panic, and the text, which is the original's.
+const PANICS: [(fn(), &str); 10] = [
+    (|| drop(text().split_to(10)), "split_to out of bounds: 10 <= 9"),
+    (|| drop(text().take_view(10)), "split_to out of bounds: 10 <= 9"),
+    (|| drop(text().take_owned::<Vec<u8>>(10)), "split_to out of bounds: 10 <= 9"),
+    (|| drop(IoBuf::from(b"ab").take_view(3)), "split_to out of bounds: 3 <= 2"),
+    (|| drop(text().copy_to_bytes(10)), "IoBufs::copy_to_bytes: not enough data"),
+    (|| drop(IoBuf::from(b"ab").copy_to_bytes(3)), "copy_to_bytes out of bounds"),
+    (|| drop(IoBufMut::zeroed(usize::MAX)), NO_LAYOUT),
+    (|| drop(IoBufMut::zeroed_with_alignment(1, NonZeroUsize::new(6).unwrap())), NO_LAYOUT),
+    (|| IoBufMut::with_capacity(2).put(&b"abc"[..]), "cannot advance past end of buffer"),
+    (|| Builder::new(2).put(&b"abc"[..]), "advance out of bounds: the len is 2 but advancing by 3"),
+];
+
+const NO_LAYOUT: &str = "alignment must be a power of two and the size must fit a layout: LayoutError";
+
 #[test]
-#[should_panic(expected = "split_to out of bounds")]
-fn split_past_the_end() {
-    drop(text().split_to(10));
+fn texts_of_panics() {
+    for (call, wanted) in PANICS {
+        let why = catch_unwind(call).unwrap_err();
+        let text = why.downcast_ref::<String>().map(String::as_str).or(why.downcast_ref::<&str>().copied());
+        assert_eq!(text, Some(wanted));
+    }
 }
 
 #[test]

@@ -4,7 +4,7 @@
 use bytes::Bytes;
 use iobufs::codec::Encode;
 use iobufs::codec::proved::{BufMut, BufsMut, EncodeSize, Error, Write};
-use iobufs::{Builder, Frames, IoBuf, IoBufMut, IoBufs};
+use iobufs::{Builder, Frames, IoBuf, IoBufMut, IoBufs, PutLength};
 use std::cell::Cell;
 use std::collections::BTreeMap;
 use std::ops::{Bound, Range, RangeBounds};

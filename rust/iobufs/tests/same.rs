@@ -1,9 +1,24 @@
 //! Each answer is the original's (`same/original`), but those that `same/differences` has with its reason. The script
 //! tests/same compares `same/original` with the original itself.
+#[cfg(feature = "commonware-codec")]
+use iobufs::EncodeExt as _;
 use iobufs::{Builder, IoBuf, IoBufMut, IoBufs, IoBufsMut};
 use std::collections::HashMap;
 
 include!("same/answers.rs");
+
+#[cfg(feature = "commonware-codec")]
+#[path = "same/codec.rs"]
+mod codec;
+#[path = "same/more.rs"]
+mod more;
+
+/// The answers of the other files.
+const FURTHER: &[fn(&mut Answers)] = &[
+    more::of_more,
+    #[cfg(feature = "commonware-codec")]
+    codec::of_codec,
+];
 
 /// The lines of a table, which are names and what comes after an arrow.
 fn table(text: &'static str) -> HashMap<&'static str, &'static str> {
@@ -21,8 +36,9 @@ fn wrong(answers: &Answers, original: &HashMap<&str, &str>, differences: &HashMa
 
 #[test]
 fn answers_are_those_of_the_original() {
-    let answers = answers();
-    let original = table(include_str!("same/original"));
+    let answers = answers(FURTHER);
+    let mut original = table(include_str!("same/original"));
+    original.retain(|name, _| cfg!(feature = "commonware-codec") || !name.starts_with("codec: "));
     let mut differences = table(include_str!("same/differences"));
     differences.retain(|name, _| !name.starts_with("use: "));
     for answer in differences.values_mut() {

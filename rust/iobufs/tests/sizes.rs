@@ -1,5 +1,5 @@
 //! Chunks of up to 2 MiB, ranges without bytes, and lengths above 2^32. The bytes are those of `model`.
-use iobufs::{Error, Frames, IoBuf, IoBufMut, IoBufs, length_size};
+use iobufs::{Error, Frames, IoBuf, IoBufMut, IoBufs, PutLength, length_size};
 use std::ops::Bound::{Excluded, Included, Unbounded};
 
 const SIZES: [usize; 5] = [64, 4097, 65537, (1 << 20) + 1, 2 << 20];

@@ -261,8 +261,8 @@ fn of_builders(answers: &mut Answers) {
     ask(answers, "an empty builder".into(), || shape(&Builder::new(2).finish()));
 }
 
-/// All answers.
-fn answers() -> Answers {
+/// All answers, with those of the files beside this one.
+fn answers(further: &[fn(&mut Answers)]) -> Answers {
     let hook = std::panic::take_hook();
     std::panic::set_hook(Box::new(|_| {}));
     let mut answers = Vec::new();
@@ -271,6 +271,7 @@ fn answers() -> Answers {
     of_lists(&mut answers);
     of_lists_to_write(&mut answers);
     of_builders(&mut answers);
+    further.iter().for_each(|of| of(&mut answers));
     // A difference is printed.
     std::panic::set_hook(hook);
     answers

@@ -7,6 +7,7 @@ use std::ops::{Bound, RangeBounds};
 #[derive(Debug, PartialEq, Eq)]
 pub enum Error {
     EndOfBuffer,
+    InvalidVarint,
     InvalidLength(usize),
     ExtraData(usize),
 }
@@ -112,16 +113,21 @@ impl<R: RangeBounds<usize>> From<R> for RangeCfg<usize> {
     }
 }
 
-/// One byte, which is enough for these tests.
+/// Seven bits a byte, the lowest first, in the shortest form.
 impl EncodeSize for usize {
     fn encode_size(&self) -> usize {
-        1
+        (usize::BITS - (self | 1).leading_zeros()).div_ceil(7) as usize
     }
 }
 
 impl Write for usize {
     fn write(&self, buf: &mut impl BufMut) {
-        buf.put_u8(u8::try_from(*self).expect("a short length"));
+        let mut rest = *self;
+        while rest >= 128 {
+            buf.put_u8(rest as u8 | 128);
+            rest >>= 7;
+        }
+        buf.put_u8(rest as u8);
     }
 }
 
@@ -129,10 +135,20 @@ impl Read for usize {
     type Cfg = RangeCfg<usize>;
 
     fn read_cfg(buf: &mut impl Buf, range: &Self::Cfg) -> Result<Self, Error> {
-        if !buf.has_remaining() {
-            return Err(Error::EndOfBuffer);
+        let mut n = 0;
+        for place in 0..10 {
+            let byte = buf.try_get_u8().map_err(|_| Error::EndOfBuffer)?;
+            n |= usize::from(byte & 127) << (7 * place);
+            if byte < 128 {
+                let is_long = (byte == 0 && place > 0) || (place == 9 && byte > 1);
+                let is_within = range.0 <= n && n <= range.1;
+                return if is_long {
+                    Err(Error::InvalidVarint)
+                } else {
+                    is_within.then_some(n).ok_or(Error::InvalidLength(n))
+                };
+            }
         }
-        let n = usize::from(buf.get_u8());
-        if n < range.0 || n > range.1 { Err(Error::InvalidLength(n)) } else { Ok(n) }
+        Err(Error::InvalidVarint)
     }
 }
