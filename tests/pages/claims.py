@@ -38,7 +38,10 @@ def claims():
     pages = ["README.md", "rust/iobufs/README.md"]
     rustc, manifests = first(manifest, r'^rust-version = "(.*)"'), ["rust/Cargo.toml", "rust/tokio/Cargo.toml"]
     yield "rustc", rustc, [*pages, *manifests], r"rust(?:c|-version =) \"?(1\.\d+)"
-    yield "bytes", first(manifest, r'^bytes = "(.*)"'), pages[1:], r"`bytes` \((\S+) or later\)"
+    bytes_least, others = first(manifest, r'^bytes = "(.*)"'), ["rust/tokio/Cargo.toml", "rust/over_bytes/Cargo.toml"]
+    yield "bytes", bytes_least, pages[1:], r"`bytes` \((\S+) or later\)"
+    yield "bytes", bytes_least, others, r'^bytes = "(.*)"'
+    yield "bytes", bytes_least, ["rust/iobufs/src/spare/block.rs"], r"read in version (\d[\d.]*\d)"
     original = first(manifest, r"commonware-runtime (\d+\.\d+\.\d+)")
     everywhere = [*pages, "rust/iobufs/CHANGELOG.md", "bindings/include/iobufs.h", "bench/README.md"]
     yield "the original", original, everywhere, r"commonware-runtime (\d+\.\d+\.\d+)"

@@ -2,7 +2,7 @@
 use bytes::BytesMut;
 
 /// Makes all of a block readable, as each byte of its allocation was before: zeroed when it was made, or written since.
-/// `bytes::BytesMut::try_reclaim` moves bytes within that allocation, or leaves them.
+/// `bytes::BytesMut::try_reclaim` moves bytes within that allocation, or leaves them: read in version 1.12.1.
 #[inline]
 pub(super) fn show_again(block: &mut BytesMut) {
     let n = block.capacity();
