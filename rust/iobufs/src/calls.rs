@@ -34,12 +34,28 @@ pub(crate) fn outside(lo: usize, hi: usize) -> ! {
     panic!("{}", if lo > hi { "slice start must be <= end" } else { "slice out of bounds" })
 }
 
-/// `Debug`, which shows no byte, and hexadecimal digits of a buffer's bytes.
+/// How many bytes `{:#?}` shows.
+const SHOWN: usize = 64;
+
+/// Returns the first bytes as a literal, and two dots if there are others.
+pub(crate) fn first_bytes<'a>(chunks: impl Iterator<Item = &'a [u8]>) -> String {
+    let mut bytes = chunks.flatten();
+    let shown: Vec<u8> = bytes.by_ref().take(SHOWN).copied().collect();
+    format!("b\"{}\"{}", shown.escape_ascii(), if bytes.next().is_some() { ".." } else { "" })
+}
+
+/// `Debug`, which shows bytes only as `{:#?}`, and hexadecimal digits of a buffer's bytes.
 macro_rules! shown {
     ($buffer:ident, $($field:ident: $value:ident),*) => {
         impl std::fmt::Debug for $buffer {
             fn fmt(&self, f: &mut std::fmt::Formatter<'_>) -> std::fmt::Result {
-                f.debug_struct(stringify!($buffer))$(.field(stringify!($field), &self.$value()))*.finish()
+                let bytes = f.alternate().then(|| crate::calls::first_bytes(self.each_chunk()));
+                let mut shown = f.debug_struct(stringify!($buffer));
+                $(shown.field(stringify!($field), &self.$value());)*
+                if let Some(bytes) = bytes {
+                    shown.field("bytes", &format_args!("{bytes}"));
+                }
+                shown.finish()
             }
         }
 

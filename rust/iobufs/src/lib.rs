@@ -6,6 +6,9 @@
 //!   `BytesMut`; [`Prefix`] says how a length is written, [`Layout`] what else a header has.
 //! - A struct or an enum of one's own: [`codec`], by [`fields!`] and [`kinds!`].
 //!
+//! The buffers are [`Buf`]s and [`BufMut`]s, the traits of the crate [`bytes`]. Values of [`codec`] are read from a
+//! [`codec::Source`], a `Buf` that gives views, and written to a [`codec::Sink`], a `BufMut` that takes them.
+//!
 //! A name in brackets, as `Buf` or `usize::write`, is the original's trait or call.
 #![deny(unsafe_code)]
 #![warn(missing_docs, clippy::missing_errors_doc, clippy::missing_panics_doc)]
@@ -19,6 +22,8 @@ pub mod codec;
 mod commonware;
 mod error;
 mod io;
+#[cfg(feature = "keys")]
+mod keys;
 #[allow(dead_code, missing_docs, clippy::new_without_default)]
 mod kit;
 mod layout;
@@ -37,6 +42,10 @@ mod text;
 mod traits;
 mod view;
 
+/// The crate whose traits and types the calls name.
+pub use bytes;
+#[doc(no_inline)]
+pub use bytes::{Buf, BufMut};
 #[cfg(feature = "commonware-codec")]
 pub use commonware::EncodeExt;
 pub use error::{AllocError, Error, TryGetError};

@@ -22,7 +22,8 @@ use std::ops::{Bound, RangeBounds};
 /// a `BytesMut`, may allocate. The storage lives until its last view is dropped. [`IoBufs`](crate::IoBufs) joins
 /// several views; [`try_into_mut`](Self::try_into_mut) makes one writable.
 ///
-/// A buffer has no order and no hash, as in the original. A key of a map says which it has:
+/// Without the feature `keys` a view has no order and no hash, as in the original. A key of a map then says which it
+/// has:
 ///
 /// ```
 /// use std::{borrow::Borrow, collections::HashMap, hash::{Hash, Hasher}};

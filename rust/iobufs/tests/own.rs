@@ -173,6 +173,29 @@ fn a_failed_allocation_tells_its_size() {
     assert!(!ended.status.success() && said.contains("4611686018427387904 bytes failed"), "{said}");
 }
 
+/// Bytes, and how `{:#?}` shows them.
+const SHOWN: [(&[u8], &str); 5] = [
+    (b"", r#"b"""#),
+    (b"hello", r#"b"hello""#),
+    (b"a\"\0\xff\n", r#"b"a\"\x00\xff\n""#),
+    (&[b'a'; 64], r#"b"aaaaaaaaaaaaaaaaaaaaaaaaaaaaaaaaaaaaaaaaaaaaaaaaaaaaaaaaaaaaaaaa""#),
+    (&[b'a'; 65], r#"b"aaaaaaaaaaaaaaaaaaaaaaaaaaaaaaaaaaaaaaaaaaaaaaaaaaaaaaaaaaaaaaaa".."#),
+];
+
+// The bytes are shown, at most 64 of them, by `{:#?}` alone.
+#[test]
+fn bytes_that_debug_shows() {
+    for (bytes, wanted) in SHOWN {
+        let (view, len) = (IoBuf::from(bytes), bytes.len());
+        let bufs: IoBufs = bytes.chunks(7).map(IoBuf::from).collect();
+        let parts: IoBufsMut = bytes.chunks(7).map(IoBufMut::from).collect();
+        assert_eq!(format!("{view:?}"), format!("IoBuf {{ len: {len} }}"));
+        assert_eq!(format!("{view:#?}"), format!("IoBuf {{\n    len: {len},\n    bytes: {wanted},\n}}"));
+        let texts = [format!("{bufs:#?}"), format!("{parts:#?}"), format!("{:#?}", IoBufMut::from(bytes))];
+        assert!(texts.iter().all(|text| text.ends_with(&format!("    bytes: {wanted},\n}}"))), "{texts:?}");
+    }
+}
+
 /// Calls that panic, and the text, which is the original's.
 const PANICS: [(fn(), &str); 10] = [
     (|| drop(text().split_to(10)), "split_to out of bounds: 10 <= 9"),
