@@ -530,7 +530,8 @@ size_t iobufs_frames_len(const struct iobufs_frames_at *frames);
 /* The bytes that were fed and not taken, in their storage. (own)
  * Fails: IOBUFS_MEMORY, for the deque. */
 IOBUFS_CHECKED iobufs_status iobufs_frames_rest(const struct iobufs_frames_at *frames, struct iobufs_at *out);
-/* Adds a view at the end, and leaves its handle empty. (own)
+/* Adds a view at the end, and leaves its handle empty. Each view that is held takes 40 to 120 bytes besides its storage,
+ * even if it has one byte: bound the number of views too, or read into a struct iobufs_received, which has one block. (own)
  * Fails: IOBUFS_TOO_LONG if the length would pass SIZE_MAX; IOBUFS_MEMORY if the list of chunks has to grow.
  * Keeps: both. */
 IOBUFS_CHECKED iobufs_status iobufs_frames_feed(struct iobufs_frames_at *frames, struct iobuf_at *view);

@@ -182,7 +182,7 @@ impl FrameCodec {
     ///
     /// # Errors
     /// Returns [`Error::InvalidLength`] if the length is outside the range, or no header can have it, or headers have
-    /// bytes around their lengths. Then `dst` is unchanged.
+    /// bytes around their lengths, or `dst` would have more than `isize::MAX` bytes. Then `dst` is unchanged.
     pub fn encode(&self, body: &IoBufs, dst: &mut BytesMut) -> Result<(), Error> {
         self.begin(&[], &[], body.len(), dst)?;
         body.for_each_chunk(|chunk| dst.extend_from_slice(chunk));
@@ -203,7 +203,8 @@ impl FrameCodec {
     ///
     /// # Errors
     /// Returns [`Error::InvalidLength`] if the length is outside the range, or no header can have it, or the layout has
-    /// another number of bytes before or after the length, or more than 22. Then `dst` is unchanged.
+    /// another number of bytes before or after the length, or more than 22, or `dst` would have more than `isize::MAX`
+    /// bytes. Then `dst` is unchanged.
     pub fn encode_with(&self, before: &[u8], after: &[u8], body: &IoBufs, dst: &mut BytesMut) -> Result<(), Error> {
         self.begin(before, after, body.len(), dst)?;
         body.for_each_chunk(|chunk| dst.extend_from_slice(chunk));
@@ -232,6 +233,10 @@ impl FrameCodec {
     #[inline(always)]
     fn begin(&self, before: &[u8], after: &[u8], len: usize, dst: &mut BytesMut) -> Result<(), Error> {
         let head = self.layout.header_within(before, after, len, &self.range).ok_or(Error::InvalidLength(len))?;
+        // More than `isize::MAX` bytes are in no `BytesMut`.
+        if head.len() + len > isize::MAX as usize - dst.len() {
+            return Err(Error::InvalidLength(len));
+        }
         dst.reserve(head.len() + len);
         dst.extend_from_slice(head.as_slice());
         Ok(())

@@ -729,6 +729,10 @@ impl Frames {
     /// # Ok::<(), iobufs::Error>(())
     /// ```
     ///
+    /// Each chunk that is held takes 40 to 80 bytes besides its storage, even if it has one byte. A peer whose bytes come
+    /// one by one therefore decides how much memory a frame takes: bound the number of chunks too, or take frames by a
+    /// [`FrameReader`](crate::FrameReader) or a [`FrameCodec`](crate::FrameCodec), whose bytes are in one block.
+    ///
     /// # Panics
     /// Panics if the length of all that is held passes `usize::MAX`.
     #[inline]

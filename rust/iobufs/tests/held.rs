@@ -1,5 +1,6 @@
 //! How much memory readers and writers of frames hold. `malloc` is counted, which Rust's collections call.
-use iobufs::{FrameReader, FrameWriter, IoBuf, IoBufs, Layout, Prefix};
+use bytes::BytesMut;
+use iobufs::{Error, FrameCodec, FrameReader, FrameWriter, Frames, IoBuf, IoBufs, Layout, Prefix};
 use std::cell::Cell;
 use std::ffi::c_void;
 use std::io::{self, Read};
@@ -17,6 +18,7 @@ unsafe extern "C" {
     fn __libc_realloc(old: *mut c_void, n: usize) -> *mut c_void;
     fn __libc_free(old: *mut c_void);
     fn malloc_usable_size(at: *mut c_void) -> usize;
+    fn mmap(at: *mut c_void, n: usize, protection: i32, flags: i32, file: i32, offset: i64) -> *mut c_void;
 }
 
 fn count(before: isize, at: *mut c_void) -> *mut c_void {
@@ -236,4 +238,62 @@ fn allocations_of_frames() {
     let (mut from, before) = (FrameReader::new(&bytes[..], ..), CALLS.get());
     (0..200).for_each(|_| assert_eq!(from.next().unwrap().unwrap().len(), 64));
     assert!(CALLS.get() - before <= 12, "{} allocations for {} bytes", CALLS.get() - before, bytes.len());
+}
+
+/// How a byte comes as a chunk of its own, and how many bytes at most are held for it: up to 80 in the list of chunks, as
+/// `Frames::feed` says, and the chunk's storage.
+const FED: [(&str, fn(&IoBuf, usize) -> IoBuf, usize); 3] = [
+    ("a view of a received block", |block, i| block.slice(i..=i), 80),
+    ("a copy", |block, i| IoBuf::copy_from_slice(&block[i..=i]), 80 + 56),
+    ("a `Vec`", |_, _| IoBuf::from(vec![1]), 80 + 80),
+];
+
+// What a peer makes frames hold that are fed byte by byte, and what a reader holds of the same bytes.
+#[test]
+fn memory_of_chunks_of_one_byte() {
+    for count in [4096, 16_384, 16_385, 20_000, 70_000] {
+        let mut body = Prefix::U32Be.written(2 * count).unwrap().to_vec();
+        body.resize(count, 1);
+        let block = IoBuf::from(body.clone());
+        for (name, chunk, most) in FED {
+            let (mut frames, before) = (Frames::new(Prefix::U32Be), HELD.get());
+            (0..count).for_each(|i| frames.feed(chunk(&block, i)));
+            let held = (HELD.get() - before) as usize;
+            assert!(frames.len() == count && held <= most * count + 4096, "{name}: {held} for {count} bytes");
+        }
+        let before = HELD.get();
+        let mut from = FrameReader::with_prefix(Few(&body, 1), Prefix::U32Be, ..);
+        assert!(from.next().is_err());
+        let held = (HELD.get() - before) as usize;
+        assert!(held <= 2 * count + 4096, "{held} for {count} bytes");
+    }
+}
+
+/// So many bytes of addresses that can be read, and are never read.
+const ADDRESSES: usize = 1 << 46;
+
+/// A view of addresses that no memory is behind.
+fn addresses() -> IoBuf {
+    const READ: i32 = 1;
+    const PRIVATE_ANONYMOUS_NORESERVE: i32 = 2 | 32 | 16384;
+    // SAFETY: the system chooses the addresses, which stay. Each page would be zeros if it were read.
+    let bytes = unsafe {
+        let at = mmap(std::ptr::null_mut(), ADDRESSES, READ, PRIVATE_ANONYMOUS_NORESERVE, -1, 0);
+        assert!(at as isize != -1, "{}", io::Error::last_os_error());
+        std::slice::from_raw_parts(at.cast::<u8>(), ADDRESSES)
+    };
+    IoBuf::from(bytes)
+}
+
+// A frame that no `BytesMut` can hold is refused, and nothing changes.
+#[test]
+fn frames_above_the_longest_buffer() {
+    let (view, codec) = (addresses(), FrameCodec::new(Layout::new(Prefix::U64Be).before(1), ..));
+    let longest = isize::MAX as usize;
+    let all: IoBufs = (0..=longest / ADDRESSES).map(|_| view.clone()).collect();
+    for (len, dst) in [(longest + 1, ""), (longest, ""), (longest - 8, ""), (longest - 9, "-")] {
+        let (body, mut to) = (all.slice(..len), BytesMut::from(dst));
+        assert_eq!(codec.encode_with(b"Q", &[], &body, &mut to), Err(Error::InvalidLength(len)));
+        assert_eq!(to, dst);
+    }
 }
