@@ -252,6 +252,12 @@ impl Block {
         Ok(Block { head: self.head })
     }
 
+    /// Returns whether this is the only handle. If so, all that others did happened before.
+    #[inline]
+    pub fn is_only(&self) -> bool {
+        self.head().handles.is_one()
+    }
+
     /// Takes the storage back, if this is the only handle.
     #[inline]
     pub fn take(self) -> Result<(Space, Shell), Block> {
@@ -284,7 +290,7 @@ impl Block {
     // Gives up this handle, if it is the only one. All that others did happened before.
     #[inline]
     fn only(self) -> Result<NonNull<Head>, Block> {
-        if !self.head().handles.is_one() {
+        if !self.is_only() {
             return Err(self);
         }
         Ok(ManuallyDrop::new(self).head)

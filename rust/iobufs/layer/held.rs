@@ -138,6 +138,15 @@ impl Held {
         matches!(self.0, Storage::Shared(_))
     }
 
+    /// Returns whether nothing else has a share of the storage, unless that is a `Bytes`. Static bytes are shared.
+    #[inline]
+    pub fn is_only(&self) -> Result<bool, &Bytes> {
+        match &self.0 {
+            Storage::Own(own) => Ok(own.block.as_ref().is_some_and(Block::is_only)),
+            Storage::Shared(bytes) => Err(bytes),
+        }
+    }
+
     /// Drops the first `n` bytes. Panics if there are fewer.
     #[inline]
     pub fn advance(&mut self, n: usize) {

@@ -1,6 +1,6 @@
 //! Headers of frames that are more than a length, and frames that are taken with them.
 #![forbid(unsafe_code)]
-use crate::proved::{iobufs_core::buf, iobufs_frames as inner};
+use crate::proved::iobufs_frames as inner;
 use crate::{IoBuf, IoBufs, Prefix};
 
 /// Where a frame's length is in its header, how it is written, and what it counts. A `Prefix` is the layout of a header
@@ -73,13 +73,31 @@ impl From<Prefix> for Layout {
 }
 
 /// A frame with its header, as an `IoBuf` or an `IoBufs`.
+///
+/// ```
+/// use iobufs::{FrameReader, Layout, Prefix};
+///
+/// let layout = Layout::new(Prefix::Varint).before(1).after(2);
+/// let mut from = FrameReader::with_prefix(&b"Q\x05abhello"[..], layout, ..=1024);
+/// let whole = from.next_whole()?.unwrap();
+/// assert_eq!((whole.before(), whole.after(), whole.header()), (&b"Q"[..], &b"ab"[..], &b"Q\x05ab"[..]));
+/// assert_eq!(whole.into_body(), "hello");
+/// # Ok::<(), iobufs::FrameError>(())
+/// ```
 #[derive(Clone, Debug)]
 pub struct Whole<T> {
-    pub(crate) header: usize,
-    pub(crate) frame: T,
+    header: usize,
+    before: usize,
+    after: usize,
+    frame: T,
 }
 
 impl<T> Whole<T> {
+    /// A frame of a layout, with how many bytes its header has.
+    pub(crate) fn of(layout: inner::Layout, header: usize, frame: T) -> Self {
+        Whole { header, before: layout.before.into(), after: layout.after.into(), frame }
+    }
+
     /// Returns how many bytes the header has.
     pub fn header_len(&self) -> usize {
         self.header
@@ -97,13 +115,19 @@ impl<T> Whole<T> {
 }
 
 impl Whole<IoBuf> {
-    pub(crate) fn of((header, frame): (usize, buf::IoBuf)) -> Self {
-        Whole { header, frame: IoBuf(frame) }
-    }
-
     /// Borrows the bytes of the header, the length among them.
     pub fn header(&self) -> &[u8] {
         &self.frame[..self.header]
+    }
+
+    /// Borrows the bytes of the header before the length.
+    pub fn before(&self) -> &[u8] {
+        &self.frame[..self.before]
+    }
+
+    /// Borrows the bytes of the header after the length.
+    pub fn after(&self) -> &[u8] {
+        &self.frame[self.header - self.after..self.header]
     }
 
     /// Returns the body, which shares the frame's storage.
@@ -114,6 +138,16 @@ impl Whole<IoBuf> {
 }
 
 impl Whole<IoBufs> {
+    /// Returns the bytes of the header before the length, in the frame's storage.
+    pub fn before(&self) -> IoBufs {
+        self.frame.slice(..self.before)
+    }
+
+    /// Returns the bytes of the header after the length, in the frame's storage.
+    pub fn after(&self) -> IoBufs {
+        self.frame.slice(self.header - self.after..self.header)
+    }
+
     /// Returns the body, which shares the frame's storage.
     pub fn into_body(mut self) -> IoBufs {
         self.frame.advance(self.header);

@@ -6,7 +6,7 @@ use crate::kit::{self, Global};
 use crate::proved::iobufs_core::{self as inner, codec as core};
 use bytes::Bytes;
 use std::alloc::Layout;
-use std::mem;
+use std::mem::{self, MaybeUninit};
 use std::num::NonZeroUsize;
 
 /// One chunk of storage to write, which no other buffer shares.
@@ -23,6 +23,16 @@ use std::num::NonZeroUsize;
 pub struct IoBufMut(pub(crate) inner::IoBufMut);
 
 impl IoBufMut {
+    /// Makes a buffer without capacity. It allocates nothing.
+    ///
+    /// ```
+    /// assert_eq!(iobufs::IoBufMut::new().capacity(), 0);
+    /// ```
+    #[inline]
+    pub fn new() -> Self {
+        Self::default()
+    }
+
     /// Makes an empty buffer of this capacity, in bytes.
     ///
     /// ```
@@ -219,6 +229,22 @@ impl IoBufMut {
         }
     }
 
+    /// Returns the spare capacity after the readable bytes. Bytes that are written there become readable by
+    /// [`set_len`](Self::set_len).
+    ///
+    /// ```
+    /// let mut buf = iobufs::IoBufMut::with_capacity(4);
+    /// buf.put_u8(b'o');
+    /// buf.spare_capacity_mut()[0].write(b'k');
+    /// // SAFETY: two bytes are written.
+    /// unsafe { buf.set_len(2) };
+    /// assert_eq!(buf, "ok");
+    /// ```
+    #[inline]
+    pub fn spare_capacity_mut(&mut self) -> &mut [MaybeUninit<u8>] {
+        self.0.space()
+    }
+
     /// Keeps at most the first `len` bytes, and the capacity.
     ///
     /// ```
@@ -329,6 +355,18 @@ impl Clone for IoBufMut {
         let mut copy = Self::with_capacity(self.capacity());
         copy.put_slice(self);
         copy
+    }
+}
+
+impl FromIterator<u8> for IoBufMut {
+    fn from_iter<I: IntoIterator<Item = u8>>(bytes: I) -> Self {
+        Self::from(Vec::from_iter(bytes))
+    }
+}
+
+impl<'a> FromIterator<&'a u8> for IoBufMut {
+    fn from_iter<I: IntoIterator<Item = &'a u8>>(bytes: I) -> Self {
+        bytes.into_iter().copied().collect()
     }
 }
 

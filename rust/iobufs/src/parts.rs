@@ -1,6 +1,6 @@
 //! `IoBufsMut` and `Builder`.
 #![forbid(unsafe_code)]
-use crate::calls::{puts, reads, shown};
+use crate::calls::{equals_bytes, puts, reads, shown};
 use crate::error::{LAYOUT, made, shared};
 use crate::kit::Global;
 use crate::proved::iobufs as inner;
@@ -253,6 +253,12 @@ impl IoBufsMut {
         let parts = (0..self.0.part_count()).filter_map(|i| self.0.part_at(i));
         parts.map(|part| part.as_ref()).filter(|chunk| !chunk.is_empty())
     }
+
+    fn has(&self, bytes: &[u8]) -> bool {
+        let mut rest = Some(bytes);
+        self.each_chunk().for_each(|chunk| rest = rest.and_then(|it| it.strip_prefix(chunk)));
+        rest.is_some_and(<[u8]>::is_empty)
+    }
 }
 
 impl Default for IoBufsMut {
@@ -262,6 +268,7 @@ impl Default for IoBufsMut {
     }
 }
 
+equals_bytes!(IoBufsMut);
 shown!(IoBufsMut, len: len, cap: capacity);
 
 impl From<IoBufMut> for IoBufsMut {
@@ -411,6 +418,13 @@ impl Builder {
     }
 
     puts! { crate::error::past, "let mut buf = iobufs::Builder::new(8);", "finish" }
+}
+
+/// A builder for no bytes that are put.
+impl Default for Builder {
+    fn default() -> Self {
+        Self::new(0)
+    }
 }
 
 impl fmt::Debug for Builder {

@@ -156,7 +156,7 @@ impl FrameCodec {
     /// # Errors
     /// Returns the errors of `decode`.
     pub fn decode_whole(&self, src: &mut BytesMut) -> Result<Option<Whole<IoBuf>>, Error> {
-        Ok(self.take(src)?.map(|(header, frame)| Whole::of((header, IoBuf::from(frame).0))))
+        Ok(self.take(src)?.map(|(header, frame)| Whole::of(self.layout, header, frame.into())))
     }
 
     /// Takes the first frame, and returns it with the number of its header's bytes.
@@ -259,7 +259,37 @@ impl FrameCodec {
 /// ```
 ///
 /// `examples/server.rs` echoes frames over TCP, with a reader and a writer.
-pub struct FrameReader<R>(inner::FrameReader<R>);
+///
+/// As an iterator it takes bodies by [`next`](Self::next). It ends with the input, and after an error, unless that is a
+/// read's `WouldBlock` or `TimedOut`; [`set_range`](Self::set_range) and [`set_layout`](Self::set_layout) let it go on.
+///
+/// ```
+/// let mut from = iobufs::FrameReader::new(&b"\x02ok\x02no\x05w"[..], ..=1024);
+/// assert_eq!(from.by_ref().map_while(Result::ok).collect::<Vec<_>>(), ["ok", "no"]);
+/// assert!(from.try_next()?.is_none());
+/// # Ok::<(), iobufs::Error>(())
+/// ```
+pub struct FrameReader<R> {
+    inner: inner::FrameReader<Counted<R>>,
+    layout: inner::Layout,
+    /// Whether the iterator ended.
+    ended: bool,
+}
+
+/// A reader, and how many bytes were read from it.
+struct Counted<R> {
+    from: R,
+    count: u64,
+}
+
+impl<R: Read> Read for Counted<R> {
+    #[inline]
+    fn read(&mut self, dst: &mut [u8]) -> io::Result<usize> {
+        let n = self.from.read(dst)?;
+        self.count = self.count.wrapping_add(n as u64);
+        Ok(n)
+    }
+}
 
 impl<R> FrameReader<R> {
     /// Makes a reader of frames with varint lengths in `range`.
@@ -285,7 +315,9 @@ impl<R> FrameReader<R> {
     /// ```
     pub fn with_prefix(from: R, layout: impl Into<Layout>, range: impl RangeBounds<usize>) -> Self {
         let (layout, range) = (layout.into().inner(), RangeCfg::new(range));
-        FrameReader(shared(inner::FrameReader::with_layout(Global, from, layout, range)))
+        let from = Counted { from, count: 0 };
+        let inner = shared(inner::FrameReader::with_layout(Global, from, layout, range));
+        FrameReader { inner, layout, ended: false }
     }
 
     /// Sets the layout by which headers are decoded, from the next frame on.
@@ -300,7 +332,9 @@ impl<R> FrameReader<R> {
     /// # Ok::<(), iobufs::FrameError>(())
     /// ```
     pub fn set_layout(&mut self, layout: impl Into<Layout>) {
-        self.0.set_layout(layout.into().inner());
+        self.layout = layout.into().inner();
+        self.ended = false;
+        self.inner.set_layout(self.layout);
     }
 
     /// Takes the next body if its whole frame was read, without a read; otherwise returns `None`.
@@ -316,7 +350,7 @@ impl<R> FrameReader<R> {
     /// # Errors
     /// Returns [`Error::InvalidVarint`] or [`Error::InvalidLength`] if the length is invalid or outside the range.
     pub fn try_next(&mut self) -> Result<Option<IoBuf>, Error> {
-        let body = self.0.try_next().map_err(fault)?;
+        let body = self.inner.try_next().map_err(fault)?;
         Ok(body.map(IoBuf))
     }
 
@@ -331,8 +365,8 @@ impl<R> FrameReader<R> {
     /// # Errors
     /// Returns the errors of [`try_next`](Self::try_next).
     pub fn try_next_whole(&mut self) -> Result<Option<Whole<IoBuf>>, Error> {
-        let whole = self.0.try_next_whole().map_err(fault)?;
-        Ok(whole.map(Whole::of))
+        let whole = self.inner.try_next_whole().map_err(fault)?;
+        Ok(whole.map(|(header, frame)| Whole::of(self.layout, header, IoBuf(frame))))
     }
 
     /// Returns the reader.
@@ -342,7 +376,7 @@ impl<R> FrameReader<R> {
     /// assert_eq!(from.get_ref().len(), 3); // nothing was read
     /// ```
     pub fn get_ref(&self) -> &R {
-        &self.0.from
+        &self.inner.from.from
     }
 
     /// Returns the reader. Bytes that are read from it are missing from the frames.
@@ -357,7 +391,7 @@ impl<R> FrameReader<R> {
     /// # Ok::<(), Box<dyn std::error::Error>>(())
     /// ```
     pub fn get_mut(&mut self) -> &mut R {
-        &mut self.0.from
+        &mut self.inner.from.from
     }
 
     /// Accepts lengths in `range` for the frames that are taken after this, as after a login.
@@ -371,7 +405,22 @@ impl<R> FrameReader<R> {
     /// # Ok::<(), iobufs::FrameError>(())
     /// ```
     pub fn set_range(&mut self, range: impl RangeBounds<usize>) {
-        self.0.range = RangeCfg::new(range);
+        self.ended = false;
+        self.inner.range = RangeCfg::new(range);
+    }
+
+    /// Returns how many bytes of frames were taken, headers among them: the offset after the last one, if no bytes were
+    /// read by [`get_mut`](Self::get_mut).
+    ///
+    /// ```
+    /// let mut log = iobufs::FrameReader::new(&b"\x02ok\x05hel"[..], ..=1024);
+    /// assert_eq!(log.next()?.unwrap(), "ok");
+    /// assert!(log.next().is_err()); // the last record is cut
+    /// assert_eq!(log.taken(), 3);
+    /// # Ok::<(), iobufs::FrameError>(())
+    /// ```
+    pub fn taken(&self) -> u64 {
+        self.inner.from.count.wrapping_sub(self.inner.held.len() as u64)
     }
 
     /// Returns the reader. Bytes that were read and not taken are dropped; [`into_parts`](Self::into_parts) keeps them.
@@ -381,7 +430,7 @@ impl<R> FrameReader<R> {
     /// assert_eq!(from.into_inner(), b"\x02ok");
     /// ```
     pub fn into_inner(self) -> R {
-        self.0.from
+        self.inner.from.from
     }
 
     /// Returns the reader, and the bytes that were read and not taken, for the protocol that follows.
@@ -394,8 +443,8 @@ impl<R> FrameReader<R> {
     /// # Ok::<(), iobufs::FrameError>(())
     /// ```
     pub fn into_parts(mut self) -> (R, BytesMut) {
-        let held = mem::replace(self.0.held.block_mut(), kit::BytesMut::new(Global));
-        (self.0.from, held.into_inner())
+        let held = mem::replace(self.inner.held.block_mut(), kit::BytesMut::new(Global));
+        (self.inner.from.from, held.into_inner())
     }
 }
 
@@ -415,7 +464,7 @@ impl<R: Read> FrameReader<R> {
     /// be called again.
     #[allow(clippy::should_implement_trait)]
     pub fn next(&mut self) -> Result<Option<IoBuf>, FrameError> {
-        Ok(self.0.next()?.map(IoBuf))
+        Ok(self.inner.next()?.map(IoBuf))
     }
 
     /// Takes the next frame with its header, as [`next`](Self::next) takes its body.
@@ -429,15 +478,33 @@ impl<R: Read> FrameReader<R> {
     /// # Errors
     /// Returns the errors of `next`.
     pub fn next_whole(&mut self) -> Result<Option<Whole<IoBuf>>, FrameError> {
-        Ok(self.0.next_whole()?.map(Whole::of))
+        let whole = self.inner.next_whole()?;
+        Ok(whole.map(|(header, frame)| Whole::of(self.layout, header, IoBuf(frame))))
+    }
+}
+
+impl<R: Read> Iterator for FrameReader<R> {
+    type Item = Result<IoBuf, FrameError>;
+
+    fn next(&mut self) -> Option<Self::Item> {
+        if self.ended {
+            return None;
+        }
+        let taken = FrameReader::next(self).transpose();
+        self.ended = match &taken {
+            Some(Err(FrameError::Io(error))) => !matches!(error.kind(), ErrorKind::WouldBlock | ErrorKind::TimedOut),
+            Some(Err(_)) | None => true,
+            Some(Ok(_)) => false,
+        };
+        taken
     }
 }
 
 impl<R: fmt::Debug> fmt::Debug for FrameReader<R> {
     fn fmt(&self, f: &mut fmt::Formatter<'_>) -> fmt::Result {
         f.debug_struct("FrameReader")
-            .field("from", &self.0.from)
-            .field("held", &self.0.held.len())
+            .field("from", &self.inner.from.from)
+            .field("held", &self.inner.held.len())
             .finish_non_exhaustive()
     }
 }

@@ -157,6 +157,61 @@ impl IoBufs {
         self.0.try_locate(at).map(|place| (place.index, place.offset))
     }
 
+    /// Returns the offset of the first byte that is `byte`, if there is one.
+    ///
+    /// ```
+    /// let mut bufs = iobufs::IoBufs::from(["GET /".into(), "\r\n".into()]);
+    /// let end = bufs.find_byte(b'\n').unwrap();
+    /// assert_eq!(bufs.split_to(end + 1), "GET /\r\n");
+    /// ```
+    pub fn find_byte(&self, byte: u8) -> Option<usize> {
+        let mut start = 0;
+        for chunk in self.chunks() {
+            if let Some(i) = chunk.iter().position(|it| *it == byte) {
+                return Some(start + i);
+            }
+            start += chunk.len();
+        }
+        None
+    }
+
+    /// Returns the first offset at which `bytes` are, within a chunk or across chunks. No bytes are at 0. It compares
+    /// each place with `bytes`, so it may take time in the product of both lengths.
+    ///
+    /// ```
+    /// let bufs = iobufs::IoBufs::from(["a: b\r".into(), "\n\r\nbody".into()]);
+    /// assert_eq!(bufs.find(b"\r\n\r\n"), Some(4));
+    /// assert_eq!(bufs.find(b"\n\n"), None);
+    /// ```
+    pub fn find(&self, bytes: &[u8]) -> Option<usize> {
+        let Some((first, rest)) = bytes.split_first() else {
+            return Some(0);
+        };
+        let (mut start, mut chunks) = (0, self.chunks());
+        while let Some(chunk) = chunks.next() {
+            let mut places = (0..chunk.len()).filter(|i| chunk[*i] == *first);
+            if let Some(i) = places.find(|i| begins(&chunk[i + 1..], chunks.clone(), rest)) {
+                return Some(start + i);
+            }
+            start += chunk.len();
+        }
+        None
+    }
+
+    /// Fills `dst` with the bytes from an offset on, which stay, and returns whether there are as many; otherwise `dst`
+    /// is unchanged. It allocates nothing.
+    ///
+    /// ```
+    /// let bufs = iobufs::IoBufs::from(["ab".into(), "cde".into()]);
+    /// let mut two = [0; 2];
+    /// assert!(bufs.peek_slice(1, &mut two));
+    /// assert_eq!(&two, b"bc");
+    /// assert!(!bufs.peek_slice(4, &mut two));
+    /// ```
+    pub fn peek_slice(&self, at: usize, dst: &mut [u8]) -> bool {
+        core::Peek::try_peek_slice(&self.0, at, dst)
+    }
+
     /// Returns the bytes of a range, which share their storage.
     ///
     /// ```
@@ -505,6 +560,24 @@ impl Extend<IoBuf> for IoBufs {
     }
 }
 
+/// Adds each at the end. Nothing is copied.
+impl Extend<Bytes> for IoBufs {
+    fn extend<I: IntoIterator<Item = Bytes>>(&mut self, chunks: I) {
+        self.extend(chunks.into_iter().map(IoBuf::from));
+    }
+}
+
+/// Whether chunks, of which the first is cut, begin with these bytes.
+fn begins<'a>(mut chunk: &'a [u8], mut chunks: Chunks<'a>, mut bytes: &[u8]) -> bool {
+    while bytes.len() > chunk.len() {
+        let (Some(front), Some(next)) = (bytes.strip_prefix(chunk), chunks.next()) else {
+            return false;
+        };
+        (bytes, chunk) = (front, next);
+    }
+    chunk.starts_with(bytes)
+}
+
 /// The chunks that hold bytes, in order: what [`IoBufs::chunks`] returns.
 ///
 /// ```
@@ -599,6 +672,13 @@ impl IntoIterator for IoBufs {
 impl From<Vec<IoBuf>> for IoBufs {
     fn from(views: Vec<IoBuf>) -> Self {
         views.into_iter().collect()
+    }
+}
+
+/// Nothing is copied.
+impl From<Vec<Bytes>> for IoBufs {
+    fn from(chunks: Vec<Bytes>) -> Self {
+        chunks.into_iter().map(IoBuf::from).collect()
     }
 }
 
@@ -777,7 +857,7 @@ impl Frames {
     /// Returns the errors of `next`.
     pub fn next_whole(&mut self, range: impl RangeBounds<usize>) -> Result<Option<Whole<IoBufs>>, Error> {
         let whole = self.0.next_whole(Global, &core::RangeCfg::new(range)).map_err(fault)?;
-        Ok(whole.map(|(header, frame)| Whole { header, frame: IoBufs(frame) }))
+        Ok(whole.map(|(header, frame)| Whole::of(self.0.layout, header, IoBufs(frame))))
     }
 
     /// Returns how many bytes were fed and not taken.

@@ -260,6 +260,36 @@ impl IoBuf {
         *self = Self::default();
     }
 
+    /// Returns whether no other view or [`Bytes`] shares the storage. Static bytes and those of an owner count
+    /// as shared, as in [`Bytes::is_unique`].
+    ///
+    /// `true` is exact, since only the caller can make another handle then. `false` may be outdated at once, if another
+    /// thread has the other handle and drops it.
+    ///
+    /// ```
+    /// let view = iobufs::IoBuf::from(vec![1, 2, 3]);
+    /// assert!(view.is_unique());
+    /// let front = view.slice(..1);
+    /// assert!(!view.is_unique());
+    /// drop(front);
+    /// assert!(view.is_unique() && view.try_into_mut().is_ok());
+    /// ```
+    pub fn is_unique(&self) -> bool {
+        self.0.is_only()
+    }
+
+    /// Fills `dst` with the bytes from an offset on, which stay, and returns whether there are as many; otherwise `dst`
+    /// is unchanged. [`IoBufs`](crate::IoBufs) has the same call.
+    ///
+    /// ```
+    /// let mut two = [0; 2];
+    /// assert!(iobufs::IoBuf::from("hello").peek_slice(1, &mut two));
+    /// assert_eq!(&two, b"el");
+    /// ```
+    pub fn peek_slice(&self, at: usize, dst: &mut [u8]) -> bool {
+        core::Peek::try_peek_slice(&self.0, at, dst)
+    }
+
     /// Recovers the bytes as a buffer to write, with the spare capacity after them. It copies nothing.
     ///
     /// ```
