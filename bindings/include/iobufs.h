@@ -45,7 +45,7 @@
 #define IOBUFS_H
 
 /* The version of this header, of the archive and of the Rust crate. It models commonware-runtime 2026.10.0. */
-#define IOBUFS_VERSION "0.3.0"
+#define IOBUFS_VERSION "0.4.0"
 
 #include <stdbool.h>
 #include <stddef.h>

@@ -47,7 +47,7 @@ def claims():
     yield "the original", original, everywhere, r"commonware-runtime (\d+\.\d+\.\d+)"
     yield "the version", version, manifests, r'^version = "(.*)"'
     yield "the version", version, ["bindings/include/iobufs.h"], r'#define IOBUFS_VERSION "(.*)"'
-    yield "the version", version, ["rust/iobufs/CHANGELOG.md"], r"\A# Changes\n\n## (\S+)"
+    yield "the version", version, ["rust/iobufs/CHANGELOG.md"], r"\A# Changes\n[^#]*## (\S+)"
     yield "the kit", kit_logic(), pages[:1], r"`rt version` ends in `([^`]*)`"
     yield "answers", lines_of("original"), ["docs/DIFFERENCES.md"], r"compares (\d+) answers"
     yield "uses", lines_of("uses"), ["docs/DIFFERENCES.md"], r"compiles (\d+) uses"
