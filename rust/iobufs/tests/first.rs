@@ -56,7 +56,7 @@ fn debug_shows_lengths() {
     for (value, shown) in cases {
         assert_eq!(format!("{value:?}"), shown);
     }
-    assert_eq!(format!("{part:#?}"), "IoBufMut {\n    len: 3,\n    cap: 8,\n}");
+    assert_eq!(format!("{part:#?}"), "IoBufMut {\n    len: 3,\n    cap: 8,\n    bytes: b\"key\",\n}");
     assert_eq!(
         (format!("{bufs:x}"), format!("{part:X}"), format!("{:X}", IoBuf::from("\u{e9}"))),
         ("61220ac3a9".into(), "6B6579".into(), "C3A9".into())

@@ -9,7 +9,9 @@ use std::thread;
 fn cut(bytes: &'static [u8], cuts: usize) -> IoBufs {
     let (mut bufs, mut rest) = (IoBufs::new(), bytes);
     for at in (1..bytes.len()).rev().filter(|at| (cuts >> at) & 1 == 1) {
-        bufs.prepend(IoBuf::from(rest.split_off(at..).unwrap()));
+        let (front, last) = rest.split_at(at);
+        bufs.prepend(IoBuf::from(last));
+        rest = front;
     }
     bufs.prepend(IoBuf::from(rest));
     bufs
@@ -49,8 +51,13 @@ fn bytes_are_peeked_for_every_chunking() {
     }
 }
 
+/// A view, and what lives beside it.
+type Made = (IoBuf, Box<dyn Send>);
+/// A name, what makes a view, and whether it is unique.
+type Unique = (&'static str, fn() -> Made, bool);
+
 /// Views, and whether nothing else shares their storage while the other value lives.
-const UNIQUE: [(&str, fn() -> (IoBuf, Box<dyn Send>), bool); 12] = [
+const UNIQUE: [Unique; 12] = [
     ("a `Vec`", || (vec![1, 2].into(), Box::new(())), true),
     ("a copy", || (IoBuf::copy_from_slice(b"ab"), Box::new(())), true),
     ("an emptied view", || (vec![1].into(), Box::new(())), true),
@@ -65,19 +72,19 @@ const UNIQUE: [(&str, fn() -> (IoBuf, Box<dyn Send>), bool); 12] = [
     ("the rest of a split", || front(vec![1, 2].into()), false),
 ];
 
-fn share(view: IoBuf) -> (IoBuf, Box<dyn Send>) {
+fn share(view: IoBuf) -> Made {
     (view.clone(), Box::new(view))
 }
 
-fn as_bytes(view: IoBuf) -> (IoBuf, Box<dyn Send>) {
+fn as_bytes(view: IoBuf) -> Made {
     (view.clone(), Box::new(Bytes::from(view)))
 }
 
-fn in_a_list(view: IoBuf) -> (IoBuf, Box<dyn Send>) {
+fn in_a_list(view: IoBuf) -> Made {
     (view.clone(), Box::new(IoBufs::from(["ab".into(), view])))
 }
 
-fn front(mut view: IoBuf) -> (IoBuf, Box<dyn Send>) {
+fn front(mut view: IoBuf) -> Made {
     let front = view.split_to(1);
     (view, Box::new(front))
 }
@@ -218,7 +225,8 @@ fn writable_buffers_equal_their_bytes() {
     }
     let mut parts = IoBufsMut::from([2, 3].map(IoBufMut::with_capacity));
     parts.put_slice(b"abc");
-    assert!(parts == "abc" && parts == *b"abc" && parts == vec![b'a', b'b', b'c'] && parts == Bytes::from("abc"));
+    let (vec, bytes) = (vec![b'a', b'b', b'c'], Bytes::from("abc"));
+    assert_eq!([parts == "abc", parts == *b"abc", parts == vec, parts == bytes, bytes == parts], [true; 5]);
 }
 
 // Bytes that are written into the spare capacity are those that become readable.

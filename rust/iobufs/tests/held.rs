@@ -240,9 +240,12 @@ fn allocations_of_frames() {
     assert!(CALLS.get() - before <= 12, "{} allocations for {} bytes", CALLS.get() - before, bytes.len());
 }
 
+/// Makes a chunk of a byte of a block.
+type Chunk = fn(&IoBuf, usize) -> IoBuf;
+
 /// How a byte comes as a chunk of its own, and how many bytes at most are held for it: up to 80 in the list of chunks, as
 /// `Frames::feed` says, and the chunk's storage.
-const FED: [(&str, fn(&IoBuf, usize) -> IoBuf, usize); 3] = [
+const FED: [(&str, Chunk, usize); 3] = [
     ("a view of a received block", |block, i| block.slice(i..=i), 80),
     ("a copy", |block, i| IoBuf::copy_from_slice(&block[i..=i]), 80 + 56),
     ("a `Vec`", |_, _| IoBuf::from(vec![1]), 80 + 80),

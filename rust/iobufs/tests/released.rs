@@ -25,7 +25,7 @@ fn several(view: IoBuf) -> IoBufs {
 
 /// Calls after which nothing shares the block.
 const RELEASE: [(&str, Call); 42] = [
-    ("drop", |view| Box::new(drop(view))),
+    ("drop", |view| Box::new((drop(view), ()))),
     ("clear", |mut view| Box::new((view.clear(), view))),
     ("truncate(0)", |mut view| Box::new((view.truncate(0), view))),
     ("an empty slice", |view| Box::new(view.slice(2..2))),
@@ -47,7 +47,7 @@ const RELEASE: [(&str, Call); 42] = [
     ("a Bytes of an emptied view", |view| Box::new(Bytes::from(emptied(view)))),
     ("a Bytes of an emptied IoBufs", |view| Box::new(Bytes::from(IoBufs::from(emptied(view))))),
     ("a view of a Bytes of an emptied view", |view| Box::new(IoBuf::from(Bytes::from(emptied(view))))),
-    ("a dropped Bytes", |view| Box::new(drop(Bytes::from(view)))),
+    ("a dropped Bytes", |view| Box::new((drop(Bytes::from(view)), ()))),
     ("an emptied view among others", |view| Box::new(several(emptied(view)))),
     ("append of an emptied view", |view| {
         let mut bufs = IoBufs::default();

@@ -10,6 +10,8 @@ include!("same/answers.rs");
 #[cfg(feature = "commonware-codec")]
 #[path = "same/codec.rs"]
 mod codec;
+// Ranges that are none, and comparisons as they are made of the original's.
+#[allow(clippy::cmp_owned, clippy::op_ref, clippy::ptr_eq, clippy::reversed_empty_ranges)]
 #[path = "same/more.rs"]
 mod more;
 
