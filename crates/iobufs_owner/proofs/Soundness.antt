@@ -1,4 +1,5 @@
 -- The machine stays sound (`IsSound`), call by call.
+pub mod Frame
 pub mod New
 pub mod NewRecord
 pub mod AddHolder

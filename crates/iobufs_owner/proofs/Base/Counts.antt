@@ -66,7 +66,7 @@ pub users-as : (s : State) (b : ℕ) → users (reading s) b ≡ tally (held_by 
 unfolding users
 users-as s b = omega (arith, count-map (holds b) (read_handle s.tables) s.handles, count-map (drops b) (read_call s.tables) s.calls)
 
-drops-more : (b : ℕ) (c : Option Unfinished) → still_holds b c ≡ true → drops b c ≡ true
+pub drops-more : (b : ℕ) (c : Option Unfinished) → still_holds b c ≡ true → drops b c ≡ true
 drops-more b (Some (Dropping c true left)) e = absurd (cc)
 drops-more b c e = e
 

@@ -66,6 +66,10 @@ counted-more s h x r k at w =
 pub counted-same : (g : Tables) (r n : ℕ) → r < length g.records → (record_at (counted g r n) r).count ≡ n
 counted-same g r n l = rw (get_or-set_same g.records r _ no_record l) refl
 
+-- another count for one record leaves the others as they were
+pub counted-rest : (g : Tables) (r n q : ℕ) → q ≢ r → record_at (counted g r n) q ≡ record_at g q
+counted-rest g r n q ne = get_or-set_other g.records r q _ no_record ne
+
 -- another count for one record leaves those of the others
 pub counted-other : (g : Tables) (r n q : ℕ) → q ≢ r → (record_at (counted g r n) q).count ≡ (record_at g q).count
 counted-other g r n q ne = rw (get_or-set_other g.records r q _ no_record ne) refl

@@ -1,6 +1,7 @@
 -- A drop lets go: the count shrinks by one.
-use Rattle.iobufs_owner.proofs.Base.{◌≡◌, ◌≢◌, inl, inr, ℕ, ◌+◌, ◌-◌, ◌<◌, ◌≤◌, ◌==◌, true, false, cond, length, set, sym, ◌∙◌, ap, subst, refl, arith, All, Option, Some, None, nat_eq, length-set, All-from_get_or, get_or-set_same, nat_tests, eqb_tells, State, Tables, record_at, call_at, holders, users, tally, reading, has_let_go, IsSound, FitsCall, alone, describes, hidden, readies, releases, Pending, Subtract, Release, count-set, count-some, count-most, count-two, holders-le-users, KeepsLetGo, calls-fit-set, at-some, ne_eqb, eq-eqb, counted, with_count, called, live-inside, block-log-alike, record-log-counted, holders-as, users-as, held_by, still_by, drops_by, alone-holds, call-fits, alike, count-change, count-none, all-fit-on, call-kept, cases_Bool}
-use Rattle.iobufs_owner.proofs.Soundness.AddHolder.{counted-keeps, counted-block, counted-live, counted-same, counted-other}
+use Rattle.iobufs_owner.proofs.Base.{◌≡◌, ◌≢◌, inl, inr, ℕ, ◌+◌, ◌-◌, ◌<◌, ◌≤◌, ◌==◌, true, false, cond, length, set, sym, ◌∙◌, ap, refl, arith, All, Option, Some, None, nat_eq, length-set, All-from_get_or, nat_tests, eqb_tells, State, Tables, record_at, call_at, holders, users, tally, reading, has_let_go, IsSound, FitsCall, alone, describes, hidden, readies, releases, Pending, Subtract, Release, count-some, count-two, holders-le-users, KeepsLetGo, calls-fit-set, at-some, ne_eqb, eq-eqb, counted, with_count, called, live-inside, record-log-counted, holders-as, still_by, drops_by, call-fits, count-change, count-none, all-fit-on, call-kept, cases_Bool, alone-few}
+use Rattle.iobufs_owner.proofs.Soundness.AddHolder.{counted-keeps, counted-block, counted-live, counted-same, counted-other, counted-rest}
+use Rattle.iobufs_owner.proofs.Soundness.Frame.{Counts, block-log-still, counts-swapped, framed, sound-framed, swaps-none, swaps-set}
 
 -- the call after a subtraction from count n: `Release` if n is 1, else none
 abbrev pub afterwards : ℕ → ℕ → Option Pending
@@ -57,98 +58,65 @@ sound-subtracted s p r k at =
     let b : ℕ = (record_at s.tables r).block in
     let next : State = subtracted s p r in
     let y : Option Pending = afterwards r (record_at s.tables r).count in
-    let lp = at-some s.calls p (Subtract r) at in
+    let l = at-some s.calls p (Subtract r) at in
     let f = call-fits s p (Subtract r) k at in
     let me = k.counted r f.0 in
+    let is : n ≡ holders (reading s) b = me.counts f.1 in
     let e = counted-keeps g r (n - 1) in
     let gone = counted-drops s p r (n - 1) k at in
-    let v = alike s g' k e gone in
     let bb = counted-block g r (n - 1) r in
     let inside = live-inside g.records r f.0 in
-    let dr : (c : ℕ) → users (reading next) c + cond (c == b) 1 0 ≡ users (reading s) c + cond (drops_by g' c y) 1 0 = λ c.
-    let m = rw (at, bb) at (count-set (drops_by g' c) s.calls p y None lp) in omega
-    (arith, users-as s c, users-as next c, m, v.held c, v.drops c) in
-    let hm : (c : ℕ) → holders (reading next) c + cond (c == b) 1 0 ≡ holders (reading s) c = λ c.
-    let still = afterwards-by (λ y. still_by g' c y ≡ false) r n (λ one. rw (gone-after g r inside one) refl) (λ _. refl) in
-    let m = rw (at, bb, still) at (count-set (still_by g' c) s.calls p y None lp) in omega
-    (arith, holders-as s c, holders-as next c, m, v.held c, v.still c) in
-    let others : (c : ℕ) → c ≢ b → users (reading next) c ≡ users (reading s) c = λ c ne.
-    let drops = afterwards-by (λ y. drops_by g' c y ≡ false) r n (λ _. ne_eqb c (record_at g' r).block (λ i. ne (i ∙ bb))) (λ _. refl) in
-    let e = rw (ne_eqb c b ne, drops) at (dr c) in omega (arith, e) in
-    let least : users (reading s) b ≤ users (reading next) b + 1 = (let e = rw (eq-eqb b b refl) at (dr b) in omega (arith, e)) in
-    let is : n ≡ holders (reading s) b = me.counts f.1 in
-    let h = holders-as s b in
-    let one = count-some (still_by s.tables b) s.calls p None lp (rw at (eq-eqb b b refl)) in
+    let w : Counts s next None None (Some (Subtract r)) y =
+    counts-swapped s next None None (Some (Subtract r)) y k e gone (swaps-none s.handles) (swaps-set s.calls p (Some (Subtract r)) y at l) in
+    let still = afterwards-by (λ y. still_by g' b y ≡ false) r n (λ one. rw (gone-after g r inside one) refl) (λ _. refl) in
+    let fewer : holders (reading next) b + 1 ≡ n = (let z = rw (bb, still, eq-eqb b b refl) at (w.holders b) in omega (arith, z, is)) in
     let some : 0 < users (reading next) b = elim (eqb_tells n 1) [
-      | inl i ↦ (let here = count-some (drops_by g' b) next.calls p None (rw length-set lp)
-          (rw (get_or-set_same s.calls p y None lp, i.0) (eq-eqb b (record_at g' r).block (sym bb))) in omega
-          (arith, users-as next b, here))
-      | inr i ↦ (let ne = i.1 in omega (arith, least, holders-le-users (reading s) b, h, one, is, ne))
-    ] in
-    let none = count-none (releases g b) None s.calls (λ i l t. none-release s p r i (call_at s i) k at l refl (k.calls_fit i None l) t) in
-    let lonely : tally (alone g b) s.handles ≡ 0 = elim (eqb_tells (tally (alone g b) s.handles) 0) [
-      | inl i ↦ i.1
-      | inr i ↦ absurd (let q = k.sole b (let m = i.1 in omega arith) in let t =
-          count-most (held_by s.tables b) (alone g b) s.handles (alone-holds g b) in let m = i.1 in omega (arith, q, t, h, one))
+      | inl i ↦ (let drop : drops_by g' b y ≡ true = rw (i.0, bb) (eq-eqb b b refl) in
+          let z = rw (drop, bb, eq-eqb b b refl) at (w.users b) in omega (arith, z, me.used))
+      | inr i ↦ (let ne = i.1 in omega (arith, fewer, ne, holders-le-users (reading next) b))
     ] in
     let hid : (q : ℕ) → hidden (set s.calls p y) q ≡ hidden s.calls q = λ q.
     omega (
       arith,
-      count-change (readies q) s.calls p y None false false lp (ap (readies q) at)
+      count-change (readies q) s.calls p y None false false l (ap (readies q) at)
           (afterwards-by (λ y. readies q y ≡ false) r n (λ _. refl) (λ _. refl)),
     ) in
-    let same : (c : ℕ) → c ≢ b → holders (reading next) c ≡ holders
-    (reading s) c = λ c ne. (let t = rw (ne_eqb c b ne) at (hm c) in omega (arith, t)) in
-    let fewer : holders (reading next) b + 1 ≡ holders (reading s) b = (let t = rw (eq-eqb b b refl) at (hm b) in omega (arith, t)) in
-    record {
+    let never : (i : ℕ) → i < length s.calls → releases g b (call_at s i) ≡ true → ⊥ =
+    λ i lo t. none-release s p r i (call_at s i) k at lo refl (k.calls_fit i None lo) t in
+    let frame = framed b w (λ d ne. (
+      refl,
+      refl,
+      rw bb (ne_eqb d b ne),
+      afterwards-by (λ y. drops_by g' d y ≡ false) r n (λ _. rw bb (ne_eqb d b ne)) (λ _. refl),
+    )) in
+    sound-framed k frame (record {
       size = rw (length-set, length-set) k.size;
+      ceiling = refl;
+      longer = e.longer;
       blocks = k.blocks;
       fit = all-fit-on (set s.calls p y) s.handles e (λ _ q x _ _ f. (counted-live g r (n - 1) q ∙ f.live, hid q ∙ f.shown)) k.fit;
-      calls_fit = calls-fit-set s next p y lp (afterwards-by (FitsCall next) r n (λ one. record {
+      calls_fit = calls-fit-set s next p y l (afterwards-by (FitsCall next) r n (λ one. record {
         live = counted-live g r (n - 1) r ∙ f.0;
         shown = hid r ∙ f.1;
-        alone = rw (gone-after g r inside one) (ap (λ c. holders (reading next) c) bb ∙ omega (arith, one, is, fewer));
+        alone = rw (gone-after g r inside one, bb) (omega (arith, one, fewer));
       }) (λ _. tt)) (λ i _ lo. call-kept next (call_at s i) k e (gone i None lo) (λ q _ t. counted-live g r (n - 1) q ∙ t) (λ q _ _. hid q)
-          (λ _ _ _ a. a) (λ q j. same (record_at g q).block
-          (λ w. none-release s p r i (call_at s i) k at lo refl (k.calls_fit i None lo)
-          (rw j (eq-eqb b (record_at g q).block (sym w)))))) k.calls_fit;
-      one_release = λ c. afterwards-by (λ y. tally (releases g' c) (set s.calls p y) ≤ 1) r n
-          (λ _. let m = count-set (releases g' c) s.calls p (Some (Release r)) None lp in elim (eqb_tells c b) [
-            | inl i ↦ rw i.1 (let m = rw (i.1, bb, eq-eqb b b refl) at m in omega (arith, m, v.releases b, none))
-            | inr i ↦ (let m = rw (bb, i.0) at m in omega (arith, m, v.releases c, k.one_release c))
-          ]) (λ _. omega (arith, count-set (releases g' c) s.calls p None None lp, v.releases c, k.one_release c));
-      counted = λ q t.
-          let lq : (record_at g q).live ≡ true = sym (counted-live g r (n - 1) q) ∙ t in
-          let cq = k.counted q lq in
-          record {
-            known = rw (counted-block g r (n - 1) q) cq.known;
-            one_maker = rw (hid q) cq.one_maker;
-            counts = λ z. elim (eqb_tells q r) [
-              | inl i ↦ rw (i.1, counted-same g r (n - 1) inside)
-                  (omega (arith, is, fewer) ∙ ap (λ c. holders (reading next) c) (sym (counted-block g r (n - 1) r)))
-              | inr i ↦ counted-other g r (n - 1) q i.1 ∙ cq.counts (sym (hid q) ∙ z)
-                  ∙ sym (same (record_at g q).block (λ j. i.1 (k.one_record q r lq f.0 (sym (hid q) ∙ z) f.1 j)))
-                  ∙ ap (λ c. holders (reading next) c) (sym (counted-block g r (n - 1) q))
-            ];
-            fresh = λ z. counted-other g r (n - 1) q (λ i. absurd (let u = rw i at (sym (hid q) ∙ z) in omega (arith, u, f.1)))
-                ∙ cq.fresh (sym (hid q) ∙ z);
-            used = subst (λ c. 0 < users (reading next) c) (sym (counted-block g r (n - 1) q))
-                (elim (eqb_tells (record_at g q).block b) [ inl i ↦ rw i.1 some | inr i ↦ rw (others (record_at g q).block i.1) cq.used ]);
-            undescribed = λ z. subst (λ c. tally (describes g' c) s.handles ≡ 0) (sym (counted-block g r (n - 1) q))
-                (v.describes (record_at g q).block ∙ cq.undescribed (sym (hid q) ∙ z));
-          };
-      one_record = λ q q' a c u v i. k.one_record q q' (sym (counted-live g r (n - 1) q) ∙ a) (sym (counted-live g r (n - 1) q') ∙ c)
-          (sym (hid q) ∙ u) (sym (hid q') ∙ v) (sym (counted-block g r (n - 1) q) ∙ i ∙ counted-block g r (n - 1) q');
-      sole = λ c t. let u = rw (v.alone c) at t in
-          same c (λ i. absurd (let w = rw i at u in omega (arith, w, lonely))) ∙ k.sole c u;
-      capped = λ c. omega (arith, hm c, k.capped c);
-      known_users = λ c t. elim (eqb_tells c b) [ inl i ↦ rw i.1 me.known | inr i ↦ k.known_users c (rw (others c i.1) at t) ];
-      block_log = block-log-alike (λ c t. elim (eqb_tells c b) [
-        | inl i ↦ rw i.1 (grind (arith, nat_tests, me.used, some))
-        | inr i ↦ ap (λ n. nat_eq n 0) (others c i.1)
-      ]) k.block_log;
+          (λ _ _ _ a. a) (λ q j. frame.held (record_at g q).block (λ x. never i lo (rw j (eq-eqb b _ (sym x)))))) k.calls_fit;
+      kept = λ q _ ne. (counted-rest g r (n - 1) q ne, hid q);
+      apart = λ q live ne i. (λ z. ne (k.one_record q r live f.0 z f.1 i), some);
+      mine = λ _. record {
+        block = bb;
+        shown = hid r ∙ f.1;
+        counts = counted-same g r (n - 1) inside ∙ omega (arith, fewer);
+        used = some;
+        undescribed = omega (arith, w.describes b, me.undescribed f.1);
+      };
+      known = me.known;
+      one_release = grind (arith, w.releases b, count-none (releases g b) None s.calls never);
+      sole = λ z. absurd (omega (arith, z, alone-few next b, fewer, is, w.alone b, k.sole b (omega (arith, w.alone b, z))));
+      capped = omega (arith, fewer, is, k.capped b);
+      block_log = block-log-still b frame.used me.used some k.block_log;
       record_log = record-log-counted r _ inside refl k.record_log;
-    }
+    })
 
 -- a drop that lets go finds a count that isn't 0
 pub record IsLettingGo (s : State) (r : ℕ) : Type 0 where
