@@ -1,8 +1,8 @@
 -- Tables that keep what handles and calls speak of leave readings, counts, holders and users as they were; and blocks
 -- by their bases.
-use Rattle.iobufs_owner.proofs.Base.Known.{releases, holds, drops, still_holds, ◌≡◌, ◌≢◌, ℕ, ◌+◌, ◌==◌, Bool, true, false, cond, List, [], ◌∷◌, ◌++◌, length, map, ap, refl, arith, All, Option, Some, None, option_map, length-append, All-head, All-tail, get_or_append_left, State, Tables, block_with, tally, read_handle, read_call, Fits, alone, describes, Block, Handle, Pending, eq-eqb, ne_eqb, LiveHandle, IsSound, Unfinished, sym, ◌∙◌, FitsCall}
-use Rattle.iobufs_owner.proofs.Base.Kept.{Keeps, owner-kept, KeepsLetGo, calls-read-kept, release-kept}
-use Rattle.iobufs_owner.proofs.Base.Counts.{count-map, held_by, still_by, drops_by}
+use Rattle.iobufs_owner.proofs.Base.Known.{false, ◌<◌, get_or, set, State, holders, users, reading, releases, holds, drops, still_holds, ◌≡◌, ◌≢◌, ℕ, ◌+◌, ◌==◌, Bool, true, cond, List, [], ◌∷◌, ◌++◌, length, map, ap, refl, arith, All, Option, Some, None, option_map, length-append, All-head, All-tail, get_or_append_left, Tables, block_with, tally, read_handle, read_call, Fits, alone, describes, Block, Handle, Pending, eq-eqb, ne_eqb, LiveHandle, IsSound, Unfinished, sym, ◌∙◌, FitsCall}
+use Rattle.iobufs_owner.proofs.Base.Kept.{Keeps, owner-kept, KeepsLetGo, call-read-kept, release-kept}
+use Rattle.iobufs_owner.proofs.Base.Counts.{count-append, count-set, held_by, still_by, drops_by, holders-as, users-as}
 
 pub read-kept : (g k : Tables) (calls : List (Option Pending)) (o : Option Handle) → Keeps g k → Fits g calls o
     → read_handle k o ≡ read_handle g o
@@ -59,33 +59,60 @@ grown-keeps g b = record {
   records = λ r e. refl;
 }
 
--- by tables k as many handles and calls as before hold a block, drop it, must be alone on it, describe or release it
-pub record Alike (s : State) (k : Tables) : Type 0 where
-  pub held : (b : ℕ) → tally (held_by k b) s.handles ≡ tally (held_by s.tables b) s.handles
-  pub still : (b : ℕ) → tally (still_by k b) s.calls ≡ tally (still_by s.tables b) s.calls
-  pub drops : (b : ℕ) → tally (drops_by k b) s.calls ≡ tally (drops_by s.tables b) s.calls
-  pub alone : (b : ℕ) → tally (alone k b) s.handles ≡ tally (alone s.tables b) s.handles
-  pub describes : (b : ℕ) → tally (describes k b) s.handles ≡ tally (describes s.tables b) s.handles
-  pub releases : (b : ℕ) → tally (releases k b) s.calls ≡ tally (releases s.tables b) s.calls
+-- ---- one handle and one call in the place of others
 
--- in a sound machine tables that keep what handles and calls speak of count alike, where each drop has let go as before
-pub alike : (s : State) (k : Tables) → IsSound s → Keeps s.tables k → All (KeepsLetGo s.tables k) s.calls → Alike s k
-alike s k i e a =
-    let hs = handles-kept s.tables k s.calls s.handles e i.fit in
-    let cs = calls-read-kept s k s.calls e a i.calls_fit in
+-- a list with `n` in the place of `o`, where `None` stands for no entry
+abbrev pub Swaps : {X : Type 0} → (xs ys : List (Option X)) → (o n : Option X) → Type 0
+Swaps {X} xs ys o n = (p : Option X → Bool) → p None ≡ false → tally p ys + cond (p o) 1 0 ≡ tally p xs + cond (p n) 1 0
+
+-- the list stays
+pub swaps-none : {X : Type 0} (xs : List (Option X)) → Swaps xs xs None None
+swaps-none xs p e = refl
+
+-- another entry under a number
+pub swaps-set : {X : Type 0} (xs : List (Option X)) (i : ℕ) (o n : Option X) → get_or xs i None ≡ o → i < length xs → Swaps xs (set xs i n) o n
+swaps-set xs i o n at l p e = rw (← at) (count-set p xs i n None l)
+
+-- an entry more
+pub swaps-push : {X : Type 0} (xs : List (Option X)) (n : Option X) → Swaps xs (xs ++ n ∷ []) None n
+swaps-push xs n p e = rw e (omega (arith, count-append p xs n))
+
+-- state t counts what s counts, with the handle o' in the place of o and the call c' in the place of c
+pub record Swapped (s t : State) (o o' : Option Handle) (c c' : Option Pending) : Type 0 where
+  pub holders : (b : ℕ) → holders (reading t) b + cond (held_by t.tables b o) 1 0 + cond (still_by t.tables b c) 1 0
+      ≡ holders (reading s) b + cond (held_by t.tables b o') 1 0 + cond (still_by t.tables b c') 1 0
+  pub users : (b : ℕ) → users (reading t) b + cond (held_by t.tables b o) 1 0 + cond (drops_by t.tables b c) 1 0
+      ≡ users (reading s) b + cond (held_by t.tables b o') 1 0 + cond (drops_by t.tables b c') 1 0
+  pub alone : (b : ℕ) → tally (alone t.tables b) t.handles + cond (alone t.tables b o) 1 0
+      ≡ tally (alone s.tables b) s.handles + cond (alone t.tables b o') 1 0
+  pub describes : (b : ℕ) → tally (describes t.tables b) t.handles + cond (describes t.tables b o) 1 0
+      ≡ tally (describes s.tables b) s.handles + cond (describes t.tables b o') 1 0
+  pub releases : (b : ℕ) → tally (releases t.tables b) t.calls + cond (releases t.tables b c) 1 0
+      ≡ tally (releases s.tables b) s.calls + cond (releases t.tables b c') 1 0
+
+-- so it is from a sound machine, where t's tables keep what handles and calls speak of, and each drop has let go as before
+pub counts-swapped : {s t : State} {o o' : Option Handle} {c c' : Option Pending} → IsSound s → Keeps s.tables t.tables
+    → All (KeepsLetGo s.tables t.tables) s.calls → Swaps s.handles t.handles o o' → Swaps s.calls t.calls c c' → Swapped s t o o' c c'
+counts-swapped {s} {t} {o} {o'} {c} {c'} k e gone hs cs =
+    let g : Tables = s.tables in
+    let u : Tables = t.tables in
+    let handles : (p q : Option Handle → Bool) → ((o : Option Handle) → Fits g s.calls o → p o ≡ q o) → p None ≡ false
+    → tally p t.handles + cond (p o) 1 0 ≡ tally q s.handles + cond (p o') 1 0 =
+    λ p q same n. hs p n ∙ ap (λ m. m + cond (p o') 1 0) (tally-kept (Fits g s.calls) p q s.handles same k.fit) in
+    let calls : (p q : Option Pending → Bool) → ((c : Option Pending) → KeepsLetGo g u c × FitsCall s c → p c ≡ q c) → p None ≡ false
+    → tally p t.calls + cond (p c) 1 0 ≡ tally q s.calls + cond (p c') 1 0 =
+    λ p q same n. cs p n ∙ ap (λ m. m + cond (p c') 1 0)
+    (tally-kept (λ c. KeepsLetGo g u c × FitsCall s c) p q s.calls same (λ i d l. (gone i d l, k.calls_fit i d l))) in
+    let held : (b : ℕ) → tally (held_by u b) t.handles + cond (held_by u b o) 1 0 ≡ tally (held_by g b) s.handles + cond (held_by u b o') 1 0 =
+    λ b. handles (held_by u b) (held_by g b) (λ o f. ap (holds b) (read-kept g u s.calls o e f)) refl in
     record {
-      held = λ b. sym (count-map (holds b) (read_handle k) s.handles) ∙ ap (λ (xs : List (Option LiveHandle)). tally (holds b) xs) hs
-          ∙ count-map (holds b) (read_handle s.tables) s.handles;
-      still = λ b. sym (count-map (still_holds b) (read_call k) s.calls)
-          ∙ ap (λ (xs : List (Option Unfinished)). tally (still_holds b) xs) cs
-          ∙ count-map (still_holds b) (read_call s.tables) s.calls;
-      drops = λ b. sym (count-map (drops b) (read_call k) s.calls) ∙ ap (λ (xs : List (Option Unfinished)). tally (drops b) xs) cs
-          ∙ count-map (drops b) (read_call s.tables) s.calls;
-      alone = λ b. tally-kept (Fits s.tables s.calls) (alone k b) (alone s.tables b) s.handles
-          (λ o. elim o as (λ o. Fits s.tables s.calls o → alone k b o ≡ alone s.tables b o)
-          [ None ↦ λ f. refl | Some x ↦ λ f. rw (owner-kept s.tables k s.calls x e f) refl ]) i.fit;
-      describes = λ b. tally-kept (Fits s.tables s.calls) (describes k b) (describes s.tables b) s.handles
-          (λ o. elim o as (λ o. Fits s.tables s.calls o → describes k b o ≡ describes s.tables b o)
-          [ None ↦ λ f. refl | Some x ↦ λ f. rw (owner-kept s.tables k s.calls x e f) refl ]) i.fit;
-      releases = λ b. tally-kept (FitsCall s) (releases k b) (releases s.tables b) s.calls (λ c f. release-kept s k b c e f) i.calls_fit;
+      holders = λ b. omega (arith, holders-as s b, holders-as t b, held b,
+          calls (still_by u b) (still_by g b) (λ c f. ap (still_holds b) (call-read-kept s u c e f.0 f.1)) refl);
+      users = λ b. omega (arith, users-as s b, users-as t b, held b,
+          calls (drops_by u b) (drops_by g b) (λ c f. ap (drops b) (call-read-kept s u c e f.0 f.1)) refl);
+      alone = λ b. handles (alone u b) (alone g b) (λ o. elim o as (λ o. Fits g s.calls o → alone u b o ≡ alone g b o)
+          [ None ↦ λ f. refl | Some x ↦ λ f. rw (owner-kept g u s.calls x e f) refl ]) refl;
+      describes = λ b. handles (describes u b) (describes g b) (λ o. elim o as (λ o. Fits g s.calls o → describes u b o ≡ describes g b o)
+          [ None ↦ λ f. refl | Some x ↦ λ f. rw (owner-kept g u s.calls x e f) refl ]) refl;
+      releases = λ b. calls (releases u b) (releases g b) (λ c f. release-kept s u b c e f.1) refl;
     }

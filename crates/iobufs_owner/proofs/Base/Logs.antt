@@ -127,9 +127,9 @@ freed-more g log b k l =
 -- the block that is freed had users and has none, and all others keep having some or none
 pub block-log-freed : (g : Tables) {log : List Freed} (b : ℕ) {used used' : ℕ → ℕ} → ArePlaced g.blocks → b < length g.blocks → 0 < used b
     → used' b ≡ 0
-    → ((c : ℕ) → c ≢ b → nat_eq (used' c) 0 ≡ nat_eq (used c) 0) → LogsBlocks g.blocks log used
+    → LogsBlocks g.blocks log used → ((c : ℕ) → c ≢ b → used' c ≡ used c)
     → LogsBlocks g.blocks (log ++ triple (block_at g b) ∷ []) used'
-block-log-freed g {log} b {used} {used'} p l some none others k =
+block-log-freed g {log} b {used} {used'} p l some none k others =
     let before : is_freed (block_at g b) log ≡ false = k.freed b l ∙ ne_eqb (used b) 0 (omega arith) in
     record {
       freed = λ c t. any-push (same_freed (block_at g c)) log (triple (block_at g b)) ∙ elim (eqb_tells c b) [
@@ -172,14 +172,14 @@ fresh-log g b fs other known = list_any_none (same_freed b) fs (λ i d l.
 
 -- one block more, which has a user
 pub block-log-more : (g : Tables) (b : Block) {log : List Freed} {used used' : ℕ → ℕ} → All (λ (x : Block). x.base ≢ b.base) g.blocks
-    → used' (length g.blocks) ≡ 1 → ((c : ℕ) → c < length g.blocks → used' c ≡ used c) → LogsBlocks g.blocks log used
+    → used' (length g.blocks) ≡ 1 → LogsBlocks g.blocks log used → ((c : ℕ) → c ≢ length g.blocks → used' c ≡ used c)
     → LogsBlocks (g.blocks ++ b ∷ []) log used'
-block-log-more g b {log} {used} {used'} other one others k =
+block-log-more g b {log} {used} {used'} other one k others =
     let new = fresh-log g b log other k.known in
     let at : get_or (g.blocks ++ b ∷ []) (length g.blocks) no_block ≡ b = get_or-append_seam g.blocks b [] no_block in
     record {
       freed = λ c l. elim (below-or c (length g.blocks) (rw length-append at l)) [
-        | inl m ↦ rw (get_or_append_left g.blocks (b ∷ []) no_block c m, others c m) (k.freed c m)
+        | inl m ↦ rw (get_or_append_left g.blocks (b ∷ []) no_block c m, others c (omega (arith, m))) (k.freed c m)
         | inr m ↦ rw (m, at, one) new
       ];
       known = All-weaker (IsTripleOf g.blocks) (IsTripleOf (g.blocks ++ b ∷ [])) (λ f t. record {

@@ -43,15 +43,15 @@ block-log-alike e k = record {
   many = k.many;
 }
 
--- a record that fits goes on to fit where fewer handles describe its block
-pub fits-fewer : {v : Record} {b m h u d e : ℕ} → FitsRecord v b m h u d → e ≤ d → FitsRecord v b m h u e
-fits-fewer k few = record {
-  known = k.known;
+-- a record that fits goes on to fit where fewer handles describe its block, among no fewer blocks
+pub fits-fewer : {v : Record} {b c m h u d e : ℕ} → FitsRecord v b m h u d → b ≤ c → e ≤ d → FitsRecord v c m h u e
+fits-fewer k more few = record {
+  known = omega (arith, k.known, more);
   one_maker = k.one_maker;
   counts = k.counts;
   fresh = k.fresh;
   used = k.used;
-  undescribed = λ z. let n = k.undescribed z in omega arith;
+  undescribed = λ z. omega (arith, few, k.undescribed z);
 }
 
 -- other numbers of entries are in size where they are few
@@ -107,7 +107,7 @@ sound-handles s hs k few fit held dm sole stay =
     fit
     (calls-kept next k refl (keeps-self s.tables) (λ r t. t) stay (λ i d l q j t. refl) (λ b l. hm b))
     k.one_release hm um
-    (λ r live. rw (hm, um) (fits-fewer (k.counted r live) (dm (record_at s.tables r).block)))
+    (λ r live. rw (hm, um) (fits-fewer (k.counted r live) (omega arith) (dm (record_at s.tables r).block)))
     k.one_record
     (λ b p. sole b p) k.record_log
 

@@ -1,5 +1,6 @@
 -- One holder more of a counted block keeps the machine sound.
-use Rattle.iobufs_owner.proofs.Base.{Share, Shares, part, lies-as, ◌≡◌, ◌≢◌, inl, inr, ℕ, ◌+◌, ◌^◌, ◌<◌, ◌≤◌, ◌==◌, true, false, cond, List, [], ◌∷◌, ◌++◌, length, get_or, set, sym, ◌∙◌, ap, refl, arith, All, Option, Some, None, nat_eq, length-append, length-set, All-push, get_or-set_same, get_or-set_other, nat_tests, eqb_tells, State, Tables, owner_of, record_at, block_at, handle_at, holders, users, tally, reading, has_let_go, IsSound, Fits, alone, describes, counted, with_count, with_handle, Record, Handle, View, Pending, Release, Counted, count-append, count-some, count-less, Keeps, KeepsLetGo, calls-fit-kept, at-some, append-at, owner-counted, ne_eqb, eq-eqb, counted-at, live-inside, alone-shared, describes-counted, alone-holds, held_by, held-at, holders-as, block-log-alike, record-log-counted, sized, alike, users-as, all-fit-on, get_or-read, map-set_same, keeps-records, no_record, still_by, cases_Bool}
+use Rattle.iobufs_owner.proofs.Base.{Share, Shares, part, lies-as, ◌≡◌, ◌≢◌, inl, inr, ℕ, ◌+◌, ◌^◌, ◌<◌, ◌≤◌, false, cond, List, length, get_or, set, sym, ◌∙◌, ap, refl, arith, All, Option, Some, None, nat_eq, length-append, length-set, All-push, get_or-set_same, get_or-set_other, nat_tests, State, Tables, owner_of, record_at, block_at, handle_at, holders, users, tally, reading, has_let_go, IsSound, Fits, alone, describes, counted, with_count, with_handle, Record, Handle, View, Pending, Release, Counted, count-some, count-less, Keeps, KeepsLetGo, calls-fit-kept, at-some, append-at, owner-counted, ne_eqb, eq-eqb, counted-at, live-inside, alone-shared, describes-counted, alone-holds, held_by, held-at, holders-as, record-log-counted, sized, all-fit-on, get_or-read, map-set_same, keeps-records, no_record, still_by, cases_Bool, Swapped, counts-swapped, holders-le-users, swaps-none, swaps-push}
+use Rattle.iobufs_owner.proofs.Soundness.Frame.{block-log-still, sound-framed}
 
 -- a write that keeps a field keeps it everywhere
 pub field-set : {X Y : Type 0} (f : X → Y) (xs : List X) (i q : ℕ) (v d : X) → f v ≡ f (get_or xs i d)
@@ -81,86 +82,54 @@ pub sound-added : (s : State) (r : ℕ) (m : Share) (x : Handle) → IsSound s �
     → length s.handles < 2 ^ 32 → IsSound (with_handle (with_count s r ((record_at s.tables r).count + 1)) (part x m.lo m.hi (Counted r)))
 sound-added s r m x k sh xw on few =
     let h : ℕ = m.handle in
-    let at = sh.at in
-    let low = sh.order in
-    let high = sh.within in
     let g : Tables = s.tables in
     let n : ℕ = (record_at s.tables r).count + 1 in
     let y : Handle = part x m.lo m.hi (Counted r) in
     let g' : Tables = counted s.tables r ((record_at s.tables r).count + 1) in
     let next : State = with_handle (with_count s r ((record_at s.tables r).count + 1)) y in
     let b : ℕ = (record_at s.tables r).block in
-    let fx = counted-at s h x r k at xw in
+    let fx = counted-at s h x r k sh.at xw in
     let lies = lies-as (block_at g b) x View sh.view fx.lies in
-    let e = counted-keeps g r n in
-    let live : (q : ℕ) → (record_at g q).live ≡ true → (record_at g' q).live ≡ true = λ q t. counted-live g r n q ∙ t in
-    let ox : owner_of g x ≡ Some b = owner-counted g x r xw in
-    let o : owner_of g' y ≡ Some b = owner-counted g' y r refl ∙ ap Some (counted-block g r n r) in
-    let gone : All (KeepsLetGo g g') s.calls = λ i d l q j t. counted-let_go g r n q (counted-more s h x r k at xw) in
-    let v = alike s g' k e gone in
-    let held : (c : ℕ) → tally (held_by g' c) (s.handles ++ Some y ∷ []) ≡ tally (held_by g c) s.handles + cond (c == b) 1 0 =
-    λ c. rw (count-append (held_by g' c) s.handles (Some y), v.held c, o) refl in
-    let hm : (c : ℕ) → holders (reading next) c ≡ holders (reading s) c + cond (c == b) 1 0 =
-    λ c. omega (arith, holders-as s c, holders-as next c, held c, v.still c) in
-    let um : (c : ℕ) → users (reading next) c ≡ users (reading s) c + cond (c == b) 1 0 =
-    λ c. omega (arith, users-as s c, users-as next c, held c, v.drops c) in
-    let am : (c : ℕ) → tally (alone g' c) (s.handles ++ Some y ∷ []) ≡ tally (alone g c) s.handles =
-    λ c. rw (count-append (alone g' c) s.handles (Some y), v.alone c, alone-shared g' c y r refl refl) (omega arith) in
-    let dm : (c : ℕ) → tally (describes g' c) (s.handles ++ Some y ∷ []) ≡ tally (describes g c) s.handles =
-    λ c. rw (count-append (describes g' c) s.handles (Some y), v.describes c, describes-counted g' c y r refl)
-    (omega arith) in
     let me = k.counted r fx.live in
-    let less = alone-less s h x b at ox (alone-shared g b x r xw sh.view) in
+    let e = counted-keeps g r n in
+    let bb = counted-block g r n r in
+    let ox : owner_of g x ≡ Some b = owner-counted g x r xw in
+    let o : owner_of g' y ≡ Some b = owner-counted g' y r refl ∙ ap Some bb in
+    let gone : All (KeepsLetGo g g') s.calls = λ i d l q j t. counted-let_go g r n q (counted-more s h x r k sh.at xw) in
+    let w : Swapped s next None (Some y) None None = counts-swapped k e gone (swaps-push s.handles (Some y)) (swaps-none s.calls) in
+    let more : holders (reading next) b ≡ n = (let z = rw (o, eq-eqb b b refl) at (w.holders b) in omega (arith, z, me.counts fx.shown)) in
+    let some : 0 < users (reading next) b = omega (arith, more, holders-le-users (reading next) b) in
     let inside = live-inside g.records r fx.live in
-    record {
+    sound-framed r k w (λ d ne. (refl, rw o (ne_eqb d b ne), refl, refl)) (record {
       size = sized k.size k.size.few_blocks (rw length-set k.size.few_records) (rw length-append (omega arith)) k.size.few_calls;
+      ceiling = refl;
+      longer = e.longer;
       blocks = k.blocks;
-      fit = All-push (Fits g' s.calls) s.handles (Some y) (all-fit-on s.calls s.handles e (λ _ q z _ _ c. (live q c.live, c.shown)) k.fit)
-          (record {
-            live = live r fx.live;
+      fit = All-push (Fits g' s.calls) s.handles (Some y)
+          (all-fit-on s.calls s.handles e (λ _ q z _ _ c. (counted-live g r n q ∙ c.live, c.shown)) k.fit) (record {
+            live = counted-live g r n r ∙ fx.live;
             known = rw counted-block fx.known;
             shown = fx.shown;
-            lies = rw (counted-block g r n r) (record
-                { begins = omega (arith, lies.begins); ends = omega (arith, lies.ends); no_room = refl });
+            lies = rw bb (record { begins = omega (arith, lies.begins); ends = omega (arith, sh.order, sh.within, lies.ends); no_room = refl });
             native = λ m. absurd (cc);
           });
-      calls_fit = calls-fit-kept next k refl e (λ _ q _ _ t. live q t) (λ i z l a. append-at s.handles (Some y) i z a) gone
-          (λ p q l i. let f = rw i at (k.calls_fit p None l) in
-          rw (hm, ne_eqb (record_at g q).block b (release-elsewhere s h b p q x None at ox l i f.alone)) (omega arith));
-      one_release = λ c. rw (v.releases c) (k.one_release c);
-      counted = λ q l.
-          let lq : (record_at g q).live ≡ true = sym (counted-live g r n q) ∙ l in
-          let cq = k.counted q lq in
-          record {
-            known = rw (counted-block g r n q) cq.known;
-            one_maker = cq.one_maker;
-            counts = λ z. elim (eqb_tells q r) [
-              | inl i ↦ rw (i.1, counted-same g r n inside, counted-block g r n r, hm, eq-eqb b b refl) (omega (arith, me.counts fx.shown))
-              | inr i ↦ rw (
-                counted-other g r n q i.1,
-                counted-block g r n q,
-                hm,
-                ne_eqb (record_at g q).block b (λ j. i.1 (k.one_record q r lq fx.live z fx.shown j)),
-              ) (omega (arith, cq.counts z))
-            ];
-            fresh = λ z. rw (counted-other g r n q (λ i. absurd (let y = rw i at z in omega (arith, y, fx.shown)))) (cq.fresh z);
-            used = rw (counted-block g r n q, um) (omega (arith, cq.used));
-            undescribed = λ z. rw (counted-block g r n q, dm) (cq.undescribed z);
-          };
-      one_record = λ p q lp lq hp hq i. k.one_record p q (sym (counted-live g r n p) ∙ lp) (sym (counted-live g r n q) ∙ lq) hp hq
-          (sym (counted-block g r n p) ∙ i ∙ counted-block g r n q);
-      sole = λ c t. let u = rw am at t in rw (hm, ne_eqb c b (λ i. absurd (let v = rw i at u in omega (arith, v, less, k.sole b v))))
-          (omega (arith, k.sole c u));
-      capped = λ c. elim (eqb_tells c b) [
-        | inl i ↦ rw (i.1, hm, eq-eqb b b refl) (omega (arith, me.counts fx.shown))
-        | inr i ↦ rw (hm, i.0) (omega (arith, k.capped c))
-      ];
-      known_users = λ c t. let u = rw um at t in
-          elim (eqb_tells c b) [ inl i ↦ rw i.1 me.known | inr i ↦ k.known_users c (let v = rw i.0 at u in omega (arith, v)) ];
-      block_log = block-log-alike (λ c t. elim (eqb_tells c b) [
-        | inl i ↦ rw (i.1, um, eq-eqb b b refl) (grind (arith, nat_tests, me.used))
-        | inr i ↦
-            rw (um, i.0) (ap (λ m. nat_eq m 0) (omega arith))
-      ]) k.block_log;
+      calls_fit = λ others. calls-fit-kept next k refl e (λ _ q _ _ t. counted-live g r n q ∙ t) (λ i z l a. append-at s.handles (Some y) i z a)
+          gone (λ p q l i. let f = rw i at (k.calls_fit p None l) in
+          others (record_at g q).block (release-elsewhere s h b p q x None sh.at ox l i f.alone));
+      kept = λ q _ ne. (counted-rest g r n q ne, refl);
+      apart = λ q live ne i. (λ z. ne (k.one_record q r live fx.live z fx.shown i), some);
+      mine = λ _. record {
+        block = bb;
+        shown = fx.shown;
+        counts = counted-same g r n inside ∙ sym more;
+        used = some;
+        undescribed = (let z = rw (describes-counted g' b y r refl) at (w.describes b) in omega (arith, z, me.undescribed fx.shown));
+      };
+      known = fx.known;
+      one_release = omega (arith, w.releases b, k.one_release b);
+      sole = λ p. absurd (let z = rw (alone-shared g' b y r refl refl) at (w.alone b) in
+          omega (arith, p, z, alone-less s h x b sh.at ox (alone-shared g b x r xw sh.view), k.sole b (omega (arith, z, p))));
+      capped = omega (arith, more, on);
+      block_log = block-log-still b me.used some k.block_log;
       record_log = record-log-counted r _ inside refl k.record_log;
-    }
+    })

@@ -1,57 +1,44 @@
 -- A handle lets its block go, which it holds alone: that is freed at once.
-use Rattle.iobufs_owner.proofs.Base.{◌≡◌, ◌≢◌, inl, inr, ℕ, ◌+◌, ◌<◌, ◌≤◌, ◌==◌, true, false, cond, List, length, set, sym, ◌∙◌, ap, subst, refl, arith, Option, Some, None, nat_eq, length-set, All-set, State, Tables, owner_of, record_at, block_at, handle_at, recovered, triple, holds, is_block, holders, users, tally, reading, read_handle, IsSound, Fits, alone, describes, detached_handle, replaced, block_freed, both_freed, tables_without, is_lent, IsLoose, Handle, Mut, Pending, Empty, Descriptor, Counted, count-set, count-some, keeps-self, owner-kept, handles-fit-set, at-some, owner-empty, owner-counted, ne_eqb, eq-eqb, fits-at, alone-at, described-at, counted-at, live-inside, alone-described, describes-described, alone-written, alone-few, fits-fewer, block-log-freed, record-log-dead, block-log-room, record-log-room, sound-handles, alike, held_by, holders-as, users-as, calls-fit-kept, Keeps, KeepsLetGo, All, LogsRecords, Record, names, call_at, ◌∷◌, ◌++◌, [], ◌^◌, sized, lent-stays, vec_len, vec_capacity, IsReady, Seen, seen_of, state_of}
-use Rattle.iobufs_owner.specs.declared.owner.Machine.TheInside.{Inside}
+use Rattle.iobufs_owner.proofs.Base.{◌≡◌, ◌≢◌, inl, inr, ℕ, ◌<◌, ◌≤◌, true, false, List, length, set, sym, ◌∙◌, ap, subst, refl, arith, Option, Some, None, length-set, All-set, State, Tables, owner_of, record_at, block_at, handle_at, recovered, triple, holds, holders, users, tally, reading, read_handle, IsSound, Fits, alone, describes, detached_handle, replaced, block_freed, both_freed, tables_without, is_lent, IsLoose, Handle, Mut, Pending, Empty, Descriptor, Counted, count-set, count-some, keeps-self, owner-kept, handles-fit-set, at-some, owner-empty, owner-counted, ne_eqb, eq-eqb, fits-at, alone-at, described-at, counted-at, live-inside, alone-described, describes-described, alone-written, alone-few, block-log-freed, record-log-dead, block-log-room, record-log-room, sound-handles, held_by, calls-fit-kept, Keeps, KeepsLetGo, All, LogsRecords, Record, names, call_at, ◌∷◌, ◌++◌, [], ◌^◌, sized, lent-stays, vec_len, vec_capacity, IsReady, Seen, seen_of, state_of, Swapped, counts-swapped, holders-le-users, swaps-none, swaps-set}
 use Rattle.iobufs_owner.proofs.Soundness.RecordFreed.{dead-at, dead-keeps, dead-let_go, dead-live}
 use Rattle.iobufs_owner.proofs.Soundness.Alone.{only, unready, undropped, named-once, calls-live, fit-dead}
 use Rattle.iobufs_owner.proofs.Soundness.Recovered.{recovered-is}
+use Rattle.iobufs_owner.proofs.Soundness.Frame.{sound-framed}
+use Rattle.iobufs_owner.specs.declared.owner.Machine.TheInside.{Inside}
 
 -- ---- handles and calls that hold nothing
 
 pub record Loose (g : Tables) (calls : List (Option Pending)) (o : Option Handle) : Type 0 where
   pub holds : (c : ℕ) → holds c (read_handle g o) ≡ false
-  pub describes : (c : ℕ) → describes g c o ≡ false
-  pub alone : (c : ℕ) → alone g c o ≡ false
   pub fits : Fits g calls o
-  pub owner : (b : ℕ) (x : Handle) → o ≡ Some x → owner_of g x ≡ Some b → ⊥
 
 pub loose : (g : Tables) (calls : List (Option Pending)) (o : Option Handle) → IsLoose o → Loose g calls o
-loose g calls o (inl e) = subst (λ (o : Option Handle). Loose g calls o) (sym e) (record {
-  holds = λ c. refl;
-  describes = λ c. refl;
-  alone = λ c. refl;
-  fits = tt;
-  owner = λ b x i. absurd (cc);
+loose g calls o (inl e) = subst (λ (o : Option Handle). Loose g calls o) (sym e) (record { holds = λ c. refl; fits = tt })
+loose g calls o (inr e) = subst (λ (o : Option Handle). Loose g calls o) (sym e) (record {
+  holds = λ c. rw (owner-empty g (detached_handle 0) refl) refl;
+  fits = record { no_room = refl; ends = omega arith; no_bytes = λ m. refl };
 })
-loose g calls o (inr e) =
-    let n = owner-empty g (detached_handle 0) refl in
-    subst (λ (o : Option Handle). Loose g calls o) (sym e) (record {
-      holds = λ c. rw n refl;
-      describes = λ c. rw n refl;
-      alone = λ c. rw n refl;
-      fits = record { no_room = refl; ends = omega arith; no_bytes = λ m. refl };
-      owner = λ b x i own. (let q : detached_handle 0 ≡ x = cc in let u = sym n ∙ ap (owner_of g) q ∙ own in cc);
-    })
 
 -- ---- a handle that holds its block alone
 
 -- a handle that holds its block alone and that no call borrows goes, or is detached, and the block is freed, by records that
--- are kept or are dead and of that block
-sound-let-go : (s : State) (h b : ℕ) (x : Handle) (o : Option Handle) (rs : List Record) (fr : List ℕ) → IsSound s → handle_at s h ≡ Some x
-    → is_lent h s.calls ≡ false → owner_of s.tables x ≡ Some b → b < length s.tables.blocks → holders (reading s) b ≡ 1 → IsLoose o
-    → length rs ≤ 2 ^ 32
+-- are kept but for one, which is dead, and of which no other live one is of that block
+sound-let-go : (s : State) (h b r : ℕ) (x : Handle) (o : Option Handle) (rs : List Record) (fr : List ℕ) → IsSound s
+    → handle_at s h ≡ Some x → is_lent h s.calls ≡ false → owner_of s.tables x ≡ Some b → b < length s.tables.blocks
+    → holders (reading s) b ≡ 1 → IsLoose o → length rs ≤ 2 ^ 32
     → Keeps s.tables (record s.tables { records = rs }) → All (KeepsLetGo s.tables (record s.tables { records = rs })) s.calls
     → ((i q : ℕ) → i < length s.calls → names q (call_at s i) ≡ true → (record_at s.tables q).live ≡ true
     → (record_at (record s.tables { records = rs }) q).live ≡ true)
     → ((i : ℕ) → i ≢ h → i < length s.handles → Fits (record s.tables { records = rs }) s.calls (handle_at s i))
-    → ((q : ℕ) → (record_at (record s.tables { records = rs }) q).live ≡ true
-    → (record_at (record s.tables { records = rs }) q ≡ record_at s.tables q) × ((record_at s.tables q).block ≢ b))
-    → alone (record s.tables { records = rs }) b (Some x) ≡ true → LogsRecords rs fr
+    → ((q : ℕ) → q ≢ r → record_at (record s.tables { records = rs }) q ≡ record_at s.tables q)
+    → ((record_at (record s.tables { records = rs }) r).live ≡ true → ⊥)
+    → ((q : ℕ) → (record_at s.tables q).live ≡ true → q ≢ r → (record_at s.tables q).block ≢ b) → LogsRecords rs fr
     → IsSound (replaced (record s {
       tables = record s.tables { records = rs };
       freed_blocks = s.freed_blocks ++ triple (block_at s.tables b) ∷ [];
       freed_records = fr;
     }) h o)
-sound-let-go s h b x o rs fr k at free ox known one is few e gone live fits back sole log =
+sound-let-go s h b r x o rs fr k at free ox known one is few e gone live fits kept dead apart log =
     let g : Tables = s.tables in
     let g' : Tables = record s.tables { records = rs } in
     let l = at-some s.handles h x at in
@@ -64,46 +51,27 @@ sound-let-go s h b x o rs fr k at free ox known one is few e gone live fits back
       freed_records = fr;
     }) h o in
     let ox' : owner_of g' x ≡ Some b = owner-kept g g' s.calls x e (fits-at s h x k at) ∙ ox in
-    let w = alike s g' k e gone in
-    let held : (c : ℕ) → tally (held_by g' c) (set s.handles h o) + cond (c == b) 1 0 ≡ tally (held_by g c) s.handles = λ c. let m =
-    rw (at, ox', n.holds c) at (count-set (held_by g' c) s.handles h o None l) in omega (arith, m, w.held c) in
-    let hm : (c : ℕ) → holders (reading next) c + cond (c == b) 1 0 ≡ holders (reading s) c =
-    λ c. omega (arith, holders-as s c, holders-as next c, held c, w.still c) in
-    let um : (c : ℕ) → users (reading next) c + cond (c == b) 1 0 ≡ users (reading s) c =
-    λ c. omega (arith, users-as s c, users-as next c, held c, w.drops c) in
-    let hn : (c : ℕ) → c ≢ b → holders (reading next) c ≡ holders (reading s) c = λ c ne. let m = rw (ne_eqb c b ne) at (hm c) in omega
-    (arith, m) in
-    let un : (c : ℕ) → c ≢ b → users (reading next) c ≡ users (reading s) c = λ c ne. let m = rw (ne_eqb c b ne) at (um c) in omega
-    (arith, m) in
-    let none : users (reading next) b ≡ 0 = (let m = rw (eq-eqb b b refl) at (um b) in let u = me.users in omega (arith, m, u)) in
-    let dm : (c : ℕ) → tally (describes g' c) (set s.handles h o) ≤ tally (describes g c) s.handles = λ c. let m =
-    rw (n.describes c) at (count-set (describes g' c) s.handles h o None l) in omega (arith, m, w.describes c) in
-    let am : (c : ℕ) → tally (alone g' c) (set s.handles h o) + cond (alone g' c (Some x)) 1 0 ≡ tally (alone g c) s.handles = λ c. let m =
-    rw (at, n.alone c) at (count-set (alone g' c) s.handles h o None l) in omega (arith, m, w.alone c) in
-    let alone-few = alone-few s b in
-    let lonely : tally (alone g' b) (set s.handles h o) ≡ 0 = (let m = rw sole at (am b) in omega (arith, m, alone-few, one)) in
-    record {
+    let w : Swapped s next (Some x) o None None = counts-swapped k e gone (swaps-set s.handles h (Some x) o at l) (swaps-none s.calls) in
+    let none : users (reading next) b ≡ 0 = (let z = rw (ox', n.holds b, eq-eqb b b refl) at (w.users b) in omega (arith, z, me.users)) in
+    let bare : holders (reading next) b ≡ 0 = omega (arith, none, holders-le-users (reading next) b) in
+    sound-framed r k w (λ d ne. (rw ox' (ne_eqb d b ne), n.holds d, refl, refl)) (record {
       size = sized k.size k.size.few_blocks few (rw length-set k.size.few_handles) k.size.few_calls;
+      ceiling = refl;
+      longer = e.longer;
       blocks = k.blocks;
       fit = handles-fit-set g' s.calls s.handles h o l n.fits fits;
-      calls_fit = calls-fit-kept next k refl e live (lent-stays s h o free) gone
-          (λ i q li e. hn (record_at g q).block (λ j. undropped s h b i me li (rw e (eq-eqb b (record_at g q).block (sym j)))));
-      one_release = λ c. rw (w.releases c) (k.one_release c);
-      counted = λ q t.
-          let d = back q t in
-          rw (d.0, hn (record_at g q).block d.1, un (record_at g q).block d.1)
-          (fits-fewer (k.counted q (rw d.0 at t)) (dm (record_at g q).block));
-      one_record = λ p q tp tq hp hq i.
-          let d = back p tp in
-          let d' = back q tq in
-          k.one_record p q (rw d.0 at tp) (rw d'.0 at tq) hp hq (rw (d.0, d'.0) at i);
-      sole = λ c t. let ne : c ≢ b = λ e. (let z = rw e at t in omega (arith, z, lonely)) in hn c ne ∙ k.sole c (omega (arith, t, am c));
-      capped = λ c. omega (arith, hm c, k.capped c);
-      known_users = λ c t. k.known_users c (omega (arith, t, um c));
-      block_log = block-log-freed g b k.blocks known (let u = me.users in omega (arith, u)) none
-          (λ c ne. ap (λ m. nat_eq m 0) (un c ne)) k.block_log;
+      calls_fit = λ others. calls-fit-kept next k refl e live (lent-stays s h o free) gone (λ i q li e.
+          others (record_at g q).block (λ j. undropped s h b i me li (rw e (eq-eqb b (record_at g q).block (sym j)))));
+      kept = λ q _ ne. (kept q ne, refl);
+      apart = λ q live ne i. absurd (apart q live ne i);
+      mine = λ live. absurd (dead live);
+      known = known;
+      one_release = omega (arith, w.releases b, k.one_release b);
+      sole = λ z. absurd (omega (arith, z, alone-few next b, bare));
+      capped = omega (arith, bare);
+      block_log = block-log-freed g b k.blocks known (omega (arith, me.users)) none k.block_log;
       record_log = log;
-    }
+    })
 
 -- a handle by a descriptor that no call borrows goes, or is detached, and its block is freed: the machine stays sound
 pub sound-freed_described : (s : State) (h : ℕ) (x : Handle) (w : ℕ) (o : Option Handle) → IsSound s → handle_at s h ≡ Some x
@@ -117,12 +85,13 @@ sound-freed_described s h x w o k at free xw is =
     let one = alone-at s h x b k at sole in
     let some : 0 < tally (describes g b) s.handles = count-some (describes g b) s.handles h None (at-some s.handles h x at)
     (ap (describes g b) at ∙ describes-described g b x w xw ∙ rw ox (eq-eqb b b refl)) in
-    let apart : (q : ℕ) → (record_at g q).live ≡ true → (record_at g q).block ≢ b = λ q t e.
+    let apart : (q : ℕ) → (record_at g q).live ≡ true → q ≢ length g.records → (record_at g q).block ≢ b = λ q t _ e.
     (let z = unready s h b q k (only s h b x k at ox one) free e in let u = rw e at ((k.counted q t).undescribed z) in omega
     (arith, u, some)) in
     rw (recovered-is s h x w b k at xw ox)
-    (sound-let-go s h b x o g.records s.freed_records k at free ox d.says.known one is k.size.few_records (keeps-self g)
-    (λ i d l q j t. refl) (λ _ q _ _ t. t) (λ i _ li. k.fit i None li) (λ q t. (refl, apart q t)) sole k.record_log)
+    (sound-let-go s h b (length g.records) x o g.records s.freed_records k at free ox d.says.known one is k.size.few_records (keeps-self g)
+    (λ i d l q j t. refl) (λ _ q _ _ t. t) (λ i _ li. k.fit i None li) (λ q _. refl)
+    (λ live. omega (arith, live-inside g.records (length g.records) live)) apart k.record_log)
 
 -- ---- by a record
 
@@ -153,14 +122,10 @@ sound-freed_counted s h x r o k at free xm xw is =
     let one = alone-at s h x b k at (alone-written g b x r xw xm ∙ rw ox (eq-eqb b b refl)) in
     let me = only s h b x k at ox one in
     let once = named-once s h r x k at xw one in
-    let own : owner_of (tables_without g r) x ≡ Some b = owner-kept g (tables_without g r) s.calls x (dead-keeps g r) (fits-at s h x k at)
-    ∙ ox in
-    sound-let-go s h b x o (tables_without g r).records _ k at free ox f.known one is (rw length-set k.size.few_records) (dead-keeps g r)
+    sound-let-go s h b r x o (tables_without g r).records _ k at free ox f.known one is (rw length-set k.size.few_records) (dead-keeps g r)
     (λ i d l q j t. dead-let_go g r q) (λ i q li m t. calls-live s h r q i once li m t) (λ i ne li. fit-dead s h r i k once ne li)
-    (λ q t. (let d = dead-live g r q inside t in
-    (dead-at g r q d.1, λ i. d.1 (k.one_record q r d.0 f.live (unready s h b q k me free i) f.shown i))))
-    (alone-written (tables_without g r) b x r xw xm ∙ ap (is_block b) own ∙ eq-eqb b b refl)
-    (record-log-dead r _ inside refl f.live k.record_log)
+    (dead-at g r) (λ live. (dead-live g r r inside live).1 refl)
+    (λ q live ne i. ne (k.one_record q r live f.live (unready s h b q k me free i) f.shown i)) (record-log-dead r _ inside refl f.live k.record_log)
 
 -- ---- a handle without block is gone
 

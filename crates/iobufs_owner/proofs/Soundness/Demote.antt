@@ -1,9 +1,10 @@
 -- A descriptor in the place of a record that counts one view keeps the machine sound.
-use Rattle.iobufs_owner.proofs.Base.{◌≡◌, ◌≢◌, inl, inr, ℕ, ◌+◌, ◌^◌, ◌<◌, ◌≤◌, ◌==◌, true, false, cond, length, set, sym, ◌∙◌, ap, refl, arith, Some, None, length-set, eqb_tells, IsPowerOfTwo, HasRoom, word_of, State, Tables, owner_of, record_at, block_at, base_by, block_with, is_block, holders, users, tally, reading, IsSound, IsDescribed, alone, describes, edited, tables_without, record_freed, Lends, fits_in, tail_of, may_demote, described, demote_counted, Block, Handle, View, Counted, Declined, Done, word-size, word-tail, fits-room, fits-true, owner-kept, handles-fit-set, at-some, owner-counted, ne_eqb, fits-at, counted-at, lies-as, live-inside, no_block, owner-described, alone-described, describes-described, describes-counted, alone-shared, bases, record-log-dead, fits-fewer, and_parts, eqb-true, false_from_ne_true, not-true, log-is, log_of, count-change, alike, count-set, held_by, holders-as, users-as, calls-fit-kept, sound-same, lent-stays}
-use Rattle.iobufs_owner.proofs.Soundness.RecordFreed.{dead-at, dead-block, dead-keeps, dead-let_go, dead-live}
+use Rattle.iobufs_owner.proofs.Base.{◌≡◌, ℕ, ◌+◌, ◌^◌, ◌<◌, ◌≤◌, true, false, length, sym, ◌∙◌, ap, refl, arith, Some, None, length-set, IsPowerOfTwo, HasRoom, word_of, State, Tables, owner_of, record_at, block_at, base_by, block_with, holders, reading, IsSound, IsDescribed, edited, tables_without, record_freed, Lends, fits_in, tail_of, may_demote, described, demote_counted, Block, Handle, View, Counted, Declined, Done, word-size, word-tail, fits-room, fits-true, owner-kept, handles-fit-set, at-some, owner-counted, ne_eqb, fits-at, counted-at, lies-as, live-inside, no_block, owner-described, bases, record-log-dead, and_parts, eqb-true, false_from_ne_true, not-true, log-is, log_of, calls-fit-kept, lent-stays, Swapped, counts-swapped, holders-le-users, swaps-none, swaps-set}
+use Rattle.iobufs_owner.proofs.Soundness.RecordFreed.{dead-at, dead-keeps, dead-let_go, dead-live}
 use Rattle.iobufs_owner.proofs.Soundness.Alone.{only, unready, named-once, calls-live, fit-dead}
 use Rattle.iobufs_owner.proofs.Soundness.BlockFreed.{counted-ends}
 use Rattle.iobufs_owner.proofs.Soundness.Recovered.{with-first}
+use Rattle.iobufs_owner.proofs.Soundness.Frame.{block-log-still, sound-framed}
 
 -- ---- when a record may go
 
@@ -95,46 +96,33 @@ sound-demoted s h r x k t xw may =
     let e = dead-keeps g r in
     let ox' : owner_of g' x ≡ Some b = owner-kept g g' s.calls x e (fits-at s h x k at) ∙ ox in
     let oy : owner_of g' y ≡ Some b = owner-demoted s h r x k t xw may in
-    let v = alike s g' k e (λ i d l q j t. dead-let_go g r q) in
-    let held : (c : ℕ) → tally (held_by g' c) (set s.handles h (Some y)) ≡ tally (held_by g c) s.handles = λ c. let n =
-    rw (at, ox', oy) at (count-set (held_by g' c) s.handles h (Some y) None l) in omega (arith, n, v.held c) in
-    let hm : (c : ℕ) → holders (reading next) c ≡ holders (reading s) c = λ c. omega
-    (arith, holders-as s c, holders-as next c, held c, v.still c) in
-    let um : (c : ℕ) → users (reading next) c ≡ users (reading s) c = λ c. omega
-    (arith, users-as s c, users-as next c, held c, v.drops c) in
-    let dm : (c : ℕ) → tally (describes g' c) (set s.handles h (Some y)) ≡ tally (describes g c) s.handles + cond (c == b) 1 0 = λ c.
-    let n = count-change (describes g' c) s.handles h (Some y) None false (c == b) l
-    (ap (describes g' c) at ∙ describes-counted g' c x r xw)
-    (describes-described g' c y w refl ∙ ap (is_block c) oy) in omega (arith, n, v.describes c) in
-    let am : (c : ℕ) → tally (alone g' c) (set s.handles h (Some y)) ≡ tally (alone g c) s.handles + cond (c == b) 1 0 = λ c.
-    let n = count-change (alone g' c) s.handles h (Some y) None false (c == b) l (ap (alone g' c) at ∙ alone-shared g' c x r xw t.kind_is)
-    (alone-described g' c y w refl ∙ ap (is_block c) oy) in omega (arith, n, v.alone c) in
-    let apart : (q : ℕ) → (record_at g q).live ≡ true → q ≢ r → (record_at g q).block ≢ b =
-    λ q t ne i. ne (k.one_record q r t f.live (unready s h b q k me free i) f.shown i) in
-    sound-same s _ _ _ _ k (rw (length-set, length-set) k.size)
-    (handles-fit-set g' s.calls s.handles h (Some y) l
-    (record {
-      block = b;
-      log = log_of (block_at s.tables
-          (record_at s.tables r).block).align;
-      tail = tail;
-      says = described-demoted s h r x k t xw may;
+    let v : Swapped s next (Some x) (Some y) None None =
+    counts-swapped k e (λ i d l q j t. dead-let_go g r q) (swaps-set s.handles h (Some x) (Some y) at l) (swaps-none s.calls) in
+    let hm : (c : ℕ) → holders (reading next) c ≡ holders (reading s) c = λ c. let z = rw (ox', oy) at (v.holders c) in omega (arith, z) in
+    let one' : holders (reading next) b ≡ 1 = hm b ∙ one in
+    sound-framed r k v (λ d ne. (rw ox' (ne_eqb d b ne), rw oy (ne_eqb d b ne), refl, refl)) (record {
+      size = rw (length-set, length-set) k.size;
+      ceiling = refl;
+      longer = e.longer;
+      blocks = k.blocks;
+      fit = handles-fit-set g' s.calls s.handles h (Some y) l (record {
+        block = b;
+        log = log_of (block_at s.tables (record_at s.tables r).block).align;
+        tail = tail;
+        says = described-demoted s h r x k t xw may;
+      }) (λ i ne li. fit-dead s h r i k once ne li);
+      calls_fit = λ _. calls-fit-kept next k refl e (λ i q li m t. calls-live s h r q i once li m t) (lent-stays s h (Some y) free)
+          (λ i d l q j t. dead-let_go g r q) (λ i q li e. hm (record_at g q).block);
+      kept = λ q _ ne. (dead-at g r q ne, refl);
+      apart = λ q live ne i. absurd (ne (k.one_record q r live f.live (unready s h b q k me free i) f.shown i));
+      mine = λ live. absurd ((dead-live g r r inside live).1 refl);
+      known = f.known;
+      one_release = omega (arith, v.releases b, k.one_release b);
+      sole = λ _. one';
+      capped = omega (arith, one');
+      block_log = block-log-still b (k.counted r f.live).used (omega (arith, one', holders-le-users (reading next) b)) k.block_log;
+      record_log = record-log-dead r _ inside refl f.live k.record_log;
     })
-    (λ i ne li. fit-dead s h r i k once ne li))
-    (calls-fit-kept next k refl e (λ i q li m t. calls-live s h r q i once li m t)
-    (lent-stays s h (Some y) free)
-    (λ i d l q j t. dead-let_go g r q) (λ i q li e. hm (record_at g q).block))
-    (λ c. rw (v.releases c) (k.one_release c)) hm um
-    (λ q t.
-    let d = dead-live g r q inside t in
-    let n = rw (ne_eqb (record_at g q).block b (apart q d.0 d.1)) at (dm (record_at g q).block) in
-    rw (dead-at g r q d.1, hm, um) (fits-fewer (k.counted q d.0) (omega (arith, n))))
-    (λ p q tp tq hp hq i. k.one_record p q (dead-live g r p inside tp).0 (dead-live g r q inside tq).0 hp hq
-    (sym (dead-block g r p) ∙ i ∙ dead-block g r q))
-    (λ c t. elim (eqb_tells c b) [
-      | inl i ↦ rw i.1 one
-      | inr i ↦ k.sole c (let n = rw i.0 at (am c) in omega (arith, n, t))
-    ]) (record-log-dead r _ inside refl f.live k.record_log)
 
 -- ---- the state before the call
 

@@ -49,7 +49,7 @@ sound-dropping s p h r x c k at word view free none lp d =
     call-kept next (call_at s i) k (keeps-self g) (λ q j t. refl) (λ q _ t. t) (λ q _ _. hid q)
     (λ j y b. lent-stays s h None free j y (list_any_at (borrows_it j) s.calls i None lo b)) (λ q _. hm (record_at g q).block)) k.calls_fit)
     (λ b. let n = count-set (releases g b) s.calls p (Some c) None lp in omega (arith, n, d.first b)) hm um
-    (λ q live. rw (hid q, hm, um) (fits-fewer (k.counted q live) (dm (record_at g q).block)))
+    (λ q live. rw (hid q, hm, um) (fits-fewer (k.counted q live) (omega arith) (dm (record_at g q).block)))
     (λ q q' a b u v e. k.one_record q q' a b (sym (hid q) ∙ u) (sym (hid q') ∙ v) e)
     (λ b t. k.sole b (omega (arith, am b))) k.record_log
 

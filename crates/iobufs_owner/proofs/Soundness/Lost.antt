@@ -1,7 +1,6 @@
 -- A clone or slice loses the race: its record is freed, and the call will add to the winner's.
-use Rattle.iobufs_owner.proofs.Base.{◌≡◌, ◌≢◌, ℕ, ◌+◌, ◌<◌, ◌==◌, true, cond, length, set, sym, ◌∙◌, ap, subst, refl, arith, Option, Some, None, length-set, State, Tables, record_at, handle_at, call_at, holders, users, tally, reading, IsSound, FitsCall, Shares, hidden, readies, releases, called, record_freed, tables_without, Handle, Share, Pending, Ready, Add, Counted, count-set, count-some, count-two, names, shares-kept, calls-fit-set, at-some, ne_eqb, eq-eqb, live-inside, record-log-dead, call-fits, alike, drops_by, holders-as, still_by, users-as, all-fit-on, sound-same, inl, inr, call-kept}
+use Rattle.iobufs_owner.proofs.Base.{◌≡◌, ◌≢◌, ℕ, ◌+◌, ◌<◌, ◌==◌, true, cond, length, set, sym, ◌∙◌, ap, subst, refl, arith, Option, Some, None, length-set, State, Tables, record_at, handle_at, call_at, holders, users, tally, reading, IsSound, FitsCall, Shares, hidden, readies, releases, called, record_freed, tables_without, Handle, Share, Pending, Ready, Add, Counted, count-set, count-some, count-two, names, shares-kept, calls-fit-set, at-some, ne_eqb, eq-eqb, live-inside, record-log-dead, call-fits, all-fit-on, sound-same, inl, inr, call-kept, Swapped, counts-swapped, describes, swaps-none, swaps-set}
 use Rattle.iobufs_owner.proofs.Soundness.RecordFreed.{dead-at, dead-block, dead-other, dead-keeps, dead-let_go, dead-live}
-use Rattle.iobufs_owner.proofs.Soundness.Called.{count-calls}
 use Rattle.iobufs_owner.proofs.Soundness.Alone.{named}
 use Rattle.iobufs_owner.proofs.Soundness.Won.{some-same}
 
@@ -30,21 +29,17 @@ sound-lost s p r w winner part' x k at atx xw =
     let sh : Shares s part' x = subst (λ (y : Handle). Shares s part' y) yx f.shares in
     let inside = live-inside g.records r f.live in
     let e = dead-keeps g r in
-    let v = alike s g' k e (λ i d l q j t. dead-let_go g r q) in
+    let v : Swapped s next None None (Some (Ready part' w r)) c =
+    counts-swapped k e (λ i d l q j t. dead-let_go g r q) (swaps-none s.handles) (swaps-set s.calls p (Some (Ready part' w r)) c at l) in
     let hidr : hidden s.calls r ≡ 1 = (let a = count-some (readies r) s.calls p None l (ap (readies r) at ∙ eq-eqb r r refl) in let m =
     (k.counted r f.live).one_maker in omega (arith, a, m)) in
-    let hm : (d : ℕ) → holders (reading next) d ≡ holders (reading s) d = λ d. let n =
-    count-calls (still_by g' d) s.calls p c None l (ap (still_by g' d) at) refl in omega
-    (arith, holders-as s d, holders-as next d, n, v.held d, v.still d) in
-    let um : (d : ℕ) → users (reading next) d ≡ users (reading s) d = λ d. let n =
-    count-calls (drops_by g' d) s.calls p c None l (ap (drops_by g' d) at) refl in omega
-    (arith, users-as s d, users-as next d, n, v.held d, v.drops d) in
+    let hm : (d : ℕ) → holders (reading next) d ≡ holders (reading s) d = λ d. omega (arith, v.holders d) in
+    let um : (d : ℕ) → users (reading next) d ≡ users (reading s) d = λ d. omega (arith, v.users d) in
+    let dm : (d : ℕ) → tally (describes g' d) s.handles ≡ tally (describes g d) s.handles = λ d. omega (arith, v.describes d) in
     let hid : (q : ℕ) → hidden (set s.calls p c) q + cond (q == r) 1 0 ≡ hidden s.calls q = λ q.
     let n = rw at at (count-set (readies q) s.calls p c None l) in omega (arith, n) in
     let old : (q : ℕ) → q ≢ r → hidden (set s.calls p c) q ≡ hidden s.calls q = λ q ne. (let n = rw (ne_eqb q r ne) at (hid q) in omega
     (arith, n)) in
-    let rel : (d : ℕ) → tally (releases g' d) (set s.calls p c) ≡ tally (releases g d) s.calls =
-    λ d. count-calls (releases g' d) s.calls p c None l (ap (releases g' d) at) refl ∙ v.releases d in
     sound-same s _ _ _ _ k (rw (length-set, length-set) k.size)
     (all-fit-on (set s.calls p c) s.handles e (λ _ q y _ _ f.
     let ne : q ≢ r = λ i. (let z = rw i at f.shown in omega (arith, z, hidr)) in (dead-other g r q ne ∙ f.live, old q ne ∙ f.shown)) k.fit)
@@ -52,12 +47,12 @@ sound-lost s p r w winner part' x k at atx xw =
     let never = not-mine s p r i part' w (call_at s i) k at ne lo refl (k.calls_fit i None lo) hidr in
     call-kept next (call_at s i) k e (λ q j t. dead-let_go g r q) (λ q n t. dead-other g r q (λ y. never (rw y at n)) ∙ t)
     (λ q n _. old q (λ y. never (rw y at n))) (λ _ _ _ a. a) (λ q _. hm (record_at g q).block)) k.calls_fit)
-    (λ d. rw rel (k.one_release d)) hm um
+    (λ d. omega (arith, v.releases d, k.one_release d)) hm um
     (λ q t.
     let d = dead-live g r q inside t in
-    rw (dead-at g r q d.1, old q d.1, hm, um, v.describes (record_at g q).block) (k.counted q d.0))
+    rw (dead-at g r q d.1, old q d.1, hm, um, dm (record_at g q).block) (k.counted q d.0))
     (λ q q' tq tq' hq hq' i.
     let d = dead-live g r q inside tq in
     let d' = dead-live g r q' inside tq' in
     k.one_record q q' d.0 d'.0 (sym (old q d.1) ∙ hq) (sym (old q' d'.1) ∙ hq') (sym (dead-block g r q) ∙ i ∙ dead-block g r q'))
-    (λ d t. k.sole d (rw (v.alone d) at t)) (record-log-dead r _ inside refl f.live k.record_log)
+    (λ d t. k.sole d (omega (arith, v.alone d, t))) (record-log-dead r _ inside refl f.live k.record_log)

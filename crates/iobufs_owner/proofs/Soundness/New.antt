@@ -1,5 +1,6 @@
 -- A new block with its first handle keeps the machine sound.
-use Rattle.iobufs_owner.proofs.Base.{◌≡◌, ◌≢◌, ℕ, ◌+◌, ◌^◌, ◌<◌, ◌==◌, inl, inr, true, false, cond, List, [], ◌∷◌, ◌++◌, length, refl, arith, All, Some, length-append, All-push, get_or-append_seam, eqb_tells, HasRoom, word_of, State, Tables, owner_of, base_by, record_at, block_at, holders, users, tally, reading, IsSound, ArePlaced, Fits, alone, describes, with_block, with_handle, first_handle, IsPlace, IsGoodPlace, Apart, ApartFrom, Block, Handle, Descriptor, unpack-size, calls-kept, append-at, count-append, holders-le-users, grown, grown-keeps, with-fresh, ne_eqb, eq-eqb, no_block, below-or, block-log-more, sized, alike, held_by, holders-as, users-as, all-fit-on, Keeps, KeepsLetGo, FitsWord, Record, hidden, LogsRecords, ◌≤◌, ◌⊎◌, describes-few, sym}
+use Rattle.iobufs_owner.proofs.Base.{◌≡◌, ◌≢◌, ℕ, ◌+◌, ◌^◌, ◌<◌, inl, inr, true, false, List, [], ◌∷◌, ◌++◌, length, refl, arith, All, Some, length-append, All-push, get_or-append_seam, HasRoom, word_of, State, Tables, owner_of, base_by, record_at, block_at, holders, users, reading, IsSound, ArePlaced, Fits, describes, with_block, with_handle, first_handle, IsPlace, IsGoodPlace, Apart, ApartFrom, Block, Handle, Descriptor, unpack-size, calls-kept, append-at, holders-le-users, grown, grown-keeps, with-fresh, ne_eqb, eq-eqb, no_block, below-or, block-log-more, sized, all-fit-on, Keeps, KeepsLetGo, FitsWord, Record, hidden, LogsRecords, ◌≤◌, describes-few, sym, None, Swapped, ap, counts-swapped, live-inside, swaps-none, swaps-push, ◌∙◌}
+use Rattle.iobufs_owner.proofs.Soundness.Frame.{sound-framed}
 
 -- no earlier block has the base of a good place
 pub other-base : (bs : List Block) (b : Block) → All (λ (x : Block). IsPlace x.base x.size x.align) bs
@@ -55,77 +56,48 @@ pub sound-block : (s : State) (b : Block) (x : Handle) (rs : List Record) → Is
     → All (KeepsLetGo s.tables (more s.tables b rs)) s.calls
     → ((q : ℕ) → (record_at s.tables q).live ≡ true → (record_at (more s.tables b rs) q).live ≡ true)
     → owner_of (more s.tables b rs) x ≡ Some (length s.tables.blocks) → FitsWord (more s.tables b rs) s.calls x x.word
-    → ((q : ℕ) → (record_at (more s.tables b rs) q).live ≡ true → (record_at (more s.tables b rs) q ≡ record_at s.tables q)
-    ⊎ ((record_at (more s.tables b rs) q ≡ record { count = 1; block = length s.tables.blocks; live = true }) × (hidden s.calls q ≡ 0)
-    × (describes (more s.tables b rs) (length s.tables.blocks) (Some x) ≡ false)))
-    → ((p q : ℕ) → (record_at (more s.tables b rs) p).live ≡ true → (record_at (more s.tables b rs) q).live ≡ true → hidden s.calls p ≡ 0
-    → hidden s.calls q ≡ 0 → (record_at (more s.tables b rs) p).block ≡ (record_at (more s.tables b rs) q).block → p ≡ q)
+    → ((q : ℕ) → (record_at (more s.tables b rs) q).live ≡ true → q ≢ length s.tables.records
+    → record_at (more s.tables b rs) q ≡ record_at s.tables q)
+    → ((record_at (more s.tables b rs) (length s.tables.records)).live ≡ true
+    → (record_at (more s.tables b rs) (length s.tables.records) ≡ record { count = 1; block = length s.tables.blocks; live = true })
+    × (hidden s.calls (length s.tables.records) ≡ 0) × (describes (more s.tables b rs) (length s.tables.blocks) (Some x) ≡ false))
     → LogsRecords rs s.freed_records
     → IsSound (record s { tables = more s.tables b rs; handles = s.handles ++ Some x ∷ [] })
-sound-block s b x rs k good few few' fewer e gone live o fits either shown log =
+sound-block s b x rs k good few few' fewer e gone live o fits kept new log =
     let g : Tables = s.tables in
     let n : ℕ = length s.tables.blocks in
     let g' : Tables = more s.tables b rs in
     let next : State = record s { tables = more s.tables b rs; handles = s.handles ++ Some x ∷ [] } in
-    let v = alike s g' k e gone in
-    let other = other-base g.blocks b k.blocks.places good in
-    let held : (c : ℕ) → tally (held_by g' c) (s.handles ++ Some x ∷ []) ≡ tally (held_by g c) s.handles + cond (c == n) 1 0 =
-    λ c. rw (count-append (held_by g' c) s.handles (Some x), v.held c, o) refl in
-    let hm : (c : ℕ) → holders (reading next) c ≡ holders (reading s) c + cond (c == n) 1 0 =
-    λ c. omega (arith, holders-as s c, holders-as next c, held c, v.still c) in
-    let um : (c : ℕ) → users (reading next) c ≡ users (reading s) c + cond (c == n) 1 0 =
-    λ c. omega (arith, users-as s c, users-as next c, held c, v.drops c) in
-    let am : (c : ℕ) → c ≢ n → tally (alone g' c) (s.handles ++ Some x ∷ []) ≡ tally (alone g c) s.handles =
-    λ c ne. rw (count-append (alone g' c) s.handles (Some x), v.alone c, o, ne_eqb c n ne) (omega arith) in
-    let dm : (c : ℕ) → describes g' c (Some x) ≡ false
-    → tally (describes g' c) (s.handles ++ Some x ∷ []) ≡ tally (describes g c) s.handles =
-    λ c no. rw (count-append (describes g' c) s.handles (Some x), v.describes c, no) (omega arith) in
+    let w : Swapped s next None (Some x) None None = counts-swapped k e gone (swaps-push s.handles (Some x)) (swaps-none s.calls) in
     let unused : users (reading s) n ≡ 0 = grind (arith, k.known_users n) in
     let unheld : holders (reading s) n ≡ 0 = omega (arith, unused, holders-le-users (reading s) n) in
-    let one : users (reading next) n ≡ 1 = (let u = rw (eq-eqb n n refl) at (um n) in omega (arith, u, unused)) in
-    let sole : holders (reading next) n ≡ 1 = (let u = rw (eq-eqb n n refl) at (hm n) in omega (arith, u, unheld)) in
-    record {
+    let one : users (reading next) n ≡ 1 = (let z = rw (o, eq-eqb n n refl) at (w.users n) in omega (arith, z, unused)) in
+    let sole : holders (reading next) n ≡ 1 = (let z = rw (o, eq-eqb n n refl) at (w.holders n) in omega (arith, z, unheld)) in
+    sound-framed (length s.tables.records) k w (λ d ne. (refl, rw o (ne_eqb d n ne), refl, refl)) (record {
       size = sized k.size (rw length-append (omega arith)) few' (rw length-append (omega arith)) k.size.few_calls;
+      ceiling = refl;
+      longer = e.longer;
       blocks = placed-more g b k.blocks good;
       fit = All-push (Fits g' s.calls) s.handles (Some x)
           (all-fit-on s.calls s.handles e (λ _ q z _ _ c. (live q c.live, c.shown)) k.fit) fits;
-      calls_fit = calls-kept next k refl e live (λ i y b a. append-at s.handles (Some x) i y a) gone
-          (λ c l. rw (hm, ne_eqb c n (omega arith)) (omega arith));
-      one_release = λ c. rw (v.releases c) (k.one_release c);
-      counted = λ q t. elim (either q t) [
-        | inl w ↦ (let c = k.counted q (rw w at t) in
-            let known = c.known in
-            let ne = ne_eqb (record_at g q).block n (omega arith) in
-            rw w (record {
-              known = rw length-append (omega arith);
-              one_maker = c.one_maker;
-              counts = λ z. rw (hm, ne) (omega (arith, c.counts z));
-              fresh = c.fresh;
-              used = rw (um, ne) (omega (arith, c.used));
-              undescribed = λ z. rw (dm (record_at g q).block (rw (o, ne) refl)) (c.undescribed z);
-            }))
-        | inr w ↦ rw w.0 (record {
-          known = rw length-append (omega arith);
-          one_maker = omega (arith, w.1);
-          counts = λ z. sym sole;
-          fresh = λ z. absurd (omega (arith, z, w.1));
-          used = omega (arith, one);
-          undescribed = λ z. rw (dm n w.2) (omega (arith, describes-few s n, unheld));
-        })
-      ];
-      one_record = shown;
-      sole = λ c h. elim (eqb_tells c n) [
-        | inl i ↦ rw i.1 sole
-        | inr i ↦ rw (hm, i.0) (omega (arith, k.sole c (rw (am c i.1) at h)))
-      ];
-      capped = λ c. elim (eqb_tells c n) [ inl i ↦ rw (i.1, sole) (omega arith) | inr i ↦ rw (hm, i.0) (omega (arith, k.capped c)) ];
-      known_users = λ c h. let p = rw um at h in rw length-append (elim (eqb_tells c n) [
-        | inl i ↦ (let q = i.1 in omega arith)
-        | inr i ↦ (let q = rw i.0 at p in omega (arith, k.known_users c (omega (arith, q))))
-      ]);
-      block_log = block-log-more g b other one (λ c l. rw (um, ne_eqb c n (omega arith)) (omega arith)) k.block_log;
+      calls_fit = λ others. calls-kept next k refl e live (λ i y b a. append-at s.handles (Some x) i y a) gone
+          (λ c l. others c (omega (arith, l)));
+      kept = λ q live ne. (kept q live ne, refl);
+      apart = λ q live _ i. absurd (omega (arith, (k.counted q live).known, i));
+      mine = λ live. let m = new live in record {
+        block = ap (λ (v : Record). v.block) m.0;
+        shown = m.1;
+        counts = ap (λ (v : Record). v.count) m.0 ∙ sym sole;
+        used = omega (arith, one);
+        undescribed = (let z = rw m.2 at (w.describes n) in omega (arith, z, describes-few s n, unheld));
+      };
+      known = rw length-append (omega arith);
+      one_release = omega (arith, w.releases n, k.one_release n);
+      sole = λ _. sole;
+      capped = omega (arith, sole);
+      block_log = block-log-more g b (other-base g.blocks b k.blocks.places good) one k.block_log;
       record_log = log;
-    }
+    })
 
 -- a new native block at a good place, with its first handle by a descriptor, keeps the machine sound, where there were fewer than 2^32
 -- blocks and handles
@@ -152,4 +124,4 @@ sound-made s b log w k good native al room is few fewer =
         lies = rw at (record { begins = omega arith; ends = refl; within = omega arith });
         behind = refl;
       };
-    }) (λ q t. inl refl) k.one_record k.record_log
+    }) (λ q _ _. refl) (λ live. absurd (omega (arith, live-inside g.records (length g.records) live))) k.record_log

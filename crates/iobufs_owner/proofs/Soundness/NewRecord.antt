@@ -1,6 +1,7 @@
 -- A new record keeps the machine sound: for a new block, and in the place of a descriptor.
-use Rattle.iobufs_owner.proofs.Base.{frozen-lies, ◌≡◌, ◌≢◌, ℕ, ◌+◌, ◌^◌, ◌<◌, ◌≤◌, ◌==◌, ◌⊎◌, inl, inr, Bool, true, false, cond, [], ◌∷◌, ◌++◌, length, set, sym, ◌∙◌, ap, subst, refl, arith, Option, Some, None, nat_eq, length-append, length-set, All-set, get_or_append_left, get_or-append_seam, nat_tests, State, Tables, owner_of, record_at, block_at, holders, users, is_block, tally, reading, has_let_go, IsSound, Fits, FitsWord, FitsCall, LiesIn, alone, describes, hidden, readies, with_block, with_record, with_handle, edited, next_record, Lends, frozen, IsGoodPlace, Block, Record, Handle, Kind, Mut, Pending, Ready, Word, Descriptor, Counted, Keeps, calls-kept, owner-kept, at-some, owner-counted, count-set, holders-le-users, grown, grown-keeps, eq-eqb, fits-at, live-inside, described-at, alone-at, alone-described, describes-described, describes-counted, alone-shared, describes-few, fits-fewer, no_record, below-or, record-log-more, count-change, sized, alike, held_by, holders-as, users-as, call_at, count-none, all-fit-on, sound-same, keeps-records, lent-stays}
+use Rattle.iobufs_owner.proofs.Base.{frozen-lies, ◌≡◌, ◌≢◌, ℕ, ◌^◌, ◌<◌, ◌⊎◌, inl, inr, true, false, [], ◌∷◌, ◌++◌, length, sym, ◌∙◌, ap, subst, refl, arith, Option, Some, None, nat_eq, length-append, length-set, All-set, get_or_append_left, get_or-append_seam, nat_tests, State, Tables, owner_of, record_at, block_at, holders, users, is_block, reading, has_let_go, IsSound, Fits, FitsWord, FitsCall, LiesIn, describes, hidden, readies, with_block, with_record, with_handle, edited, next_record, Lends, frozen, IsGoodPlace, Block, Record, Handle, Kind, Mut, Pending, Ready, Word, Descriptor, Counted, Keeps, calls-kept, owner-kept, at-some, owner-counted, holders-le-users, grown, grown-keeps, eq-eqb, fits-at, live-inside, described-at, alone-at, alone-described, describes-described, describes-counted, describes-few, no_record, below-or, record-log-more, sized, call_at, count-none, all-fit-on, keeps-records, lent-stays, Swapped, counts-swapped, ne_eqb, part, swaps-none, swaps-set}
 use Rattle.iobufs_owner.proofs.Soundness.New.{sound-block}
+use Rattle.iobufs_owner.proofs.Soundness.Frame.{block-log-still, sound-framed}
 
 -- ---- one record more
 
@@ -114,11 +115,8 @@ sound-recorded s b x k good xw lies native few few' fewer =
       shown = shown;
       lies = rw (new-block, at) lies;
       native = λ m. rw (new-block, at) (native m);
-    })) (λ q t. elim (recorded-either (grown s.tables b) 1 n q t) [
-      | inl w ↦ inl w.1
-      | inr i ↦ inr (rw (i, new) refl, rw i shown, describes-counted g' n x r xw)
-    ]) (one-more (grown g b) 1 n (λ q. hidden s.calls q ≡ 0) (λ q. hidden s.calls q ≡ 0) k.one_record (λ q t z. z)
-    (λ q t z _ i. let c = (k.counted q t).known in omega (arith, c, i))) (record-log-more _ refl k.record_log)
+    })) (λ q live ne. elim (recorded-either (grown s.tables b) 1 n q live) [ inl w ↦ w.1 | inr i ↦ absurd (ne i) ])
+    (λ _. (new, shown, describes-counted g' n x r xw)) (record-log-more _ refl k.record_log)
 
 -- ---- a new record in the place of a handle's descriptor
 
@@ -143,51 +141,40 @@ sound-promoted s h x w b kind k t xw ox few =
     let live : (q : ℕ) → (record_at g q).live ≡ true → (record_at g' q).live ≡ true = λ q t. recorded-live g 1 b q t in
     let ox' : owner_of g' x ≡ Some b = owner-kept g g' s.calls x e (fits-at s h x k at) ∙ ox in
     let oy : owner_of g' y ≡ Some b = owner-counted g' y r refl ∙ ap Some new-block in
-    let v = alike s g' k e (λ i d l q j t. recorded-let_go g 1 b q t) in
-    let held : (c : ℕ) → tally (held_by g' c) (set s.handles h (Some y)) ≡ tally (held_by g c) s.handles = λ c. let n =
-    rw (at, ox', oy) at (count-set (held_by g' c) s.handles h (Some y) None l) in omega (arith, n, v.held c) in
-    let hm : (c : ℕ) → holders (reading next) c ≡ holders (reading s) c = λ c. omega
-    (arith, holders-as s c, holders-as next c, held c, v.still c) in
-    let um : (c : ℕ) → users (reading next) c ≡ users (reading s) c = λ c. omega
-    (arith, users-as s c, users-as next c, held c, v.drops c) in
-    let dm : (c : ℕ) → tally (describes g' c) (set s.handles h (Some y)) + cond (c == b) 1 0 ≡ tally (describes g c) s.handles = λ c.
-    let n = count-change (describes g' c) s.handles h (Some y) None (c == b) false l
-    (ap (describes g' c) at ∙ describes-described g' c x w xw ∙ ap (is_block c) ox') (describes-counted g' c y r refl) in omega
-    (arith, n, v.describes c) in
-    let am : (c : ℕ) → tally (alone g' c) (set s.handles h (Some y)) ≤ tally (alone g c) s.handles = λ c.
-    let n = count-set (alone g' c) s.handles h (Some y) None l in
-    let ny : ◌≡◌ {A = ℕ} (cond (alone g' c (Some y)) 1 0) 0 = ap (λ (v : Bool). cond {A = ℕ} v 1 0) (alone-shared g' c y r refl refl) in
-    omega (arith, n, ny, v.alone c) in
+    let w' : Swapped s next (Some x) (Some y) None None =
+    counts-swapped k e (λ i d l q j t. recorded-let_go g 1 b q t) (swaps-set s.handles h (Some x) (Some y) at l) (swaps-none s.calls) in
+    let hm : (c : ℕ) → holders (reading next) c ≡ holders (reading s) c = λ c. let z = rw (ox', oy) at (w'.holders c) in omega (arith, z) in
     let one : holders (reading s) b ≡ 1 = alone-at s h x b k at (alone-described g b x w xw ∙ ap (is_block b) ox ∙ eq-eqb b b refl) in
-    let some : 0 < tally (describes g b) s.handles = (let z = rw (eq-eqb b b refl) at (dm b) in omega (arith, z)) in
-    let gone : tally (describes g' b) (set s.handles h (Some y)) ≡ 0 = (let z = rw (eq-eqb b b refl) at (dm b) in omega
-    (arith, z, describes-few s b, one)) in
-    let apart : (q : ℕ) → (record_at g q).live ≡ true → hidden s.calls q ≡ 0 → (record_at g q).block ≢ b =
-    λ q t z i. (let u = rw i at ((k.counted q t).undescribed z) in omega (arith, u, some)) in
+    let one' : holders (reading next) b ≡ 1 = hm b ∙ one in
+    let some : 0 < users (reading next) b = omega (arith, one', holders-le-users (reading next) b) in
+    let dm = rw (describes-described g' b x w xw ∙ ap (is_block b) ox' ∙ eq-eqb b b refl, describes-counted g' b y r refl) at (w'.describes b) in
     let shown = unhidden-next s k in
-    sound-same s _ _ _ _ k (sized k.size k.size.few_blocks (rw length-append (omega arith))
-    (rw length-set k.size.few_handles) k.size.few_calls)
-    (All-set (Fits g' s.calls) s.handles h (Some y) (record {
-      live = ap (λ (v : Record). v.live) new;
-      known = rw (new-block, ← same) d.says.known;
-      shown = shown;
-      lies = rw (new-block, ← same) (frozen-lies (block_at g d.block) x (Counted r) x.kind d.says.lies);
-      native = λ m. absurd (cc);
-    }) (all-fit-on s.calls s.handles e (λ _ q z _ _ c. (live q c.live, c.shown)) k.fit))
-    (calls-kept next k refl e live (lent-stays s h (Some y) t.free)
-    (λ i d l q j t. recorded-let_go g 1 b q t) (λ c _. hm c))
-    (λ c. rw (v.releases c) (k.one_release c)) hm um
-    (λ q t. elim (recorded-either g 1 b q t) [
-      | inl v ↦ rw (v.1, hm, um) (fits-fewer (k.counted q (ap (λ (v : Record). v.live) (sym v.1) ∙ t))
-          (omega (arith, dm (record_at g q).block)))
-      | inr i ↦ rw (i, new) (record {
-        known = rw (← same) d.says.known;
-        one_maker = omega (arith, shown);
-        counts = λ z. rw hm (sym one);
-        fresh = λ z. absurd (omega (arith, z, shown));
-        used = rw um (omega (arith, one, holders-le-users (reading s) b));
-        undescribed = λ z. gone;
-      })
-    ])
-    (one-more g 1 b (λ q. hidden s.calls q ≡ 0) (λ q. hidden s.calls q ≡ 0) k.one_record (λ q t z. z) (λ q t z _. apart q t z))
-    (λ c t. k.sole c (omega (arith, t, am c))) (record-log-more _ refl k.record_log)
+    sound-framed r k w' (λ d ne. (rw ox' (ne_eqb d b ne), rw oy (ne_eqb d b ne), refl, refl)) (record {
+      size = sized k.size k.size.few_blocks (rw length-append (omega arith)) (rw length-set k.size.few_handles) k.size.few_calls;
+      ceiling = refl;
+      longer = e.longer;
+      blocks = k.blocks;
+      fit = All-set (Fits g' s.calls) s.handles h (Some y) (record {
+        live = ap (λ (v : Record). v.live) new;
+        known = rw (new-block, ← same) d.says.known;
+        shown = shown;
+        lies = rw (new-block, ← same) (frozen-lies (block_at g d.block) x (Counted r) x.kind d.says.lies);
+        native = λ m. absurd (cc);
+      }) (all-fit-on s.calls s.handles e (λ _ q z _ _ c. (live q c.live, c.shown)) k.fit);
+      calls_fit = λ _. calls-kept next k refl e live (lent-stays s h (Some y) t.free) (λ i d l q j t. recorded-let_go g 1 b q t) (λ c _. hm c);
+      kept = λ q l ne. (elim (recorded-either g 1 b q l) [ inl v ↦ v.1 | inr i ↦ absurd (ne i) ], refl);
+      apart = λ q l ne i. (λ z. let u = rw i at ((k.counted q l).undescribed z) in omega (arith, u, dm), some);
+      mine = λ _. record {
+        block = new-block;
+        shown = shown;
+        counts = ap (λ (v : Record). v.count) new ∙ sym one';
+        used = some;
+        undescribed = omega (arith, dm, describes-few s b, one);
+      };
+      known = rw (← same) d.says.known;
+      one_release = omega (arith, w'.releases b, k.one_release b);
+      sole = λ _. one';
+      capped = omega (arith, one');
+      block_log = block-log-still b (omega (arith, one, holders-le-users (reading s) b)) some k.block_log;
+      record_log = record-log-more _ refl k.record_log;
+    })

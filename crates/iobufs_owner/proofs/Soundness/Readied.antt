@@ -1,7 +1,6 @@
 -- A clone or slice has loaded a descriptor and makes a record, which nothing shows yet.
-use Rattle.iobufs_owner.proofs.Base.{◌≡◌, inl, inr, ℕ, ◌+◌, ◌^◌, ◌<◌, ◌==◌, true, cond, length, set, sym, ◌∙◌, ap, subst, refl, arith, Option, Some, None, length-append, length-set, State, Tables, record_at, call_at, holders, users, tally, reading, IsSound, IsLoading, SpeaksOf, hidden, readies, releases, called, with_record, part, Record, Share, Pending, Loaded, Ready, count-set, owner-kept, shares-kept, promised-kept, calls-fit-set, at-some, ne_eqb, eq-eqb, fits-at, live-inside, owner-used, record-log-more, sized, alike, drops_by, holders-as, still_by, users-as, all-fit-on, sound-same, call-kept}
+use Rattle.iobufs_owner.proofs.Base.{◌≡◌, inl, inr, ℕ, ◌+◌, ◌^◌, ◌<◌, ◌==◌, true, cond, length, set, sym, ◌∙◌, ap, subst, refl, arith, Option, Some, None, length-append, length-set, State, Tables, record_at, call_at, holders, users, tally, reading, IsSound, IsLoading, SpeaksOf, hidden, readies, releases, called, with_record, part, Record, Share, Pending, Loaded, Ready, count-set, owner-kept, shares-kept, promised-kept, calls-fit-set, at-some, ne_eqb, eq-eqb, fits-at, live-inside, owner-used, record-log-more, sized, all-fit-on, sound-same, call-kept, Swapped, counts-swapped, describes, swaps-none, swaps-set}
 use Rattle.iobufs_owner.proofs.Soundness.NewRecord.{recorded, recorded-new, recorded-keeps, recorded-let_go, recorded-live, recorded-either, one-more, unhidden-next}
-use Rattle.iobufs_owner.proofs.Soundness.Called.{count-calls}
 
 -- a clone or slice that has loaded a descriptor of a block makes a record of it that counts two, where there were fewer than 2^32: the
 -- machine stays sound
@@ -20,13 +19,11 @@ sound-readied s p part w b k at ld same few =
     let new = recorded-new g 2 b in
     let known : b < length g.blocks = promised.says.known in
     let live : (q : ℕ) → (record_at g q).live ≡ true → (record_at g' q).live ≡ true = λ q t. recorded-live g 2 b q t in
-    let v = alike s g' k e (λ i d l q j t. recorded-let_go g 2 b q t) in
-    let hm : (d : ℕ) → holders (reading next) d ≡ holders (reading s) d = λ d. let n =
-    count-calls (still_by g' d) s.calls p c None l (ap (still_by g' d) at) refl in omega
-    (arith, holders-as s d, holders-as next d, n, v.held d, v.still d) in
-    let um : (d : ℕ) → users (reading next) d ≡ users (reading s) d = λ d. let n =
-    count-calls (drops_by g' d) s.calls p c None l (ap (drops_by g' d) at) refl in omega
-    (arith, users-as s d, users-as next d, n, v.held d, v.drops d) in
+    let v : Swapped s next None None (Some (Loaded part w)) c =
+    counts-swapped k e (λ i d l q j t. recorded-let_go g 2 b q t) (swaps-none s.handles) (swaps-set s.calls p (Some (Loaded part w)) c at l) in
+    let hm : (d : ℕ) → holders (reading next) d ≡ holders (reading s) d = λ d. omega (arith, v.holders d) in
+    let um : (d : ℕ) → users (reading next) d ≡ users (reading s) d = λ d. omega (arith, v.users d) in
+    let dm : (d : ℕ) → tally (describes g' d) s.handles ≡ tally (describes g d) s.handles = λ d. omega (arith, v.describes d) in
     let hid : (q : ℕ) → hidden (set s.calls p c) q ≡ hidden s.calls q + cond (q == length s.tables.records) 1 0 = λ q.
     let n = rw at at (count-set (readies q) s.calls p c None l) in omega (arith, n) in
     let old : (q : ℕ) → q < length g.records → hidden (set s.calls p c) q ≡ hidden s.calls q =
@@ -34,8 +31,6 @@ sound-readied s p part w b k at ld same few =
     let one : hidden (set s.calls p c) r ≡ 1 =
     (let n = rw (eq-eqb (length s.tables.records) (length s.tables.records) refl) at (hid r) in let z = unhidden-next s k in omega
     (arith, n, z)) in
-    let rel : (d : ℕ) → tally (releases g' d) (set s.calls p c) ≡ tally (releases g d) s.calls =
-    λ d. count-calls (releases g' d) s.calls p c None l (ap (releases g' d) at) refl ∙ v.releases d in
     sound-same s _ _ _ _ k (sized k.size k.size.few_blocks (rw length-append (omega arith)) k.size.few_handles
     (rw length-set k.size.few_calls))
     (all-fit-on (set s.calls p c) s.handles e
@@ -50,9 +45,9 @@ sound-readied s p part w b k at ld same few =
       same = ap (λ (v : Record). v.block) new;
     }) (λ i _ _. call-kept next (call_at s i) k e (λ q j t. recorded-let_go g 2 b q t) (λ n _ t. live n t)
     (λ n _ t. old n (live-inside g.records n t)) (λ _ _ _ a. a) (λ n _. hm (record_at g n).block)) k.calls_fit)
-    (λ d. rw rel (k.one_release d)) hm um
+    (λ d. omega (arith, v.releases d, k.one_release d)) hm um
     (λ q t. elim (recorded-either g 2 b q t) [
-      | inl u ↦ rw (u.1, old q u.0, hm, um, v.describes (record_at g q).block)
+      | inl u ↦ rw (u.1, old q u.0, hm, um, dm (record_at g q).block)
           (k.counted q (ap (λ (v : Record). v.live) (sym u.1) ∙ t))
       | inr i ↦ rw (i, new) (record {
         known = known;
@@ -65,4 +60,4 @@ sound-readied s p part w b k at ld same few =
     ])
     (one-more g 2 b (λ q. hidden s.calls q ≡ 0) (λ q. hidden (set s.calls p c) q ≡ 0) k.one_record
     (λ q t z. sym (old q (live-inside g.records q t)) ∙ z) (λ q t z new. absurd (omega (arith, new, one))))
-    (λ d t. k.sole d (rw (v.alone d) at t)) (record-log-more _ refl k.record_log)
+    (λ d t. k.sole d (omega (arith, v.alone d, t))) (record-log-more _ refl k.record_log)

@@ -1,7 +1,8 @@
 -- The last step of a drop: record and block are freed.
-use Rattle.iobufs_owner.proofs.Base.{◌≡◌, ◌≢◌, inl, inr, ℕ, ◌+◌, ◌<◌, ◌==◌, Bool, true, false, cond, length, set, sym, ◌∙◌, ap, refl, arith, Option, Some, None, nat_eq, length-set, eqb_tells, State, Tables, owner_of, record_at, handle_at, call_at, holds, holders, users, Dropping, still_holds, drops, tally, reading, read_handle, read_call, has_let_go, tables_without, both_freed, called, IsSound, alone, hidden, readies, releases, Handle, Pending, Release, count-set, count-some, count-less, count-most, count-two, count-find, count-sum, holders-le-users, calls-fit-set, at-some, owner-counted, ne_eqb, eq-eqb, live-inside, held_by, still_by, drops_by, holders-as, users-as, alone-holds, lets_go, drops-split, go-releases, block-log-freed, record-log-dead, and_right, call-fits, alike, all-fit-on, call-kept, cases_Bool}
+use Rattle.iobufs_owner.proofs.Base.{◌≡◌, ◌≢◌, inl, inr, ℕ, ◌<◌, ◌==◌, true, false, length, set, sym, ◌∙◌, ap, refl, arith, Option, Some, None, length-set, eqb_tells, State, Tables, owner_of, record_at, handle_at, call_at, holds, holders, users, drops, tally, reading, read_handle, read_call, has_let_go, tables_without, both_freed, called, IsSound, alone, hidden, readies, releases, Handle, Pending, Release, count-set, count-some, count-less, count-most, count-two, count-find, count-sum, holders-le-users, calls-fit-set, at-some, owner-counted, ne_eqb, eq-eqb, live-inside, held_by, still_by, drops_by, holders-as, users-as, lets_go, drops-split, go-releases, block-log-freed, record-log-dead, and_right, call-fits, all-fit-on, call-kept, cases_Bool, Swapped, alone-few, counts-swapped, swaps-none, swaps-set}
 use Rattle.iobufs_owner.proofs.Soundness.RecordFreed.{dead-at, dead-block, dead-other, dead-keeps, dead-let_go, dead-live}
 use Rattle.iobufs_owner.proofs.Soundness.Alone.{named, ready-borrows}
+use Rattle.iobufs_owner.proofs.Soundness.Frame.{sound-framed}
 
 abbrev pub released : State → ℕ → ℕ → State
 released s p r = called (both_freed s r) p None
@@ -41,10 +42,6 @@ none-holds s b i x z at o =
     let t = count-some (held_by s.tables b) s.handles i None (at-some s.handles i x at) (rw (at, o) (eq-eqb b b refl)) in
     omega arith
 
-still-other : (b c : ℕ) (v : Bool) → c ≢ b → still_holds c (Some (Dropping b v 1)) ≡ false
-still-other b c true ne = refl
-still-other b c false ne = ne_eqb c b ne
-
 -- no other call counts on the record, or drops the block
 other-drops : (s : State) (p r i b : ℕ) → call_at s p ≡ Some (Release r) → (record_at s.tables r).block ≡ b
     → tally (drops_by s.tables b) s.calls ≡ 1
@@ -78,51 +75,36 @@ sound-released s p r k at =
     let me = k.counted r f.live in
     let inside = live-inside g.records r f.live in
     let e = dead-keeps g r in
-    let v = alike s g' k e (λ i d l q j t. dead-let_go g r q) in
+    let bb = dead-block g r r in
+    let w : Swapped s next None None (Some (Release r)) None =
+    counts-swapped k e (λ i d l q j t. dead-let_go g r q) (swaps-none s.handles) (swaps-set s.calls p (Some (Release r)) None at l) in
     let hid : (q : ℕ) → hidden (set s.calls p None) q ≡ hidden s.calls q = λ q. let c =
     rw at at (count-set (readies q) s.calls p None None l) in omega (arith, c) in
-    let um : (c : ℕ) → users (reading next) c + cond (c == b) 1 0 ≡ users (reading s) c = λ c. let n =
-    rw (at, dead-block g r r) at (count-set (drops_by g' c) s.calls p None None l) in omega
-    (arith, users-as s c, users-as next c, n, v.held c, v.drops c) in
-    let hm : (c : ℕ) → c ≢ b → holders (reading next) c ≡ holders (reading s) c = λ c ne. let n =
-    rw (at, dead-block g r r, still-other b c (has_let_go g' r) ne) at (count-set (still_by g' c) s.calls p None None l) in
-    omega (arith, holders-as s c, holders-as next c, n, v.held c, v.still c) in
-    let none : users (reading next) b ≡ 0 = (let z = rw (eq-eqb b b refl, last.users) at (um b) in omega (arith, z)) in
-    record {
+    let none : users (reading next) b ≡ 0 = (let z = rw (bb, eq-eqb b b refl) at (w.users b) in omega (arith, z, last.users)) in
+    let bare : holders (reading next) b ≡ 0 = omega (arith, none, holders-le-users (reading next) b) in
+    sound-framed r k w (λ d ne. (refl, refl, rw bb (ne_eqb d b ne), refl)) (record {
       size = rw (length-set, length-set) k.size;
+      ceiling = refl;
+      longer = e.longer;
       blocks = k.blocks;
       fit = all-fit-on (set s.calls p None) s.handles e (λ i q x a w f. (
         dead-other g r q (λ y. none-holds s b i x last.none a
             (owner-counted g x q w ∙ ap (λ (n : ℕ). Some (record_at g n).block) y)) ∙ f.live,
         hid q ∙ f.shown,
       )) k.fit;
-      calls_fit = calls-fit-set s next p None l tt (λ i ne lo. call-kept next (call_at s i) k e (λ q j t. dead-let_go g r q)
+      calls_fit = λ others. calls-fit-set s next p None l tt (λ i ne lo. call-kept next (call_at s i) k e (λ q j t. dead-let_go g r q)
           (λ q n t. dead-other g r q (λ y. elim (named s r (call_at s i) (k.calls_fit i None lo) (rw y at n)) [
             | inl z ↦ omega (arith, f.shown, count-some (readies r) s.calls i None lo z)
             | inr z ↦ other-drops s p r i b at refl last.one ne lo z.1
-          ]) ∙ t) (λ q _ _. hid q) (λ _ _ _ a. a) (λ q y. hm (record_at g q).block
+          ]) ∙ t) (λ q _ _. hid q) (λ _ _ _ a. a) (λ q y. others (record_at g q).block
           (λ j. other-drops s p r i b at refl last.one ne lo (rw y (eq-eqb b (record_at g q).block (sym j)))))) k.calls_fit;
-      one_release = λ c. let n = count-set (releases g' c) s.calls p None None l in let m =
-          v.releases c in omega (arith, n, m, k.one_release c);
-      counted = λ q t.
-          let d = dead-live g r q inside t in
-          let nb = other-block s r q k f.live f.shown last.none d.0 d.1 in
-          let same : users (reading next) (record_at g q).block ≡ users (reading s) (record_at g q).block =
-          (let n = rw (ne_eqb (record_at g q).block b nb) at (um (record_at g q).block) in omega (arith, n)) in
-          rw (dead-at g r q d.1, hid q, hm (record_at g q).block nb, same, v.describes) (k.counted q d.0);
-      one_record = λ q q' tq tq' hq hq' i. k.one_record q q' (dead-live g r q inside tq).0 (dead-live g r q' inside tq').0
-          (sym (hid q) ∙ hq)
-          (sym (hid q') ∙ hq') (sym (dead-block g r q) ∙ i ∙ dead-block g r q');
-      sole = λ c t. let u = rw (v.alone c) at t in
-          hm c (λ i. absurd (let w = rw i at u in omega
-          (arith, w, count-most (held_by s.tables b) (alone g b) s.handles (alone-holds g b), last.none)))
-          ∙ k.sole c u;
-      capped = λ c. elim (eqb_tells c b) [
-        | inl i ↦ rw i.1 (omega (arith, holders-le-users (reading next) b, none))
-        | inr i ↦ rw (hm c i.1) (k.capped c)
-      ];
-      known_users = λ c t. k.known_users c (omega (arith, um c));
-      block_log = block-log-freed g b k.blocks me.known me.used none
-          (λ c ne. let z = rw (ne_eqb c b ne) at (um c) in ap (λ m. nat_eq m 0) (omega (arith, z))) k.block_log;
+      kept = λ q _ ne. (dead-at g r q ne, hid q);
+      apart = λ q live ne i. absurd (other-block s r q k f.live f.shown last.none live ne i);
+      mine = λ live. absurd ((dead-live g r r inside live).1 refl);
+      known = me.known;
+      one_release = omega (arith, w.releases b, k.one_release b);
+      sole = λ z. absurd (omega (arith, z, alone-few next b, bare));
+      capped = omega (arith, bare);
+      block_log = block-log-freed g b k.blocks me.known me.used none k.block_log;
       record_log = record-log-dead r _ inside refl f.live k.record_log;
-    }
+    })

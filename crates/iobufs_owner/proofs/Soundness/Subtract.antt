@@ -1,7 +1,7 @@
 -- A drop lets go: the count shrinks by one.
-use Rattle.iobufs_owner.proofs.Base.{◌≡◌, ◌≢◌, inl, inr, ℕ, ◌+◌, ◌-◌, ◌<◌, ◌≤◌, ◌==◌, true, false, cond, length, set, sym, ◌∙◌, ap, refl, arith, All, Option, Some, None, nat_eq, length-set, All-from_get_or, nat_tests, eqb_tells, State, Tables, record_at, call_at, holders, users, tally, reading, has_let_go, IsSound, FitsCall, alone, describes, hidden, readies, releases, Pending, Subtract, Release, count-some, count-two, holders-le-users, KeepsLetGo, calls-fit-set, at-some, ne_eqb, eq-eqb, counted, with_count, called, live-inside, record-log-counted, holders-as, still_by, drops_by, call-fits, count-change, count-none, all-fit-on, call-kept, cases_Bool, alone-few}
+use Rattle.iobufs_owner.proofs.Base.{◌≡◌, ◌≢◌, inl, inr, ℕ, ◌+◌, ◌-◌, ◌<◌, ◌==◌, true, false, cond, length, set, sym, ◌∙◌, ap, refl, arith, All, Option, Some, None, nat_eq, length-set, All-from_get_or, nat_tests, eqb_tells, State, Tables, record_at, call_at, holders, users, reading, has_let_go, IsSound, FitsCall, alone, describes, hidden, readies, releases, Pending, Subtract, Release, count-some, count-two, holders-le-users, KeepsLetGo, calls-fit-set, at-some, ne_eqb, eq-eqb, counted, with_count, called, live-inside, record-log-counted, holders-as, still_by, drops_by, call-fits, count-change, count-none, all-fit-on, call-kept, cases_Bool, alone-few, Swapped, counts-swapped, swaps-none, swaps-set}
 use Rattle.iobufs_owner.proofs.Soundness.AddHolder.{counted-keeps, counted-block, counted-live, counted-same, counted-other, counted-rest}
-use Rattle.iobufs_owner.proofs.Soundness.Frame.{Counts, block-log-still, counts-swapped, framed, sound-framed, swaps-none, swaps-set}
+use Rattle.iobufs_owner.proofs.Soundness.Frame.{block-log-still, sound-framed}
 
 -- the call after a subtraction from count n: `Release` if n is 1, else none
 abbrev pub afterwards : ℕ → ℕ → Option Pending
@@ -66,8 +66,8 @@ sound-subtracted s p r k at =
     let gone = counted-drops s p r (n - 1) k at in
     let bb = counted-block g r (n - 1) r in
     let inside = live-inside g.records r f.0 in
-    let w : Counts s next None None (Some (Subtract r)) y =
-    counts-swapped s next None None (Some (Subtract r)) y k e gone (swaps-none s.handles) (swaps-set s.calls p (Some (Subtract r)) y at l) in
+    let w : Swapped s next None None (Some (Subtract r)) y =
+    counts-swapped k e gone (swaps-none s.handles) (swaps-set s.calls p (Some (Subtract r)) y at l) in
     let still = afterwards-by (λ y. still_by g' b y ≡ false) r n (λ one. rw (gone-after g r inside one) refl) (λ _. refl) in
     let fewer : holders (reading next) b + 1 ≡ n = (let z = rw (bb, still, eq-eqb b b refl) at (w.holders b) in omega (arith, z, is)) in
     let some : 0 < users (reading next) b = elim (eqb_tells n 1) [
@@ -83,24 +83,23 @@ sound-subtracted s p r k at =
     ) in
     let never : (i : ℕ) → i < length s.calls → releases g b (call_at s i) ≡ true → ⊥ =
     λ i lo t. none-release s p r i (call_at s i) k at lo refl (k.calls_fit i None lo) t in
-    let frame = framed b w (λ d ne. (
+    sound-framed r k w (λ d ne. (
       refl,
       refl,
       rw bb (ne_eqb d b ne),
       afterwards-by (λ y. drops_by g' d y ≡ false) r n (λ _. rw bb (ne_eqb d b ne)) (λ _. refl),
-    )) in
-    sound-framed k frame (record {
+    )) (record {
       size = rw (length-set, length-set) k.size;
       ceiling = refl;
       longer = e.longer;
       blocks = k.blocks;
       fit = all-fit-on (set s.calls p y) s.handles e (λ _ q x _ _ f. (counted-live g r (n - 1) q ∙ f.live, hid q ∙ f.shown)) k.fit;
-      calls_fit = calls-fit-set s next p y l (afterwards-by (FitsCall next) r n (λ one. record {
+      calls_fit = λ others. calls-fit-set s next p y l (afterwards-by (FitsCall next) r n (λ one. record {
         live = counted-live g r (n - 1) r ∙ f.0;
         shown = hid r ∙ f.1;
         alone = rw (gone-after g r inside one, bb) (omega (arith, one, fewer));
       }) (λ _. tt)) (λ i _ lo. call-kept next (call_at s i) k e (gone i None lo) (λ q _ t. counted-live g r (n - 1) q ∙ t) (λ q _ _. hid q)
-          (λ _ _ _ a. a) (λ q j. frame.held (record_at g q).block (λ x. never i lo (rw j (eq-eqb b _ (sym x)))))) k.calls_fit;
+          (λ _ _ _ a. a) (λ q j. others (record_at g q).block (λ x. never i lo (rw j (eq-eqb b _ (sym x)))))) k.calls_fit;
       kept = λ q _ ne. (counted-rest g r (n - 1) q ne, hid q);
       apart = λ q live ne i. (λ z. ne (k.one_record q r live f.0 z f.1 i), some);
       mine = λ _. record {
@@ -114,7 +113,7 @@ sound-subtracted s p r k at =
       one_release = grind (arith, w.releases b, count-none (releases g b) None s.calls never);
       sole = λ z. absurd (omega (arith, z, alone-few next b, fewer, is, w.alone b, k.sole b (omega (arith, w.alone b, z))));
       capped = omega (arith, fewer, is, k.capped b);
-      block_log = block-log-still b frame.used me.used some k.block_log;
+      block_log = block-log-still b me.used some k.block_log;
       record_log = record-log-counted r _ inside refl k.record_log;
     })
 

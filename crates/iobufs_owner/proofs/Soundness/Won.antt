@@ -1,6 +1,7 @@
 -- A clone or slice wins the race: its record takes the descriptor's place, and counts the handle and the new view.
-use Rattle.iobufs_owner.proofs.Base.{◌≡◌, ◌≢◌, inl, inr, ℕ, ◌+◌, ◌^◌, ◌<◌, ◌≤◌, ◌==◌, true, cond, List, length, get_or, set, sym, ◌∙◌, ap, subst, refl, arith, All, Option, Some, None, length-set, All-from_get_or, get_or-set_same, get_or-set_other, set-set, eqb_tells, State, Tables, owner_of, record_at, block_at, handle_at, call_at, holders, users, is_block, tally, reading, IsSound, Fits, FitsCall, Shares, SpeaksOf, alone, describes, hidden, readies, releases, counted, called, edited, with_handle, part, Handle, Share, View, Pending, Loaded, Ready, Add, Subtract, Release, Descriptor, Counted, count-set, count-some, owner-kept, shares-kept, promised-kept, described-kept, handles-fit-set, at-some, owner-counted, ne_eqb, eq-eqb, fits-at, alone-at, live-inside, lies-still, alone-described, describes-described, describes-counted, alone-shared, describes-few, no_record, record-log-counted, call-fits, count-change, false, alike, drops_by, held_by, holders-as, still_by, users-as, fit-on, sound-same, set-get_or}
-use Rattle.iobufs_owner.proofs.Soundness.AddHolder.{sound-added, counted-keeps, counted-let_go, counted-block, counted-live, counted-same, counted-other}
+use Rattle.iobufs_owner.proofs.Base.{◌≡◌, inl, inr, ℕ, ◌+◌, ◌^◌, ◌<◌, ◌≤◌, ◌==◌, cond, List, length, get_or, set, sym, ◌∙◌, ap, subst, refl, arith, All, Option, Some, None, length-set, get_or-set_same, get_or-set_other, set-set, eqb_tells, State, Tables, owner_of, record_at, block_at, handle_at, call_at, holders, users, is_block, reading, IsSound, Fits, FitsCall, Shares, SpeaksOf, alone, describes, hidden, readies, releases, counted, called, edited, with_handle, part, Handle, Share, View, Pending, Loaded, Ready, Add, Subtract, Release, Descriptor, Counted, count-set, count-some, owner-kept, shares-kept, promised-kept, described-kept, handles-fit-set, at-some, owner-counted, ne_eqb, eq-eqb, fits-at, alone-at, live-inside, lies-still, alone-described, describes-described, describes-counted, describes-few, no_record, record-log-counted, call-fits, fit-on, set-get_or, Swapped, calls-fit-set, counts-swapped, holders-le-users, swaps-set}
+use Rattle.iobufs_owner.proofs.Soundness.AddHolder.{sound-added, counted-keeps, counted-let_go, counted-block, counted-live, counted-same, counted-rest}
+use Rattle.iobufs_owner.proofs.Soundness.Frame.{block-log-still, sound-framed}
 
 -- ---- the record is published in the place of the descriptor, and counts the handle
 
@@ -126,92 +127,53 @@ sound-shown s p r w part x k atp at word =
     let two : (record_at s.tables r).count ≡ 2 =
     (let a = count-some (readies r) s.calls p None lp (ap (readies r) atp ∙ eq-eqb r r refl) in let m =
     (k.counted r f.live).one_maker in (k.counted r f.live).fresh (omega (arith, a, m))) in
-    let v = alike s g' k e (λ i d l q j t. counted-let_go g r 1 q (rw two refl)) in
-    let held : (c : ℕ) → tally (held_by g' c) (set s.handles h (Some y)) ≡ tally (held_by g c) s.handles = λ c. let n =
-    rw (at, ox, oy) at (count-set (held_by g' c) s.handles h (Some y) None l) in omega (arith, n, v.held c) in
-    let hm : (c : ℕ) → holders (reading next) c ≡ holders (reading s) c = λ c. let n =
-    rw atp at (count-set (still_by g' c) s.calls p None None lp) in omega
-    (arith, holders-as s c, holders-as next c, n, held c, v.still c) in
-    let um : (c : ℕ) → users (reading next) c ≡ users (reading s) c = λ c. let n =
-    rw atp at (count-set (drops_by g' c) s.calls p None None lp) in omega (arith, users-as s c, users-as next c, n, held c, v.drops c) in
+    let c : Option Pending = Some (Ready part w r) in
+    let v : Swapped s next (Some x) (Some y) c None =
+    counts-swapped k e (λ i d l q j t. counted-let_go g r 1 q (rw two refl)) (swaps-set s.handles h (Some x) (Some y) at l)
+    (swaps-set s.calls p c None atp lp) in
+    let hm : (d : ℕ) → holders (reading next) d ≡ holders (reading s) d = λ d. let n = rw (ox, oy) at (v.holders d) in omega (arith, n) in
     let hid : (q : ℕ) → hidden (set s.calls p None) q + cond (q == r) 1 0 ≡ hidden s.calls q = λ q. let c =
     rw atp at (count-set (readies q) s.calls p None None lp) in omega (arith, c) in
     let less : (q : ℕ) → hidden (set s.calls p None) q ≤ hidden s.calls q = λ q. omega (arith, hid q) in
     let one : holders (reading s) b ≡ 1 = alone-at s h x b k at (alone-described g b x w word ∙ ap (is_block b) o ∙ eq-eqb b b refl) in
     let me = k.counted r f.live in
     let mine : hidden (set s.calls p None) r ≡ 0 = (let z = rw (eq-eqb r r refl) at (hid r) in let m = me.one_maker in omega (arith, z)) in
-    let dm : (c : ℕ) → tally (describes g' c) (set s.handles h (Some y)) + cond (c == b) 1 0 ≡ tally (describes g c) s.handles = λ c.
-    let n = count-change (describes g' c) s.handles h (Some y) None (c == b) false l
-    (ap (describes g' c) at ∙ describes-described g' c x w word ∙ ap (is_block c) ox) (describes-counted g' c y r refl) in omega
-    (arith, n, v.describes c) in
-    let am : (c : ℕ) → tally (alone g' c) (set s.handles h (Some y)) + cond (c == b) 1 0 ≡ tally (alone g c) s.handles = λ c.
-    let n = count-change (alone g' c) s.handles h (Some y) None (c == b) false l
-    (ap (alone g' c) at ∙ alone-described g' c x w word ∙ ap (is_block c) ox) (alone-shared g' c y r refl view) in omega
-    (arith, n, v.alone c) in
-    let some : 0 < tally (describes g b) s.handles = (let z = rw (eq-eqb b b refl) at (dm b) in omega (arith, z)) in
+    let dm = rw (describes-described g' b x w word ∙ ap (is_block b) ox ∙ eq-eqb b b refl, describes-counted g' b y r refl) at (v.describes b) in
+    let one' : holders (reading next) b ≡ 1 = hm b ∙ one in
+    let some : 0 < users (reading next) b = omega (arith, one', holders-le-users (reading next) b) in
     let here : (record_at g' r).block ≡ b = counted-block g r 1 r ∙ f.same in
-    let gone : tally (describes g' b) (set s.handles h (Some y)) ≡ 0 =
-    (let n = rw (eq-eqb b b refl) at (dm b) in let m = describes-few s b in omega (arith, n, m, one)) in
-    let apart : (q : ℕ) → (record_at g q).live ≡ true → hidden s.calls q ≡ 0 → (record_at g q).block ≢ b =
-    λ q t z i. (let u = rw i at ((k.counted q t).undescribed z) in omega (arith, u, some)) in
-    let old : (q : ℕ) → q ≢ r → hidden (set s.calls p None) q ≡ 0 → hidden s.calls q ≡ 0 =
-    λ q ne z. (let u = rw (ne_eqb q r ne) at (hid q) in omega (arith, u)) in
-    sound-same s _ _ _ _ k (rw (length-set, length-set, length-set) k.size)
-    (handles-fit-set g' (set s.calls p None) s.handles h (Some y) l (record {
-      live = counted-live g r 1 r ∙ f.live;
-      known = rw (counted-block g r 1 r) me.known;
-      shown = mine;
-      lies = rw (counted-block g r 1 r, f.same) (lies-still (block_at g f.block) (record x { word = Descriptor w })
-          (Counted r) x.kind pr.says.lies);
-      native = λ m. absurd (let q = sym view ∙ m in cc);
-    }) (λ i _ li. fit-on (set s.calls p None) (get_or s.handles i None) e
-    (λ z q _ _ f. (counted-live g r 1 q ∙ f.live, (let n = less q in let m = f.shown in omega arith))) (k.fit i None li)))
-    (All-from_get_or (FitsCall next) (set s.calls p None) None (λ i li.
-    let lo : i < length s.calls = (let z = rw length-set at li in z) in
-    elim (eqb_tells i p) [
-      | inl z ↦ rw (z.1, get_or-set_same s.calls p None None lp) tt
-      | inr z ↦ rw (get_or-set_other s.calls p i None None z.1)
-          (call-shown s p h r i x b (call_at s i) at w word l k.fit o f.same two less hm (k.calls_fit i None lo))
-    ]))
-    (λ c. let n = count-set (releases g' c) s.calls p None None lp in let m =
-    v.releases c in omega (arith, n, m, k.one_release c)) hm um
-    (λ q t.
-    let lq : (record_at g q).live ≡ true = sym (counted-live g r 1 q) ∙ t in
-    let cq = k.counted q lq in
-    elim (eqb_tells q r) [
-      | inl i ↦ rw i.1 (record {
+    sound-framed r k v (λ d ne. (rw ox (ne_eqb d b ne), rw oy (ne_eqb d b ne), refl, refl)) (record {
+      size = rw (length-set, length-set, length-set) k.size;
+      ceiling = refl;
+      longer = e.longer;
+      blocks = k.blocks;
+      fit = handles-fit-set g' (set s.calls p None) s.handles h (Some y) l (record {
+        live = counted-live g r 1 r ∙ f.live;
         known = rw (counted-block g r 1 r) me.known;
-        one_maker = omega arith;
-        counts = λ z. counted-same g r 1 (live-inside g.records r f.live) ∙ sym one ∙ sym (hm b)
-            ∙ ap (λ c. holders (reading next) c) (sym here);
-        fresh = λ z. absurd (omega arith);
-        used = rw (counted-block g r 1 r, um) me.used;
-        undescribed = λ z. subst (λ c. tally (describes g' c) (set s.handles h (Some y)) ≡ 0) (sym here) gone;
-      })
-      | inr i ↦ record {
-        known = rw (counted-block g r 1 q) cq.known;
-        one_maker = omega (arith, less q, cq.one_maker);
-        counts = λ z. rw (counted-other g r 1 q i.1, counted-block g r 1 q, hm) (cq.counts (old q i.1 z));
-        fresh = λ z. rw (counted-other g r 1 q i.1) (cq.fresh (let u = rw (ne_eqb q r i.1) at (hid q) in omega (arith, u, z)));
-        used = rw (counted-block g r 1 q, um) cq.used;
-        undescribed = λ z. rw (counted-block g r 1 q) (omega (arith, dm (record_at g q).block, cq.undescribed (old q i.1 z)));
-      }
-    ])
-    (λ q q' tq tq' hq hq' i.
-    let lq : (record_at g q).live ≡ true = sym (counted-live g r 1 q) ∙ tq in
-    let lq' : (record_at g q').live ≡ true = sym (counted-live g r 1 q') ∙ tq' in
-    let bb : (record_at g q).block ≡ (record_at g q').block = sym (counted-block g r 1 q) ∙ i ∙ counted-block g r 1 q' in
-    elim (eqb_tells q r) [
-      | inl z ↦ elim (eqb_tells q' r) [
-        | inl z' ↦ z.1 ∙ sym z'.1
-        | inr z' ↦ absurd (apart q' lq' (old q' z'.1 hq') (sym bb ∙ ap (λ (n : ℕ). (record_at g n).block) z.1 ∙ f.same))
-      ]
-      | inr z ↦ elim (eqb_tells q' r) [
-        | inl z' ↦ absurd (apart q lq (old q z.1 hq) (bb ∙ ap (λ (n : ℕ). (record_at g n).block) z'.1 ∙ f.same))
-        | inr z' ↦ k.one_record q q' lq lq' (old q z.1 hq) (old q' z'.1 hq') bb
-      ]
-    ])
-    (λ c t. k.sole c (omega (arith, am c))) (record-log-counted r _ (live-inside g.records r f.live) refl k.record_log)
+        shown = mine;
+        lies = rw (counted-block g r 1 r, f.same) (lies-still (block_at g f.block) (record x { word = Descriptor w })
+            (Counted r) x.kind pr.says.lies);
+        native = λ m. absurd (let q = sym view ∙ m in cc);
+      }) (λ i _ li. fit-on (set s.calls p None) (get_or s.handles i None) e
+      (λ z q _ _ f. (counted-live g r 1 q ∙ f.live, (let n = less q in let m = f.shown in omega arith))) (k.fit i None li));
+      calls_fit = λ _. calls-fit-set s next p None lp tt
+          (λ i _ _ fits. call-shown s p h r i x b (call_at s i) at w word l k.fit o f.same two less hm fits) k.calls_fit;
+      kept = λ q _ ne. (counted-rest g r 1 q ne, (let n = rw (ne_eqb q r ne) at (hid q) in omega (arith, n)));
+      apart = λ q live ne i. (λ z. let u = rw i at ((k.counted q live).undescribed z) in omega (arith, u, dm), some);
+      mine = λ _. record {
+        block = here;
+        shown = mine;
+        counts = counted-same g r 1 (live-inside g.records r f.live) ∙ sym one';
+        used = some;
+        undescribed = omega (arith, dm, describes-few s b, one);
+      };
+      known = rw f.same at me.known;
+      one_release = omega (arith, v.releases b, k.one_release b);
+      sole = λ _. one';
+      capped = omega (arith, one');
+      block_log = block-log-still b (omega (arith, one, holders-le-users (reading s) b)) some k.block_log;
+      record_log = record-log-counted r _ (live-inside g.records r f.live) refl k.record_log;
+    })
 
 -- ---- the race is won: one more view, and the record counts both
 
