@@ -1,6 +1,6 @@
 -- Tables that keep what handles and calls speak of leave readings, counts, holders and users as they were; and blocks
 -- by their bases.
-use Rattle.iobufs_owner.proofs.Base.Known.{false, ◌<◌, get_or, set, State, holders, users, reading, releases, holds, drops, still_holds, ◌≡◌, ◌≢◌, ℕ, ◌+◌, ◌==◌, Bool, true, cond, List, [], ◌∷◌, ◌++◌, length, map, ap, refl, arith, All, Option, Some, None, option_map, length-append, All-head, All-tail, get_or_append_left, Tables, block_with, tally, read_handle, read_call, Fits, alone, describes, Block, Handle, Pending, eq-eqb, ne_eqb, LiveHandle, IsSound, Unfinished, sym, ◌∙◌, FitsCall}
+use Rattle.iobufs_owner.proofs.Base.Known.{false, hidden, readies, ◌≤◌, ◌<◌, get_or, set, State, holders, users, reading, releases, holds, drops, still_holds, ◌≡◌, ◌≢◌, ℕ, ◌+◌, ◌==◌, Bool, true, cond, List, [], ◌∷◌, ◌++◌, length, map, ap, refl, arith, All, Option, Some, None, option_map, length-append, All-head, All-tail, get_or_append_left, Tables, block_with, tally, read_handle, read_call, Fits, alone, describes, Block, Handle, Pending, eq-eqb, ne_eqb, LiveHandle, IsSound, Unfinished, sym, ◌∙◌, FitsCall}
 use Rattle.iobufs_owner.proofs.Base.Kept.{Keeps, owner-kept, KeepsLetGo, call-read-kept, release-kept}
 use Rattle.iobufs_owner.proofs.Base.Counts.{count-append, count-set, held_by, still_by, drops_by, holders-as, users-as}
 
@@ -89,6 +89,8 @@ pub record Swapped (s t : State) (o o' : Option Handle) (c c' : Option Pending) 
       ≡ tally (describes s.tables b) s.handles + cond (describes t.tables b o') 1 0
   pub releases : (b : ℕ) → tally (releases t.tables b) t.calls + cond (releases t.tables b c) 1 0
       ≡ tally (releases s.tables b) s.calls + cond (releases t.tables b c') 1 0
+  pub hidden : (r : ℕ) → hidden t.calls r + cond (readies r c) 1 0 ≡ hidden s.calls r + cond (readies r c') 1 0
+  pub longer : length s.tables.blocks ≤ length t.tables.blocks
 
 -- so it is from a sound machine, where t's tables keep what handles and calls speak of, and each drop has let go as before
 pub counts-swapped : {s t : State} {o o' : Option Handle} {c c' : Option Pending} → IsSound s → Keeps s.tables t.tables
@@ -115,4 +117,6 @@ counts-swapped {s} {t} {o} {o'} {c} {c'} k e gone hs cs =
       describes = λ b. handles (describes u b) (describes g b) (λ o. elim o as (λ o. Fits g s.calls o → describes u b o ≡ describes g b o)
           [ None ↦ λ f. refl | Some x ↦ λ f. rw (owner-kept g u s.calls x e f) refl ]) refl;
       releases = λ b. calls (releases u b) (releases g b) (λ c f. release-kept s u b c e f.1) refl;
+      hidden = λ r. cs (readies r) refl;
+      longer = e.longer;
     }

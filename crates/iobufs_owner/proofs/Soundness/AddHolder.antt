@@ -71,10 +71,6 @@ counted-same g r n l = rw (get_or-set_same g.records r _ no_record l) refl
 pub counted-rest : (g : Tables) (r n q : ℕ) → q ≢ r → record_at (counted g r n) q ≡ record_at g q
 counted-rest g r n q ne = get_or-set_other g.records r q _ no_record ne
 
--- another count for one record leaves those of the others
-pub counted-other : (g : Tables) (r n q : ℕ) → q ≢ r → (record_at (counted g r n) q).count ≡ (record_at g q).count
-counted-other g r n q ne = rw (get_or-set_other g.records r q _ no_record ne) refl
-
 -- a part of a view, by the record of the view and counted there, keeps the machine sound, where the count was at most the
 -- ceiling and there were fewer than 2^32 handles
 pub sound-added : (s : State) (r : ℕ) (m : Share) (x : Handle) → IsSound s → Shares s m x → x.word ≡ Counted r
@@ -100,10 +96,8 @@ sound-added s r m x k sh xw on few =
     let more : holders (reading next) b ≡ n = (let z = rw (o, eq-eqb b b refl) at (w.holders b) in omega (arith, z, me.counts fx.shown)) in
     let some : 0 < users (reading next) b = omega (arith, more, holders-le-users (reading next) b) in
     let inside = live-inside g.records r fx.live in
-    sound-framed r k w (λ d ne. (refl, rw o (ne_eqb d b ne), refl, refl)) (record {
+    sound-framed r k refl w (λ d ne. (refl, rw o (ne_eqb d b ne), refl, refl)) (record {
       size = sized k.size k.size.few_blocks (rw length-set k.size.few_records) (rw length-append (omega arith)) k.size.few_calls;
-      ceiling = refl;
-      longer = e.longer;
       blocks = k.blocks;
       fit = All-push (Fits g' s.calls) s.handles (Some y)
           (all-fit-on s.calls s.handles e (λ _ q z _ _ c. (counted-live g r n q ∙ c.live, c.shown)) k.fit) (record {

@@ -21,6 +21,14 @@ loose g calls o (inr e) = subst (λ (o : Option Handle). Loose g calls o) (sym e
 
 -- ---- a handle that holds its block alone
 
+-- the state after a handle has let block b go, which is freed
+abbrev let_go : State → List Record → List ℕ → (h b : ℕ) → Option Handle → State
+let_go s rs fr h b o = replaced (record s {
+  tables = record s.tables { records = rs };
+  freed_blocks = s.freed_blocks ++ triple (block_at s.tables b) ∷ [];
+  freed_records = fr;
+}) h o
+
 -- a handle that holds its block alone and that no call borrows goes, or is detached, and the block is freed, by records that
 -- are kept but for one, which is dead, and of which no other live one is of that block
 sound-let-go : (s : State) (h b r : ℕ) (x : Handle) (o : Option Handle) (rs : List Record) (fr : List ℕ) → IsSound s
@@ -33,31 +41,20 @@ sound-let-go : (s : State) (h b r : ℕ) (x : Handle) (o : Option Handle) (rs : 
     → ((q : ℕ) → q ≢ r → record_at (record s.tables { records = rs }) q ≡ record_at s.tables q)
     → ((record_at (record s.tables { records = rs }) r).live ≡ true → ⊥)
     → ((q : ℕ) → (record_at s.tables q).live ≡ true → q ≢ r → (record_at s.tables q).block ≢ b) → LogsRecords rs fr
-    → IsSound (replaced (record s {
-      tables = record s.tables { records = rs };
-      freed_blocks = s.freed_blocks ++ triple (block_at s.tables b) ∷ [];
-      freed_records = fr;
-    }) h o)
+    → IsSound (let_go s rs fr h b o)
 sound-let-go s h b r x o rs fr k at free ox known one is few e gone live fits kept dead apart log =
     let g : Tables = s.tables in
     let g' : Tables = record s.tables { records = rs } in
     let l = at-some s.handles h x at in
     let n = loose g' s.calls o is in
     let me = only s h b x k at ox one in
-    let next : State = replaced (record s {
-      tables = g';
-      freed_blocks = s.freed_blocks
-          ++ triple (block_at s.tables b) ∷ [];
-      freed_records = fr;
-    }) h o in
+    let next : State = let_go s rs fr h b o in
     let ox' : owner_of g' x ≡ Some b = owner-kept g g' s.calls x e (fits-at s h x k at) ∙ ox in
     let w : Swapped s next (Some x) o None None = counts-swapped k e gone (swaps-set s.handles h (Some x) o at l) (swaps-none s.calls) in
     let none : users (reading next) b ≡ 0 = (let z = rw (ox', n.holds b, eq-eqb b b refl) at (w.users b) in omega (arith, z, me.users)) in
     let bare : holders (reading next) b ≡ 0 = omega (arith, none, holders-le-users (reading next) b) in
-    sound-framed r k w (λ d ne. (rw ox' (ne_eqb d b ne), n.holds d, refl, refl)) (record {
+    sound-framed r k refl w (λ d ne. (rw ox' (ne_eqb d b ne), n.holds d, refl, refl)) (record {
       size = sized k.size k.size.few_blocks few (rw length-set k.size.few_handles) k.size.few_calls;
-      ceiling = refl;
-      longer = e.longer;
       blocks = k.blocks;
       fit = handles-fit-set g' s.calls s.handles h o l n.fits fits;
       calls_fit = λ others. calls-fit-kept next k refl e live (lent-stays s h o free) gone (λ i q li e.

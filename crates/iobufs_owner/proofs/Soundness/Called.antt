@@ -1,5 +1,5 @@
 -- A thread's call becomes another one; neither is a drop, and neither has made a record.
-use Rattle.iobufs_owner.proofs.Base.{◌≡◌, ℕ, ◌<◌, Bool, false, List, length, get_or, set, sym, ◌∙◌, refl, arith, Option, Some, None, length-set, State, Tables, record_at, call_at, holders, users, still_holds, drops, tally, reading, read_call, IsSound, FitsCall, hidden, readies, releases, called, Share, Pending, Loaded, Add, keeps-self, call-kept, calls-fit-set, count-change, drops_by, holders-as, still_by, users-as, all-fit-on, sound-same}
+use Rattle.iobufs_owner.proofs.Base.{◌≡◌, ℕ, ◌<◌, false, length, set, sym, ◌∙◌, refl, arith, Option, Some, None, length-set, State, Tables, record_at, call_at, holders, users, still_holds, drops, reading, read_call, IsSound, FitsCall, hidden, readies, releases, called, Share, Pending, Loaded, Add, keeps-self, call-kept, calls-fit-set, all-fit-on, sound-same, Swapped, counts-swapped, swaps-none, swaps-set}
 
 -- calls that count for nothing
 pub record IsQuiet (s : State) (c : Option Pending) : Type 0 where
@@ -20,12 +20,6 @@ quiet-loaded s k w = record { still = λ b. refl; drops = λ b. refl; readies = 
 pub quiet-add : (s : State) (k : Share) (r : ℕ) → IsQuiet s (Some (Add k r))
 quiet-add s k r = record { still = λ b. refl; drops = λ b. refl; readies = λ q. refl; releases = λ b. refl }
 
--- a count of calls, after one is changed that counts like the old one
-pub count-calls : {X : Type 0} (p : X → Bool) (xs : List X) (i : ℕ) (y d : X) → i < length xs → p (get_or xs i d) ≡ false → p y ≡ false
-    → tally p (set xs i y) ≡ tally p xs
-count-calls p xs i y d l e f =
-    omega (arith, count-change p xs i y d false false l e f)
-
 -- another call of a thread keeps the machine sound, where it fits and both it and the one before it count for nothing
 pub sound-called : (s : State) (p : ℕ) (c : Option Pending) → IsSound s → p < length s.calls → IsQuiet s (call_at s p) → IsQuiet s c
     → FitsCall s c
@@ -33,21 +27,20 @@ pub sound-called : (s : State) (p : ℕ) (c : Option Pending) → IsSound s → 
 sound-called s p c k l q r f =
     let g : Tables = s.tables in
     let next : State = called s p c in
+    let w : Swapped s next None None (call_at s p) c =
+    counts-swapped k (keeps-self g) (λ i d l q j t. refl) (swaps-none s.handles) (swaps-set s.calls p (call_at s p) c refl l) in
     let hm : (b : ℕ) → holders (reading next) b ≡ holders (reading s) b =
-    λ b. omega (arith, holders-as s b, holders-as next b, count-calls (still_by g b) s.calls p c None l (q.still b) (r.still b)) in
-    let um : (b : ℕ) → users (reading next) b ≡ users (reading s) b =
-    λ b. omega (arith, users-as s b, users-as next b, count-calls (drops_by g b) s.calls p c None l (q.drops b) (r.drops b)) in
-    let hid : (n : ℕ) → hidden (set s.calls p c) n ≡ hidden s.calls n = λ n. count-calls (readies n) s.calls p c None l (q.readies n)
-    (r.readies n) in
-    let rel : (b : ℕ) → tally (releases g b) (set s.calls p c) ≡ tally (releases g b) s.calls =
-    λ b. count-calls (releases g b) s.calls p c None l (q.releases b) (r.releases b) in
+    λ b. let z = rw (q.still b, r.still b) at (w.holders b) in omega (arith, z) in
+    let um : (b : ℕ) → users (reading next) b ≡ users (reading s) b = λ b. let z = rw (q.drops b, r.drops b) at (w.users b) in omega (arith, z) in
+    let hid : (n : ℕ) → hidden (set s.calls p c) n ≡ hidden s.calls n =
+    λ n. let z = rw (q.readies n, r.readies n) at (w.hidden n) in omega (arith, z) in
     sound-same s _ _ _ _ k (rw length-set k.size)
     (all-fit-on (set s.calls p c) s.handles (keeps-self g) (λ _ n x _ _ f. (f.live, hid n ∙ f.shown)) k.fit)
     ((
     let kept : (o : Option Pending) → FitsCall s o → FitsCall next o =
     λ o. call-kept next o k (keeps-self g) (λ q j t. refl) (λ n _ t. t) (λ n _ _. hid n) (λ _ _ _ a. a) (λ n _. hm (record_at g n).block) in
     calls-fit-set s next p c l (kept c f) (λ i _ _. kept (call_at s i)) k.calls_fit))
-    (λ b. rw (rel b) (k.one_release b)) hm um
+    (λ b. let z = rw (r.releases b) at (w.releases b) in omega (arith, z, k.one_release b)) hm um
     (λ n t. rw (hid n, hm, um) (k.counted n t))
     (λ n m a b u v e. k.one_record n m a b (sym (hid n) ∙ u) (sym (hid m) ∙ v) e)
     (λ b t. k.sole b t) k.record_log

@@ -100,10 +100,8 @@ sound-demoted s h r x k t xw may =
     counts-swapped k e (λ i d l q j t. dead-let_go g r q) (swaps-set s.handles h (Some x) (Some y) at l) (swaps-none s.calls) in
     let hm : (c : ℕ) → holders (reading next) c ≡ holders (reading s) c = λ c. let z = rw (ox', oy) at (v.holders c) in omega (arith, z) in
     let one' : holders (reading next) b ≡ 1 = hm b ∙ one in
-    sound-framed r k v (λ d ne. (rw ox' (ne_eqb d b ne), rw oy (ne_eqb d b ne), refl, refl)) (record {
+    sound-framed r k refl v (λ d ne. (rw ox' (ne_eqb d b ne), rw oy (ne_eqb d b ne), refl, refl)) (record {
       size = rw (length-set, length-set) k.size;
-      ceiling = refl;
-      longer = e.longer;
       blocks = k.blocks;
       fit = handles-fit-set g' s.calls s.handles h (Some y) l (record {
         block = b;

@@ -29,8 +29,6 @@ pub record Settled (s t : State) (b r : ℕ) : Type 0 where
   pub size : IsInSize (1 + t.tables.align_bits + t.tables.tail_bits + t.tables.size_bits) t.ceiling (length t.tables.blocks)
       (length t.tables.records)
       (length t.handles) (length t.calls)
-  pub ceiling : t.ceiling ≡ s.ceiling
-  pub longer : length s.tables.blocks ≤ length t.tables.blocks
   pub blocks : ArePlaced t.tables.blocks
   pub fit : All (Fits t.tables t.calls) t.handles
   pub calls_fit : ((c : ℕ) → c ≢ b → holders (reading t) c ≡ holders (reading s) c) → All (FitsCall t) t.calls
@@ -49,10 +47,10 @@ pub record Settled (s t : State) (b r : ℕ) : Type 0 where
 
 -- The frame lemma: a step in which no handle or call comes or goes that is of another block than b, and after which this holds of
 -- b, keeps the machine sound.
-pub sound-framed : {s t : State} {o o' : Option Handle} {c c' : Option Pending} {b : ℕ} (r : ℕ) → IsSound s → Swapped s t o o' c c'
+pub sound-framed : {s t : State} {o o' : Option Handle} {c c' : Option Pending} {b : ℕ} (r : ℕ) → IsSound s → t.ceiling ≡ s.ceiling → Swapped s t o o' c c'
     → ((d : ℕ) → d ≢ b → (held_by t.tables d o ≡ false) × (held_by t.tables d o' ≡ false) × (drops_by t.tables d c ≡ false)
     × (drops_by t.tables d c' ≡ false)) → Settled s t b r → IsSound t
-sound-framed {s} {t} {o} {o'} {c} {c'} {b} r k w of d =
+sound-framed {s} {t} {o} {o'} {c} {c'} {b} r k same w of d =
     let held : (e : ℕ) → e ≢ b → holders (reading t) e ≡ holders (reading s) e = λ e ne. let (h, h', u, u') = of e ne in
     let z = rw (h, h', unless _ _ (drops-more e _) u, unless _ _ (drops-more e _) u') at (w.holders e) in omega (arith, z) in
     let used : (e : ℕ) → e ≢ b → users (reading t) e ≡ users (reading s) e = λ e ne. let (h, h', u, u') = of e ne in
@@ -94,7 +92,7 @@ sound-framed {s} {t} {o} {o'} {c} {c'} {b} r k w of d =
                 undescribed = λ z. absurd (u.0 z);
               })
               | inr j ↦ (let z = rw (none describes (λ e. describes-holds t.tables e o') _ j.1) at (w.describes (record_at s.tables q).block) in
-                  rw (held _ j.1, used _ j.1) (fits-fewer m d.longer (omega (arith, z))))
+                  rw (held _ j.1, used _ j.1) (fits-fewer m w.longer (omega (arith, z))))
             ])
       ];
       one_record = λ p q lp lq hp hq i. elim (eqb_tells p r) [
@@ -112,10 +110,10 @@ sound-framed {s} {t} {o} {o'} {c} {c'} {b} r k w of d =
         | inl i ↦ rw i.1 (d.sole (rw i.1 at p))
         | inr i ↦ (let z = rw (none alone (λ e. alone-holds t.tables e o') e i.1) at (w.alone e) in held e i.1 ∙ k.sole e (omega (arith, z, p)))
       ];
-      capped = λ e. elim (eqb_tells e b) [ inl i ↦ rw i.1 d.capped | inr i ↦ rw (held e i.1, d.ceiling) (k.capped e) ];
+      capped = λ e. elim (eqb_tells e b) [ inl i ↦ rw i.1 d.capped | inr i ↦ rw (held e i.1, same) (k.capped e) ];
       known_users = λ e p. elim (eqb_tells e b) [
         | inl i ↦ rw i.1 d.known
-        | inr i ↦ omega (arith, k.known_users e (rw (used e i.1) at p), d.longer)
+        | inr i ↦ omega (arith, k.known_users e (rw (used e i.1) at p), w.longer)
       ];
       block_log = d.block_log used;
       record_log = d.record_log;

@@ -1,5 +1,5 @@
 -- A clone or slice loses the race: its record is freed, and the call will add to the winner's.
-use Rattle.iobufs_owner.proofs.Base.{◌≡◌, ◌≢◌, ℕ, ◌+◌, ◌<◌, ◌==◌, true, cond, length, set, sym, ◌∙◌, ap, subst, refl, arith, Option, Some, None, length-set, State, Tables, record_at, handle_at, call_at, holders, users, tally, reading, IsSound, FitsCall, Shares, hidden, readies, releases, called, record_freed, tables_without, Handle, Share, Pending, Ready, Add, Counted, count-set, count-some, count-two, names, shares-kept, calls-fit-set, at-some, ne_eqb, eq-eqb, live-inside, record-log-dead, call-fits, all-fit-on, sound-same, inl, inr, call-kept, Swapped, counts-swapped, describes, swaps-none, swaps-set}
+use Rattle.iobufs_owner.proofs.Base.{◌≡◌, ◌≢◌, ℕ, ◌+◌, ◌<◌, ◌==◌, true, cond, length, set, sym, ◌∙◌, ap, subst, refl, arith, Option, Some, None, length-set, State, Tables, record_at, handle_at, call_at, holders, users, tally, reading, IsSound, FitsCall, Shares, hidden, readies, releases, called, record_freed, tables_without, Handle, Share, Pending, Ready, Add, Counted, count-some, count-two, names, shares-kept, calls-fit-set, at-some, ne_eqb, eq-eqb, live-inside, record-log-dead, call-fits, all-fit-on, sound-same, inl, inr, call-kept, Swapped, counts-swapped, describes, swaps-none, swaps-set}
 use Rattle.iobufs_owner.proofs.Soundness.RecordFreed.{dead-at, dead-block, dead-other, dead-keeps, dead-let_go, dead-live}
 use Rattle.iobufs_owner.proofs.Soundness.Alone.{named}
 use Rattle.iobufs_owner.proofs.Soundness.Won.{some-same}
@@ -36,8 +36,7 @@ sound-lost s p r w winner part' x k at atx xw =
     let hm : (d : ℕ) → holders (reading next) d ≡ holders (reading s) d = λ d. omega (arith, v.holders d) in
     let um : (d : ℕ) → users (reading next) d ≡ users (reading s) d = λ d. omega (arith, v.users d) in
     let dm : (d : ℕ) → tally (describes g' d) s.handles ≡ tally (describes g d) s.handles = λ d. omega (arith, v.describes d) in
-    let hid : (q : ℕ) → hidden (set s.calls p c) q + cond (q == r) 1 0 ≡ hidden s.calls q = λ q.
-    let n = rw at at (count-set (readies q) s.calls p c None l) in omega (arith, n) in
+    let hid : (q : ℕ) → hidden (set s.calls p c) q + cond (q == r) 1 0 ≡ hidden s.calls q = λ q. omega (arith, v.hidden q) in
     let old : (q : ℕ) → q ≢ r → hidden (set s.calls p c) q ≡ hidden s.calls q = λ q ne. (let n = rw (ne_eqb q r ne) at (hid q) in omega
     (arith, n)) in
     sound-same s _ _ _ _ k (rw (length-set, length-set) k.size)

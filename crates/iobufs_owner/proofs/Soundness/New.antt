@@ -73,10 +73,8 @@ sound-block s b x rs k good few few' fewer e gone live o fits kept new log =
     let unheld : holders (reading s) n ≡ 0 = omega (arith, unused, holders-le-users (reading s) n) in
     let one : users (reading next) n ≡ 1 = (let z = rw (o, eq-eqb n n refl) at (w.users n) in omega (arith, z, unused)) in
     let sole : holders (reading next) n ≡ 1 = (let z = rw (o, eq-eqb n n refl) at (w.holders n) in omega (arith, z, unheld)) in
-    sound-framed (length s.tables.records) k w (λ d ne. (refl, rw o (ne_eqb d n ne), refl, refl)) (record {
+    sound-framed (length s.tables.records) k refl w (λ d ne. (refl, rw o (ne_eqb d n ne), refl, refl)) (record {
       size = sized k.size (rw length-append (omega arith)) few' (rw length-append (omega arith)) k.size.few_calls;
-      ceiling = refl;
-      longer = e.longer;
       blocks = placed-more g b k.blocks good;
       fit = All-push (Fits g' s.calls) s.handles (Some x)
           (all-fit-on s.calls s.handles e (λ _ q z _ _ c. (live q c.live, c.shown)) k.fit) fits;

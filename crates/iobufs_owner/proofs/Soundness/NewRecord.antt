@@ -1,5 +1,5 @@
 -- A new record keeps the machine sound: for a new block, and in the place of a descriptor.
-use Rattle.iobufs_owner.proofs.Base.{frozen-lies, ◌≡◌, ◌≢◌, ℕ, ◌^◌, ◌<◌, ◌⊎◌, inl, inr, true, false, [], ◌∷◌, ◌++◌, length, sym, ◌∙◌, ap, subst, refl, arith, Option, Some, None, nat_eq, length-append, length-set, All-set, get_or_append_left, get_or-append_seam, nat_tests, State, Tables, owner_of, record_at, block_at, holders, users, is_block, reading, has_let_go, IsSound, Fits, FitsWord, FitsCall, LiesIn, describes, hidden, readies, with_block, with_record, with_handle, edited, next_record, Lends, frozen, IsGoodPlace, Block, Record, Handle, Kind, Mut, Pending, Ready, Word, Descriptor, Counted, Keeps, calls-kept, owner-kept, at-some, owner-counted, holders-le-users, grown, grown-keeps, eq-eqb, fits-at, live-inside, described-at, alone-at, alone-described, describes-described, describes-counted, describes-few, no_record, below-or, record-log-more, sized, call_at, count-none, all-fit-on, keeps-records, lent-stays, Swapped, counts-swapped, ne_eqb, part, swaps-none, swaps-set}
+use Rattle.iobufs_owner.proofs.Base.{frozen-lies, ◌≡◌, ℕ, ◌^◌, ◌<◌, ◌⊎◌, inl, inr, true, false, [], ◌∷◌, ◌++◌, length, sym, ◌∙◌, ap, subst, refl, arith, Option, Some, None, nat_eq, length-append, length-set, All-set, get_or_append_left, get_or-append_seam, nat_tests, State, Tables, owner_of, record_at, block_at, holders, users, is_block, reading, has_let_go, IsSound, Fits, FitsWord, FitsCall, LiesIn, describes, hidden, readies, with_block, with_record, with_handle, edited, next_record, Lends, frozen, IsGoodPlace, Block, Record, Handle, Kind, Mut, Pending, Ready, Word, Descriptor, Counted, Keeps, calls-kept, owner-kept, at-some, owner-counted, holders-le-users, grown, grown-keeps, eq-eqb, fits-at, live-inside, described-at, alone-at, alone-described, describes-described, describes-counted, describes-few, no_record, below-or, record-log-more, sized, call_at, count-none, all-fit-on, keeps-records, lent-stays, Swapped, counts-swapped, ne_eqb, part, swaps-none, swaps-set}
 use Rattle.iobufs_owner.proofs.Soundness.New.{sound-block}
 use Rattle.iobufs_owner.proofs.Soundness.Frame.{block-log-still, sound-framed}
 
@@ -34,28 +34,6 @@ pub recorded-either : (g : Tables) (n b r : ℕ) → (record_at (recorded g n b)
 recorded-either g n b r e =
     let l = live-inside (recorded g n b).records r e in
     elim (below-or r (length g.records) (rw length-append at l)) [ inl m ↦ inl (m, recorded-old g n b r m) | inr m ↦ inr m ]
-
--- with a record more two that are shown and of one block are the same, where that held before and the new one, if shown, is alone on its
--- block
-pub one-more : (g : Tables) (n b : ℕ) (P Q : ℕ → Type 0)
-    → ((p q : ℕ) → (record_at g p).live ≡ true → (record_at g q).live ≡ true → P p → P q → (record_at g p).block ≡ (record_at g q).block
-    → p ≡ q)
-    → ((q : ℕ) → (record_at g q).live ≡ true → Q q → P q)
-    → ((q : ℕ) → (record_at g q).live ≡ true → Q q → Q (length g.records) → (record_at g q).block ≢ b)
-    → (p q : ℕ) → (record_at (recorded g n b) p).live ≡ true → (record_at (recorded g n b) q).live ≡ true → Q p → Q q
-    → (record_at (recorded g n b) p).block ≡ (record_at (recorded g n b) q).block → p ≡ q
-one-more g n b P Q old shown apart p q tp tq hp hq i =
-    let new-block = ap (λ (v : Record). v.block) (recorded-new g n b) in
-    elim (recorded-either g n b p tp) [
-      | inl w ↦ (let lp = rw w.1 at tp in elim (recorded-either g n b q tq) [
-        | inl u ↦ (let lq = rw u.1 at tq in old p q lp lq (shown p lp hp) (shown q lq hq) (rw (w.1, u.1) at i))
-        | inr u ↦ absurd (apart p lp hp (rw u at hq) (rw (w.1, u, new-block) at i))
-      ])
-      | inr w ↦ elim (recorded-either g n b q tq) [
-        | inl u ↦ absurd (let lq = rw u.1 at tq in apart q lq hq (rw w at hp) (sym (rw (w, new-block, u.1) at i)))
-        | inr u ↦ w ∙ sym u
-      ]
-    ]
 
 -- an unpublished record is live
 pub ready-live : (s : State) (r : ℕ) (c : Option Pending) → readies r c ≡ true → FitsCall s c → (record_at s.tables r).live ≡ true
@@ -149,10 +127,8 @@ sound-promoted s h x w b kind k t xw ox few =
     let some : 0 < users (reading next) b = omega (arith, one', holders-le-users (reading next) b) in
     let dm = rw (describes-described g' b x w xw ∙ ap (is_block b) ox' ∙ eq-eqb b b refl, describes-counted g' b y r refl) at (w'.describes b) in
     let shown = unhidden-next s k in
-    sound-framed r k w' (λ d ne. (rw ox' (ne_eqb d b ne), rw oy (ne_eqb d b ne), refl, refl)) (record {
+    sound-framed r k refl w' (λ d ne. (rw ox' (ne_eqb d b ne), rw oy (ne_eqb d b ne), refl, refl)) (record {
       size = sized k.size k.size.few_blocks (rw length-append (omega arith)) (rw length-set k.size.few_handles) k.size.few_calls;
-      ceiling = refl;
-      longer = e.longer;
       blocks = k.blocks;
       fit = All-set (Fits g' s.calls) s.handles h (Some y) (record {
         live = ap (λ (v : Record). v.live) new;

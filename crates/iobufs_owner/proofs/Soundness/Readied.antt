@@ -1,6 +1,6 @@
 -- A clone or slice has loaded a descriptor and makes a record, which nothing shows yet.
-use Rattle.iobufs_owner.proofs.Base.{◌≡◌, inl, inr, ℕ, ◌+◌, ◌^◌, ◌<◌, ◌==◌, true, cond, length, set, sym, ◌∙◌, ap, subst, refl, arith, Option, Some, None, length-append, length-set, State, Tables, record_at, call_at, holders, users, tally, reading, IsSound, IsLoading, SpeaksOf, hidden, readies, releases, called, with_record, part, Record, Share, Pending, Loaded, Ready, count-set, owner-kept, shares-kept, promised-kept, calls-fit-set, at-some, ne_eqb, eq-eqb, fits-at, live-inside, owner-used, record-log-more, sized, all-fit-on, sound-same, call-kept, Swapped, counts-swapped, describes, swaps-none, swaps-set}
-use Rattle.iobufs_owner.proofs.Soundness.NewRecord.{recorded, recorded-new, recorded-keeps, recorded-let_go, recorded-live, recorded-either, one-more, unhidden-next}
+use Rattle.iobufs_owner.proofs.Base.{◌≡◌, inl, inr, ℕ, ◌+◌, ◌^◌, ◌<◌, ◌==◌, true, cond, length, set, sym, ◌∙◌, ap, subst, refl, arith, Option, Some, None, length-append, length-set, State, Tables, record_at, call_at, holders, users, tally, reading, IsSound, IsLoading, SpeaksOf, hidden, releases, called, with_record, part, Record, Share, Pending, Loaded, Ready, owner-kept, shares-kept, promised-kept, calls-fit-set, at-some, ne_eqb, eq-eqb, fits-at, live-inside, owner-used, record-log-more, sized, all-fit-on, sound-same, call-kept, Swapped, counts-swapped, describes, swaps-none, swaps-set}
+use Rattle.iobufs_owner.proofs.Soundness.NewRecord.{recorded, recorded-new, recorded-keeps, recorded-let_go, recorded-live, recorded-either, unhidden-next}
 
 -- a clone or slice that has loaded a descriptor of a block makes a record of it that counts two, where there were fewer than 2^32: the
 -- machine stays sound
@@ -24,13 +24,15 @@ sound-readied s p part w b k at ld same few =
     let hm : (d : ℕ) → holders (reading next) d ≡ holders (reading s) d = λ d. omega (arith, v.holders d) in
     let um : (d : ℕ) → users (reading next) d ≡ users (reading s) d = λ d. omega (arith, v.users d) in
     let dm : (d : ℕ) → tally (describes g' d) s.handles ≡ tally (describes g d) s.handles = λ d. omega (arith, v.describes d) in
-    let hid : (q : ℕ) → hidden (set s.calls p c) q ≡ hidden s.calls q + cond (q == length s.tables.records) 1 0 = λ q.
-    let n = rw at at (count-set (readies q) s.calls p c None l) in omega (arith, n) in
+    let hid : (q : ℕ) → hidden (set s.calls p c) q ≡ hidden s.calls q + cond (q == r) 1 0 = λ q. omega (arith, v.hidden q) in
     let old : (q : ℕ) → q < length g.records → hidden (set s.calls p c) q ≡ hidden s.calls q =
     λ q m. (let n = rw (ne_eqb q (length s.tables.records) (omega arith)) at (hid q) in omega (arith, n)) in
-    let one : hidden (set s.calls p c) r ≡ 1 =
-    (let n = rw (eq-eqb (length s.tables.records) (length s.tables.records) refl) at (hid r) in let z = unhidden-next s k in omega
-    (arith, n, z)) in
+    let one : hidden (set s.calls p c) r ≡ 1 = (let z = rw (eq-eqb r r refl) at (hid r) in omega (arith, z, unhidden-next s k)) in
+    let was : (q : ℕ) → (record_at g' q).live ≡ true → hidden (set s.calls p c) q ≡ 0
+    → (record_at g' q ≡ record_at g q) × (hidden s.calls q ≡ 0) = λ q t z. elim (recorded-either g 2 b q t) [
+      | inl u ↦ (u.1, sym (old q u.0) ∙ z)
+      | inr i ↦ absurd (let n = rw i at z in omega (arith, n, one))
+    ] in
     sound-same s _ _ _ _ k (sized k.size k.size.few_blocks (rw length-append (omega arith)) k.size.few_handles
     (rw length-set k.size.few_calls))
     (all-fit-on (set s.calls p c) s.handles e
@@ -58,6 +60,6 @@ sound-readied s p part w b k at ld same few =
         undescribed = λ z. absurd (omega (arith, z, one));
       })
     ])
-    (one-more g 2 b (λ q. hidden s.calls q ≡ 0) (λ q. hidden (set s.calls p c) q ≡ 0) k.one_record
-    (λ q t z. sym (old q (live-inside g.records q t)) ∙ z) (λ q t z new. absurd (omega (arith, new, one))))
+    (λ q q' t t' z z' i. let u = was q t z in let u' = was q' t' z' in
+    k.one_record q q' (rw u.0 at t) (rw u'.0 at t') u.1 u'.1 (rw (u.0, u'.0) at i))
     (λ d t. k.sole d (omega (arith, v.alone d, t))) (record-log-more _ refl k.record_log)

@@ -1,5 +1,5 @@
 -- The last step of a drop: record and block are freed.
-use Rattle.iobufs_owner.proofs.Base.{◌≡◌, ◌≢◌, inl, inr, ℕ, ◌<◌, ◌==◌, true, false, length, set, sym, ◌∙◌, ap, refl, arith, Option, Some, None, length-set, eqb_tells, State, Tables, owner_of, record_at, handle_at, call_at, holds, holders, users, drops, tally, reading, read_handle, read_call, has_let_go, tables_without, both_freed, called, IsSound, alone, hidden, readies, releases, Handle, Pending, Release, count-set, count-some, count-less, count-most, count-two, count-find, count-sum, holders-le-users, calls-fit-set, at-some, owner-counted, ne_eqb, eq-eqb, live-inside, held_by, still_by, drops_by, holders-as, users-as, lets_go, drops-split, go-releases, block-log-freed, record-log-dead, and_right, call-fits, all-fit-on, call-kept, cases_Bool, Swapped, alone-few, counts-swapped, swaps-none, swaps-set}
+use Rattle.iobufs_owner.proofs.Base.{◌≡◌, ◌≢◌, inl, inr, ℕ, ◌<◌, ◌==◌, true, false, length, set, sym, ◌∙◌, ap, refl, arith, Option, Some, None, length-set, eqb_tells, State, Tables, owner_of, record_at, handle_at, call_at, holds, holders, users, drops, tally, reading, read_handle, read_call, has_let_go, tables_without, both_freed, called, IsSound, alone, hidden, readies, releases, Handle, Pending, Release, count-some, count-less, count-most, count-two, count-find, count-sum, holders-le-users, calls-fit-set, at-some, owner-counted, ne_eqb, eq-eqb, live-inside, held_by, still_by, drops_by, holders-as, users-as, lets_go, drops-split, go-releases, block-log-freed, record-log-dead, and_right, call-fits, all-fit-on, call-kept, cases_Bool, Swapped, alone-few, counts-swapped, swaps-none, swaps-set}
 use Rattle.iobufs_owner.proofs.Soundness.RecordFreed.{dead-at, dead-block, dead-other, dead-keeps, dead-let_go, dead-live}
 use Rattle.iobufs_owner.proofs.Soundness.Alone.{named, ready-borrows}
 use Rattle.iobufs_owner.proofs.Soundness.Frame.{sound-framed}
@@ -78,14 +78,11 @@ sound-released s p r k at =
     let bb = dead-block g r r in
     let w : Swapped s next None None (Some (Release r)) None =
     counts-swapped k e (λ i d l q j t. dead-let_go g r q) (swaps-none s.handles) (swaps-set s.calls p (Some (Release r)) None at l) in
-    let hid : (q : ℕ) → hidden (set s.calls p None) q ≡ hidden s.calls q = λ q. let c =
-    rw at at (count-set (readies q) s.calls p None None l) in omega (arith, c) in
+    let hid : (q : ℕ) → hidden (set s.calls p None) q ≡ hidden s.calls q = λ q. omega (arith, w.hidden q) in
     let none : users (reading next) b ≡ 0 = (let z = rw (bb, eq-eqb b b refl) at (w.users b) in omega (arith, z, last.users)) in
     let bare : holders (reading next) b ≡ 0 = omega (arith, none, holders-le-users (reading next) b) in
-    sound-framed r k w (λ d ne. (refl, refl, rw bb (ne_eqb d b ne), refl)) (record {
+    sound-framed r k refl w (λ d ne. (refl, refl, rw bb (ne_eqb d b ne), refl)) (record {
       size = rw (length-set, length-set) k.size;
-      ceiling = refl;
-      longer = e.longer;
       blocks = k.blocks;
       fit = all-fit-on (set s.calls p None) s.handles e (λ i q x a w f. (
         dead-other g r q (λ y. none-holds s b i x last.none a

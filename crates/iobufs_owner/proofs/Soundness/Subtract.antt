@@ -1,6 +1,6 @@
 -- A drop lets go: the count shrinks by one.
-use Rattle.iobufs_owner.proofs.Base.{◌≡◌, ◌≢◌, inl, inr, ℕ, ◌+◌, ◌-◌, ◌<◌, ◌==◌, true, false, cond, length, set, sym, ◌∙◌, ap, refl, arith, All, Option, Some, None, nat_eq, length-set, All-from_get_or, nat_tests, eqb_tells, State, Tables, record_at, call_at, holders, users, reading, has_let_go, IsSound, FitsCall, alone, describes, hidden, readies, releases, Pending, Subtract, Release, count-some, count-two, holders-le-users, KeepsLetGo, calls-fit-set, at-some, ne_eqb, eq-eqb, counted, with_count, called, live-inside, record-log-counted, holders-as, still_by, drops_by, call-fits, count-change, count-none, all-fit-on, call-kept, cases_Bool, alone-few, Swapped, counts-swapped, swaps-none, swaps-set}
-use Rattle.iobufs_owner.proofs.Soundness.AddHolder.{counted-keeps, counted-block, counted-live, counted-same, counted-other, counted-rest}
+use Rattle.iobufs_owner.proofs.Base.{◌≡◌, ◌≢◌, inl, inr, ℕ, ◌+◌, ◌-◌, ◌<◌, ◌==◌, true, false, cond, length, set, sym, ◌∙◌, ap, refl, arith, All, Option, Some, None, nat_eq, length-set, All-from_get_or, nat_tests, eqb_tells, State, Tables, record_at, call_at, holders, users, reading, has_let_go, IsSound, FitsCall, alone, describes, hidden, readies, releases, Pending, Subtract, Release, count-some, count-two, holders-le-users, KeepsLetGo, calls-fit-set, at-some, ne_eqb, eq-eqb, counted, with_count, called, live-inside, record-log-counted, holders-as, still_by, drops_by, call-fits, count-none, all-fit-on, call-kept, cases_Bool, alone-few, Swapped, counts-swapped, swaps-none, swaps-set, Record}
+use Rattle.iobufs_owner.proofs.Soundness.AddHolder.{counted-keeps, counted-block, counted-live, counted-same, counted-rest}
 use Rattle.iobufs_owner.proofs.Soundness.Frame.{block-log-still, sound-framed}
 
 -- the call after a subtraction from count n: `Release` if n is 1, else none
@@ -40,8 +40,8 @@ pub counted-drops : (s : State) (p r n : ℕ) → IsSound s → call_at s p ≡ 
 counted-drops s p r n k at =
     All-from_get_or (KeepsLetGo s.tables (counted s.tables r n)) s.calls None
     (λ i l q e live. ap (λ (m : ℕ). nat_eq m 0)
-    (counted-other s.tables r n q (λ same. none-release s p r i (call_at s i) k at l refl (k.calls_fit i None l)
-    (rw e (eq-eqb (record_at s.tables r).block (record_at s.tables q).block (ap (λ (m : ℕ). (record_at s.tables m).block) (sym same)))))))
+    (ap (λ (v : Record). v.count) (counted-rest s.tables r n q (λ same. none-release s p r i (call_at s i) k at l refl (k.calls_fit i None l)
+    (rw e (eq-eqb (record_at s.tables r).block (record_at s.tables q).block (ap (λ (m : ℕ). (record_at s.tables m).block) (sym same))))))))
 
 -- it is the last holder's drop that goes on, and its record counts none then
 pub gone-after : (g : Tables) (r : ℕ) → r < length g.records → (record_at g r).count ≡ 1
@@ -76,22 +76,16 @@ sound-subtracted s p r k at =
       | inr i ↦ (let ne = i.1 in omega (arith, fewer, ne, holders-le-users (reading next) b))
     ] in
     let hid : (q : ℕ) → hidden (set s.calls p y) q ≡ hidden s.calls q = λ q.
-    omega (
-      arith,
-      count-change (readies q) s.calls p y None false false l (ap (readies q) at)
-          (afterwards-by (λ y. readies q y ≡ false) r n (λ _. refl) (λ _. refl)),
-    ) in
+    let z = rw (afterwards-by (λ y. readies q y ≡ false) r n (λ _. refl) (λ _. refl)) at (w.hidden q) in omega (arith, z) in
     let never : (i : ℕ) → i < length s.calls → releases g b (call_at s i) ≡ true → ⊥ =
     λ i lo t. none-release s p r i (call_at s i) k at lo refl (k.calls_fit i None lo) t in
-    sound-framed r k w (λ d ne. (
+    sound-framed r k refl w (λ d ne. (
       refl,
       refl,
       rw bb (ne_eqb d b ne),
       afterwards-by (λ y. drops_by g' d y ≡ false) r n (λ _. rw bb (ne_eqb d b ne)) (λ _. refl),
     )) (record {
       size = rw (length-set, length-set) k.size;
-      ceiling = refl;
-      longer = e.longer;
       blocks = k.blocks;
       fit = all-fit-on (set s.calls p y) s.handles e (λ _ q x _ _ f. (counted-live g r (n - 1) q ∙ f.live, hid q ∙ f.shown)) k.fit;
       calls_fit = λ others. calls-fit-set s next p y l (afterwards-by (FitsCall next) r n (λ one. record {

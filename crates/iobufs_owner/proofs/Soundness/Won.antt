@@ -1,5 +1,5 @@
 -- A clone or slice wins the race: its record takes the descriptor's place, and counts the handle and the new view.
-use Rattle.iobufs_owner.proofs.Base.{◌≡◌, inl, inr, ℕ, ◌+◌, ◌^◌, ◌<◌, ◌≤◌, ◌==◌, cond, List, length, get_or, set, sym, ◌∙◌, ap, subst, refl, arith, All, Option, Some, None, length-set, get_or-set_same, get_or-set_other, set-set, eqb_tells, State, Tables, owner_of, record_at, block_at, handle_at, call_at, holders, users, is_block, reading, IsSound, Fits, FitsCall, Shares, SpeaksOf, alone, describes, hidden, readies, releases, counted, called, edited, with_handle, part, Handle, Share, View, Pending, Loaded, Ready, Add, Subtract, Release, Descriptor, Counted, count-set, count-some, owner-kept, shares-kept, promised-kept, described-kept, handles-fit-set, at-some, owner-counted, ne_eqb, eq-eqb, fits-at, alone-at, live-inside, lies-still, alone-described, describes-described, describes-counted, describes-few, no_record, record-log-counted, call-fits, fit-on, set-get_or, Swapped, calls-fit-set, counts-swapped, holders-le-users, swaps-set}
+use Rattle.iobufs_owner.proofs.Base.{◌≡◌, inl, inr, ℕ, ◌+◌, ◌^◌, ◌<◌, ◌≤◌, ◌==◌, cond, List, length, get_or, set, sym, ◌∙◌, ap, subst, refl, arith, All, Option, Some, None, length-set, get_or-set_same, get_or-set_other, set-set, eqb_tells, State, Tables, owner_of, record_at, block_at, handle_at, call_at, holders, users, is_block, reading, IsSound, Fits, FitsCall, Shares, SpeaksOf, alone, describes, hidden, readies, releases, counted, called, edited, with_handle, part, Handle, Share, View, Pending, Loaded, Ready, Add, Subtract, Release, Descriptor, Counted, count-some, owner-kept, shares-kept, promised-kept, described-kept, handles-fit-set, at-some, owner-counted, ne_eqb, eq-eqb, fits-at, alone-at, live-inside, lies-still, alone-described, describes-described, describes-counted, describes-few, no_record, record-log-counted, call-fits, fit-on, set-get_or, Swapped, calls-fit-set, counts-swapped, holders-le-users, swaps-set}
 use Rattle.iobufs_owner.proofs.Soundness.AddHolder.{sound-added, counted-keeps, counted-let_go, counted-block, counted-live, counted-same, counted-rest}
 use Rattle.iobufs_owner.proofs.Soundness.Frame.{block-log-still, sound-framed}
 
@@ -132,8 +132,7 @@ sound-shown s p r w part x k atp at word =
     counts-swapped k e (λ i d l q j t. counted-let_go g r 1 q (rw two refl)) (swaps-set s.handles h (Some x) (Some y) at l)
     (swaps-set s.calls p c None atp lp) in
     let hm : (d : ℕ) → holders (reading next) d ≡ holders (reading s) d = λ d. let n = rw (ox, oy) at (v.holders d) in omega (arith, n) in
-    let hid : (q : ℕ) → hidden (set s.calls p None) q + cond (q == r) 1 0 ≡ hidden s.calls q = λ q. let c =
-    rw atp at (count-set (readies q) s.calls p None None lp) in omega (arith, c) in
+    let hid : (q : ℕ) → hidden (set s.calls p None) q + cond (q == r) 1 0 ≡ hidden s.calls q = λ q. omega (arith, v.hidden q) in
     let less : (q : ℕ) → hidden (set s.calls p None) q ≤ hidden s.calls q = λ q. omega (arith, hid q) in
     let one : holders (reading s) b ≡ 1 = alone-at s h x b k at (alone-described g b x w word ∙ ap (is_block b) o ∙ eq-eqb b b refl) in
     let me = k.counted r f.live in
@@ -142,10 +141,8 @@ sound-shown s p r w part x k atp at word =
     let one' : holders (reading next) b ≡ 1 = hm b ∙ one in
     let some : 0 < users (reading next) b = omega (arith, one', holders-le-users (reading next) b) in
     let here : (record_at g' r).block ≡ b = counted-block g r 1 r ∙ f.same in
-    sound-framed r k v (λ d ne. (rw ox (ne_eqb d b ne), rw oy (ne_eqb d b ne), refl, refl)) (record {
+    sound-framed r k refl v (λ d ne. (rw ox (ne_eqb d b ne), rw oy (ne_eqb d b ne), refl, refl)) (record {
       size = rw (length-set, length-set, length-set) k.size;
-      ceiling = refl;
-      longer = e.longer;
       blocks = k.blocks;
       fit = handles-fit-set g' (set s.calls p None) s.handles h (Some y) l (record {
         live = counted-live g r 1 r ∙ f.live;

@@ -40,38 +40,37 @@ keeps-logs m step reply next taken = elim taken [ inl a ↦ rw a.2 (modest m.sta
 
 -- ---- a run
 
+-- s with room for a blocks and k steps leaves t with room for b blocks and n steps
+record Leaves (s t : State) (a b k n : ℕ) : Type 0 where
+  blocks : 0 < b → (0 < a) × (length t.tables.blocks + b ≤ length s.tables.blocks + a)
+  handles : length t.handles + n ≤ length s.handles + k
+  records : length t.tables.records + n ≤ length s.tables.records + k
+
 -- room for as many entries, where the memory is no less, and no more entries are added than room is taken off
-room-on : (r room : Space) (s t : State) (a b k n : ℕ) → KeepsRoom r room
-    → (0 < b → (0 < a) × (length t.tables.blocks + b ≤ length s.tables.blocks + a)) → length t.handles + n ≤ length s.handles + k
-    → length t.tables.records + n ≤ length s.tables.records + k → RoomFor r s a k k → RoomFor room t b n n
-room-on r room s t a b k n (m, h, v) more few few' i = record {
-  blocks = λ p. (let e = more p in let q = i.blocks e.0 in let f = e.1 in omega (arith, q, m, f));
-  handles = let q = i.handles in omega (arith, q, h, few);
-  records = let q = i.records in omega (arith, q, v, few');
+room-on : {r room : Space} {s t : State} {a b k n : ℕ} → KeepsRoom r room → Leaves s t a b k n → RoomFor r s a k k → RoomFor room t b n n
+room-on (m, h, v) l i = record {
+  blocks = λ p. let e = l.blocks p in omega (arith, i.blocks e.0, m, e.1);
+  handles = omega (arith, i.handles, h, l.handles);
+  records = omega (arith, i.records, v, l.records);
 }
 
-both-on : (m t : Seen) (a b k n : ℕ) → KeepsRoom m.room t.room
-    → (0 < b → (0 < a) × (length t.state.tables.blocks + b ≤ length m.state.tables.blocks + a))
-    → length t.state.handles + n ≤ length m.state.handles + k
-    → length t.state.tables.records + n ≤ length m.state.tables.records + k → HasBoth m a k → HasBoth t b n
-both-on m t a b k n keep more few few' i = record {
-  memory = room-on m.room t.room m.state t.state a b k n keep more few few' i.memory;
-  few = room-on limit limit m.state t.state a b k n (omega arith, omega arith, omega arith) more few few' i.few;
-}
+both-on : {m t : Seen} {a b k n : ℕ} → KeepsRoom m.room t.room → Leaves m.state t.state a b k n → HasBoth m a k → HasBoth t b n
+both-on keep l i = record { memory = room-on keep l i.memory; few = room-on (omega arith, omega arith, omega arith) l i.few }
 
 -- so a step leaves room for one step less
 moves-left : (m : Seen) (step : Step) (reply : Reply) (next : Seen) (b n : ℕ) → Moves m step reply next → next.room ≡ m.room
     → HasBoth m (new_blocks step.act + b) (n + 1) → HasBoth next b n
 moves-left m step reply next b n taken room i =
     let a = modest m.state step in
-    let e = blocks-made step.act in
-    elim taken [
-      | inl c ↦ both-on m next _ b _ n (rw room (omega arith, omega arith, omega arith))
-          (λ p. (omega (arith, p), rw c.2 (omega (arith, e, a.blocks)))) (rw c.2 (omega (arith, a.handles)))
-          (rw c.2 (omega (arith, a.records))) i
-      | inr c ↦ both-on m next _ b _ n (rw room (omega arith, omega arith, omega arith))
-          (λ p. (omega (arith, p), rw c.2 (omega arith))) (rw c.2 (omega arith)) (rw c.2 (omega arith)) i
-    ]
+    let left : Leaves m.state next.state (new_blocks step.act + b) b (n + 1) n = elim taken [
+      | inl c ↦ rw c.2 (record {
+        blocks = λ p. (omega (arith, p), omega (arith, blocks-made step.act, a.blocks));
+        handles = omega (arith, a.handles);
+        records = omega (arith, a.records);
+      })
+      | inr c ↦ rw c.2 (record { blocks = λ p. (omega (arith, p), omega arith); handles = omega arith; records = omega arith })
+    ] in
+    both-on (rw room (omega arith, omega arith, omega arith)) left i
 
 find-each : (m : Seen) (steps : List Step) (replies : List Reply) (next : Seen) → GrowingRuns m steps replies next
     → HasBoth m (blocks_of steps) (length steps) → ByRecursion (λ reply. reply ≢ Refused Room) replies
@@ -80,11 +79,10 @@ find-each m (step ∷ steps) (reply ∷ replies) next (grown, mid, same, more, o
     let a = new_blocks step.act in
     let b = blocks_of steps in
     let g : HasBoth grown (a + b) (length steps + 1) =
-    both-on m grown (a + b) (a + b) (length (step ∷ steps)) _ more (λ p. (p, rw same (omega arith))) (rw same (omega arith))
-    (rw same (omega arith)) i in
-    let f : HasBoth grown a 1 =
-    both-on grown grown (a + b) a _ 1 (omega arith, omega arith, omega arith) (λ p. (omega (arith, p), omega arith)) (omega arith)
-    (omega arith) g in (
+    both-on more (rw same (record { blocks = λ p. (p, omega arith); handles = omega arith; records = omega arith })) i in
+    let l : Leaves grown.state grown.state (a + b) a (length steps + 1) 1 =
+    record { blocks = λ p. (omega (arith, p), omega arith); handles = omega arith; records = omega arith } in
+    let f : HasBoth grown a 1 = both-on (omega arith, omega arith, omega arith) l g in (
       finds grown step reply mid one.moves f.memory f.few,
       find-each mid steps replies next others (moves-left grown step reply mid b _ one.moves one.room g),
     )
