@@ -1,6 +1,6 @@
 -- Tables that keep what handles and calls speak of leave readings, counts, holders and users as they were; and blocks
 -- by their bases.
-use Rattle.iobufs_owner.proofs.Base.Known.{false, hidden, readies, ◌≤◌, ◌<◌, get_or, set, State, holders, users, reading, releases, holds, drops, still_holds, ◌≡◌, ◌≢◌, ℕ, ◌+◌, ◌==◌, Bool, true, cond, List, [], ◌∷◌, ◌++◌, length, map, ap, refl, arith, All, Option, Some, None, option_map, length-append, All-head, All-tail, get_or_append_left, Tables, block_with, tally, read_handle, read_call, Fits, alone, describes, Block, Handle, Pending, eq-eqb, ne_eqb, LiveHandle, IsSound, Unfinished, sym, ◌∙◌, FitsCall}
+use Rattle.iobufs_owner.proofs.Base.Known.{false, hidden, readies, ◌≤◌, ◌<◌, get_or, set, State, holders, users, reading, releases, holds, drops, still_holds, ◌≡◌, ◌≢◌, ℕ, ◌+◌, ◌==◌, Bool, true, cond, List, [], ◌∷◌, ◌++◌, length, map, ap, refl, arith, All, Option, Some, None, option_map, length-append, All-head, All-tail, get_or_append_left, Tables, block_with, tally, read_handle, Fits, alone, describes, Block, Handle, Pending, eq-eqb, ne_eqb, IsSound, ◌∙◌, FitsCall}
 use Rattle.iobufs_owner.proofs.Base.Kept.{Keeps, owner-kept, KeepsLetGo, call-read-kept, release-kept}
 use Rattle.iobufs_owner.proofs.Base.Counts.{count-append, count-set, held_by, still_by, drops_by, holders-as, users-as}
 
@@ -108,10 +108,10 @@ counts-swapped {s} {t} {o} {o'} {c} {c'} k e gone hs cs =
     let held : (b : ℕ) → tally (held_by u b) t.handles + cond (held_by u b o) 1 0 ≡ tally (held_by g b) s.handles + cond (held_by u b o') 1 0 =
     λ b. handles (held_by u b) (held_by g b) (λ o f. ap (holds b) (read-kept g u s.calls o e f)) refl in
     record {
-      holders = λ b. omega (arith, holders-as s b, holders-as t b, held b,
-          calls (still_by u b) (still_by g b) (λ c f. ap (still_holds b) (call-read-kept s u c e f.0 f.1)) refl);
-      users = λ b. omega (arith, users-as s b, users-as t b, held b,
-          calls (drops_by u b) (drops_by g b) (λ c f. ap (drops b) (call-read-kept s u c e f.0 f.1)) refl);
+      holders = λ b. let d = calls (still_by u b) (still_by g b) (λ c f. ap (still_holds b) (call-read-kept s u c e f.0 f.1)) refl in
+          omega (arith, holders-as s b, holders-as t b, held b, d);
+      users = λ b. let d = calls (drops_by u b) (drops_by g b) (λ c f. ap (drops b) (call-read-kept s u c e f.0 f.1)) refl in
+          omega (arith, users-as s b, users-as t b, held b, d);
       alone = λ b. handles (alone u b) (alone g b) (λ o. elim o as (λ o. Fits g s.calls o → alone u b o ≡ alone g b o)
           [ None ↦ λ f. refl | Some x ↦ λ f. rw (owner-kept g u s.calls x e f) refl ]) refl;
       describes = λ b. handles (describes u b) (describes g b) (λ o. elim o as (λ o. Fits g s.calls o → describes u b o ≡ describes g b o)

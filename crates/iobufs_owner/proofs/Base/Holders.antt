@@ -1,5 +1,5 @@
 -- Holders and users as counts over the machine's own lists.
-use Rattle.iobufs_owner.proofs.Base.Known.{◌≡◌, ℕ, ◌+◌, ◌<◌, ◌≤◌, ◌==◌, ◌&&◌, ◌||◌, Bool, true, false, cond, get_or, refl, arith, Option, Some, None, State, Tables, owner_of, record_at, handle_at, holds, holders, users, still_holds, drops, tally, reading, read_handle, read_call, has_let_go, alone, describes, is_descriptor, releases, is_mut, Handle, Pending, Subtract, Release, eq-eqb, and_parts, cases_Bool, inl, inr}
+use Rattle.iobufs_owner.proofs.Base.Known.{FitsCall, nat_tests, ◌≡◌, ℕ, ◌+◌, ◌<◌, ◌≤◌, ◌==◌, ◌&&◌, ◌||◌, Bool, true, false, cond, get_or, refl, arith, Option, Some, None, State, Tables, owner_of, record_at, handle_at, holds, holders, users, still_holds, drops, tally, reading, read_handle, read_call, has_let_go, alone, describes, is_descriptor, releases, is_mut, Handle, Pending, Subtract, Release, eq-eqb, and_parts, cases_Bool, inl, inr}
 use Rattle.iobufs_owner.proofs.Base.Kept.{at-some}
 use Rattle.iobufs_owner.proofs.Base.Counts.{count-some, count-most, held_by, holders-as, users-as}
 
@@ -56,3 +56,14 @@ drops-split g b c = refl
 pub go-releases : (g : Tables) (b : ℕ) (c : Option Pending) → lets_go g b c ≡ true → releases g b c ≡ true
 go-releases g b (Some (Release q)) e = (and_parts (b == (record_at g q).block) (has_let_go g q) e).0
 go-releases g b c e = e
+
+-- a call that is about to free a block is its only holder, or has let it go, and then there is none
+pub release-alone : (s : State) (b : ℕ) (c : Option Pending) → FitsCall s c → releases s.tables b c ≡ true
+    → holders (reading s) b ≡ cond (still_holds b (read_call s.tables c)) 1 0
+release-alone s b (Some (Release q)) f t =
+    let same : b ≡ (record_at s.tables q).block = grind (arith, nat_tests, t) in
+    elim (cases_Bool (has_let_go s.tables q)) [
+      | inl e ↦ rw (same, e) (rw e at f.alone)
+      | inr e ↦ rw (same, e, eq-eqb (record_at s.tables q).block (record_at s.tables q).block refl) (rw e at f.alone)
+    ]
+release-alone s b c f t = absurd (cc)

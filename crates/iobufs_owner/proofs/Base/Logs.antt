@@ -1,5 +1,5 @@
 -- The logs of freed blocks and freed records stay exact (`LogsBlocks`, `LogsRecords`) where one comes or is freed.
-use Rattle.iobufs_owner.proofs.Base.Known.{◌≡◌, ◌≢◌, ◌⊎◌, inl, inr, ℕ, zero, suc, ◌+◌, ◌<◌, ◌==◌, ◌||◌, Bool, true, false, not, cond, List, [], ◌∷◌, ◌++◌, length, get_or, set, map, sym, ◌∙◌, ap, refl, arith, All, nat_eq, length-append, length-set, All-push, All-weaker, ext_get_or, get_or-map, get_or-set_same, get_or-set_other, length-map, get_or_append_left, get_or-append_seam, eqb_tells, Tables, block_at, triple, tally, is_freed, same_freed, ArePlaced, IsTripleOf, LogsBlocks, LogsRecords, is_logged, is_dead, Block, Freed, Record, ne_eqb, eq-eqb, or_right, list_any-append, list_any_at, list_any_none}
+use Rattle.iobufs_owner.proofs.Base.Known.{◌≡◌, ◌≢◌, ◌⊎◌, inl, inr, ℕ, zero, suc, ◌+◌, ◌<◌, ◌==◌, ◌||◌, Bool, true, false, not, cond, List, [], ◌∷◌, ◌++◌, length, get_or, set, map, sym, ◌∙◌, ap, refl, arith, All, length-append, length-set, All-push, All-weaker, ext_get_or, get_or-map, get_or-set_same, get_or-set_other, length-map, get_or_append_left, get_or-append_seam, eqb_tells, Tables, block_at, triple, tally, is_freed, same_freed, ArePlaced, IsTripleOf, LogsBlocks, LogsRecords, is_logged, is_dead, Block, Freed, Record, ne_eqb, eq-eqb, or_right, list_any-append, list_any_at, list_any_none}
 use Rattle.iobufs_owner.proofs.Base.Counts.{count-append, count-few, count-set, count-map}
 use Rattle.iobufs_owner.proofs.Base.Edits.{no_block}
 use Rattle.iobufs_owner.proofs.Base.StaysSound.{no_record}

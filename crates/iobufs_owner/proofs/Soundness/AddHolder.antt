@@ -1,5 +1,5 @@
 -- One holder more of a counted block keeps the machine sound.
-use Rattle.iobufs_owner.proofs.Base.{Share, Shares, part, lies-as, ◌≡◌, ◌≢◌, inl, inr, ℕ, ◌+◌, ◌^◌, ◌<◌, ◌≤◌, false, cond, List, length, get_or, set, sym, ◌∙◌, ap, refl, arith, All, Option, Some, None, nat_eq, length-append, length-set, All-push, get_or-set_same, get_or-set_other, nat_tests, State, Tables, owner_of, record_at, block_at, handle_at, holders, users, tally, reading, has_let_go, IsSound, Fits, alone, describes, counted, with_count, with_handle, Record, Handle, View, Pending, Release, Counted, count-some, count-less, Keeps, KeepsLetGo, calls-fit-kept, at-some, append-at, owner-counted, ne_eqb, eq-eqb, counted-at, live-inside, alone-shared, describes-counted, alone-holds, held_by, held-at, holders-as, record-log-counted, sized, all-fit-on, get_or-read, map-set_same, keeps-records, no_record, still_by, cases_Bool, Swapped, counts-swapped, holders-le-users, swaps-none, swaps-push}
+use Rattle.iobufs_owner.proofs.Base.{Share, Shares, part, lies-as, ◌≡◌, ◌≢◌, ℕ, ◌+◌, ◌^◌, ◌<◌, ◌≤◌, false, List, length, get_or, set, sym, ◌∙◌, ap, refl, arith, All, Some, None, nat_eq, length-append, length-set, All-push, get_or-set_same, get_or-set_other, nat_tests, State, Tables, owner_of, record_at, block_at, handle_at, holders, users, tally, reading, has_let_go, IsSound, Fits, alone, counted, with_count, with_handle, Record, Handle, View, Counted, count-some, count-less, Keeps, KeepsLetGo, calls-fit-kept, at-some, append-at, owner-counted, ne_eqb, eq-eqb, counted-at, live-inside, alone-shared, describes-counted, alone-holds, held_by, held-at, holders-as, record-log-counted, sized, all-fit-on, get_or-read, map-set_same, keeps-records, no_record, still_by, Swapped, counts-swapped, holders-le-users, swaps-none, swaps-push, call_at, count-set, release-alone, releases, true}
 use Rattle.iobufs_owner.proofs.Soundness.Frame.{block-log-still, sound-framed}
 
 -- a write that keeps a field keeps it everywhere
@@ -38,19 +38,12 @@ alone-less s h x b at o f = omega (
 )
 
 -- a handle holds the block, so a drop that releases is one of another block
-pub release-elsewhere : (s : State) (h b p q : ℕ) (x : Handle) (d : Option Pending) → handle_at s h ≡ Some x → owner_of s.tables x ≡ Some b
-    → p < length s.calls → get_or s.calls p d ≡ Some (Release q)
-    → holders (reading s) (record_at s.tables q).block ≡ cond (has_let_go s.tables q) 0 1 → (record_at s.tables q).block ≢ b
-release-elsewhere s h b p q x d at o l i n e =
+pub release-elsewhere : (s : State) (h b i : ℕ) (x : Handle) → IsSound s → handle_at s h ≡ Some x → owner_of s.tables x ≡ Some b
+    → i < length s.calls → releases s.tables b (call_at s i) ≡ true → ⊥
+release-elsewhere s h b i x k at o l t =
     let one = count-some (held_by s.tables b) s.handles h None (at-some s.handles h x at) (held-at s h x b at o) in
-    let sum = holders-as s b in
-    let n' = rw e at n in
-    elim (cases_Bool (has_let_go s.tables q)) [
-      | inl f ↦ (let z = rw f at n' in omega (arith, z, sum, one))
-      | inr f ↦ (let z = rw f at n' in
-          let two = count-some (still_by s.tables b) s.calls p d l (rw (i, f) (eq-eqb b (record_at s.tables q).block (sym e))) in
-          omega (arith, z, sum, one, two))
-    ]
+    let drop = count-set (still_by s.tables b) s.calls i None None l in
+    omega (arith, holders-as s b, one, drop, release-alone s b (call_at s i) (k.calls_fit i None l) t)
 
 -- the count of a handle's record isn't 0, and no more is it with a holder more
 pub counted-more : (s : State) (h : ℕ) (x : Handle) (r : ℕ) → IsSound s → handle_at s h ≡ Some x → x.word ≡ Counted r
@@ -108,8 +101,7 @@ sound-added s r m x k sh xw on few =
             native = λ m. absurd (cc);
           });
       calls_fit = λ others. calls-fit-kept next k refl e (λ _ q _ _ t. counted-live g r n q ∙ t) (λ i z l a. append-at s.handles (Some y) i z a)
-          gone (λ p q l i. let f = rw i at (k.calls_fit p None l) in
-          others (record_at g q).block (release-elsewhere s h b p q x None sh.at ox l i f.alone));
+          gone (λ p q l i. others (record_at g q).block (λ j. release-elsewhere s h b p x k sh.at ox l (rw i (eq-eqb b _ (sym j)))));
       kept = λ q _ ne. (counted-rest g r n q ne, refl);
       apart = λ q live ne i. (λ z. ne (k.one_record q r live fx.live z fx.shown i), some);
       mine = λ _. record {

@@ -1,13 +1,6 @@
 -- If a handle is the only holder of its block and goes by a record, nothing else speaks of the block or the record.
-use Rattle.iobufs_owner.proofs.Base.{◌≡◌, ◌≢◌, inl, inr, ℕ, ◌<◌, true, false, length, sym, ◌∙◌, ap, refl, arith, Option, Some, None, nat_tests, eqb_tells, State, owner_of, record_at, handle_at, call_at, holders, users, tally, reading, has_let_go, IsSound, Fits, FitsCall, hidden, readies, tables_without, is_lent, Handle, Pending, Ready, Subtract, Release, Counted, count-some, count-two, count-sum, names, at-some, owner-counted, eq-eqb, counted-at, held_by, still_by, drops_by, holders-as, users-as, held-at, lets_go, drops-split, count-none, fit-on, ◌⊎◌, list_any_at, borrows_it, and_parts}
+use Rattle.iobufs_owner.proofs.Base.{◌≡◌, ◌≢◌, inl, inr, ℕ, ◌<◌, true, false, length, sym, ◌∙◌, ap, refl, arith, Option, Some, None, nat_tests, eqb_tells, State, owner_of, record_at, handle_at, call_at, holders, users, tally, reading, IsSound, Fits, FitsCall, hidden, readies, tables_without, is_lent, Handle, Pending, Ready, Subtract, Release, Counted, count-some, count-two, count-sum, names, at-some, owner-counted, eq-eqb, counted-at, held_by, still_by, drops_by, holders-as, users-as, held-at, lets_go, drops-split, count-none, fit-on, ◌⊎◌, list_any_at, borrows_it, go-releases, part, release-alone}
 use Rattle.iobufs_owner.proofs.Soundness.RecordFreed.{dead-other, dead-keeps}
-
-let-go-call : (s : State) (b i : ℕ) (c : Option Pending) → call_at s i ≡ c → lets_go s.tables b c ≡ true → FitsCall s c
-    → holders (reading s) b ≡ 0
-let-go-call s b i (Some (Release q)) at t f =
-    let same : b ≡ (record_at s.tables q).block = grind (arith, nat_tests, t) in
-    rw same (rw (and_parts _ (has_let_go s.tables q) t).1 at f.alone)
-let-go-call s b i c at t f = absurd (cc)
 
 -- handle h is the only handle and the only user of block b, and no unfinished drop is of the block
 pub record Only (s : State) (h b : ℕ) : Type 0 where
@@ -27,7 +20,8 @@ only s h b x k at o one =
     let still : tally (still_by s.tables b) s.calls ≡ 0 = omega (arith, sum, one, some) in
     let split = count-sum (drops_by s.tables b) (still_by s.tables b) (lets_go s.tables b) s.calls (drops-split s.tables b) in
     let gone = count-none (lets_go s.tables b) None s.calls (λ i l t.
-    let n = let-go-call s b i (call_at s i) refl t (k.calls_fit i None l) in omega (arith, n, one)) in
+    let n = release-alone s b (call_at s i) (k.calls_fit i None l) (go-releases s.tables b (call_at s i) t) in
+    let d = rw t at (drops-split s.tables b (call_at s i)) in grind (arith, n, d, one)) in
     let dropped : tally (drops_by s.tables b) s.calls ≡ 0 = omega (arith, split, still, gone) in
     record {
       held = held;

@@ -80,24 +80,19 @@ sound-demoted s h r x k t xw may =
     let g' : Tables = tables_without s.tables r in
     let b : ℕ = (record_at s.tables r).block in
     let y : Handle = described s.tables x r in
-    let tail : ℕ = tail_of (block_at s.tables (record_at s.tables r).block) x in
-    let w : ℕ = word_of s.tables.align_bits s.tables.tail_bits (block_at s.tables (record_at s.tables r).block).size
-    (log_of (block_at s.tables (record_at s.tables r).block).align) (tail_of (block_at s.tables (record_at s.tables r).block) x) in
     let next : State = edited (record_freed s r) h (described s.tables x r) in
     let f = counted-at s h x r k t.at xw in
-    let at = t.at in
-    let free = t.free in
-    let l = at-some s.handles h x at in
+    let l = at-some s.handles h x t.at in
     let inside = live-inside g.records r f.live in
     let one : holders (reading s) b ≡ 1 = sym ((k.counted r f.live).counts f.shown) ∙ may.one in
     let ox : owner_of g x ≡ Some b = owner-counted g x r xw in
-    let me = only s h b x k at ox one in
-    let once = named-once s h r x k at xw one in
+    let me = only s h b x k t.at ox one in
+    let once = named-once s h r x k t.at xw one in
     let e = dead-keeps g r in
-    let ox' : owner_of g' x ≡ Some b = owner-kept g g' s.calls x e (fits-at s h x k at) ∙ ox in
+    let ox' : owner_of g' x ≡ Some b = owner-kept g g' s.calls x e (fits-at s h x k t.at) ∙ ox in
     let oy : owner_of g' y ≡ Some b = owner-demoted s h r x k t xw may in
     let v : Swapped s next (Some x) (Some y) None None =
-    counts-swapped k e (λ i d l q j t. dead-let_go g r q) (swaps-set s.handles h (Some x) (Some y) at l) (swaps-none s.calls) in
+    counts-swapped k e (λ i d l q j t. dead-let_go g r q) (swaps-set s.handles h (Some x) (Some y) t.at l) (swaps-none s.calls) in
     let hm : (c : ℕ) → holders (reading next) c ≡ holders (reading s) c = λ c. let z = rw (ox', oy) at (v.holders c) in omega (arith, z) in
     let one' : holders (reading next) b ≡ 1 = hm b ∙ one in
     sound-framed r k refl v (λ d ne. (rw ox' (ne_eqb d b ne), rw oy (ne_eqb d b ne), refl, refl)) (record {
@@ -106,13 +101,13 @@ sound-demoted s h r x k t xw may =
       fit = handles-fit-set g' s.calls s.handles h (Some y) l (record {
         block = b;
         log = log_of (block_at s.tables (record_at s.tables r).block).align;
-        tail = tail;
+        tail = tail_of (block_at s.tables (record_at s.tables r).block) x;
         says = described-demoted s h r x k t xw may;
       }) (λ i ne li. fit-dead s h r i k once ne li);
-      calls_fit = λ _. calls-fit-kept next k refl e (λ i q li m t. calls-live s h r q i once li m t) (lent-stays s h (Some y) free)
+      calls_fit = λ _. calls-fit-kept next k refl e (λ i q li m t. calls-live s h r q i once li m t) (lent-stays s h (Some y) t.free)
           (λ i d l q j t. dead-let_go g r q) (λ i q li e. hm (record_at g q).block);
       kept = λ q _ ne. (dead-at g r q ne, refl);
-      apart = λ q live ne i. absurd (ne (k.one_record q r live f.live (unready s h b q k me free i) f.shown i));
+      apart = λ q live ne i. absurd (ne (k.one_record q r live f.live (unready s h b q k me t.free i) f.shown i));
       mine = λ live. absurd ((dead-live g r r inside live).1 refl);
       known = f.known;
       one_release = omega (arith, v.releases b, k.one_release b);

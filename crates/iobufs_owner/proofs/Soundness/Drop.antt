@@ -1,5 +1,5 @@
 -- A drop begins: the handle of a counted block is gone, and its call holds in its place.
-use Rattle.iobufs_owner.proofs.Base.{◌≡◌, inl, inr, ℕ, ◌+◌, ◌<◌, ◌≤◌, true, false, cond, length, get_or, set, sym, ◌∙◌, ap, refl, arith, Bool, nat_eq, Option, Some, None, length-set, nat_tests, eqb_tells, State, Tables, owner_of, record_at, handle_at, call_at, Dropping, holders, users, tally, reading, read_call, has_let_go, state_without, called, is_lent, IsSound, FitsCall, alone, describes, hidden, readies, releases, Handle, View, Pending, Subtract, Release, Counted, keeps-self, calls-fit-set, handles-fit-set, at-some, owner-counted, ne_eqb, eq-eqb, fits-fewer, count-none, fit-on, sound-same, list_any_at, borrows_it, call-kept, lent-stays, Swapped, counts-swapped, swaps-set}
+use Rattle.iobufs_owner.proofs.Base.{◌≡◌, inl, inr, ℕ, ◌+◌, ◌<◌, ◌≤◌, true, false, cond, length, get_or, set, sym, ◌∙◌, ap, refl, arith, Bool, nat_eq, Some, None, length-set, nat_tests, eqb_tells, State, Tables, record_at, handle_at, call_at, Dropping, holders, users, tally, reading, read_call, has_let_go, state_without, called, is_lent, IsSound, FitsCall, hidden, readies, releases, Handle, View, Pending, Subtract, Release, Counted, keeps-self, calls-fit-set, handles-fit-set, at-some, owner-counted, ne_eqb, eq-eqb, fits-fewer, count-none, fit-on, sound-same, list_any_at, borrows_it, call-kept, lent-stays, Swapped, counts-swapped, swaps-set}
 use Rattle.iobufs_owner.proofs.Soundness.AddHolder.{release-elsewhere}
 
 abbrev pub dropping : State → ℕ → ℕ → Pending → State
@@ -51,14 +51,6 @@ drop-subtract s r k live z = record {
   first = λ b. omega (arith, k.one_release b);
 }
 
--- a call that releases a block is one of the list
-release-of : (s : State) (h b i : ℕ) (x : Handle) (c : Option Pending) → handle_at s h ≡ Some x → owner_of s.tables x ≡ Some b
-    → i < length s.calls
-    → call_at s i ≡ c → FitsCall s c → releases s.tables b c ≡ true → ⊥
-release-of s h b i x (Some (Release q)) at o l e f t =
-    release-elsewhere s h b i q x None at o l e f.alone (grind (arith, nat_tests, t))
-release-of s h b i x c at o l e f t = absurd (cc)
-
 -- alone it will release
 pub drop-release : (s : State) (h r : ℕ) (x : Handle) → IsSound s → handle_at s h ≡ Some x → x.word ≡ Counted r
     → (record_at s.tables r).live ≡ true
@@ -69,7 +61,7 @@ drop-release s h r x k at word live z one =
     let n = (k.counted r live).counts z in
     let still : has_let_go s.tables r ≡ false = ne_eqb (record_at s.tables r).count 0 (omega (arith, one)) in
     let none = count-none (releases s.tables b) None s.calls
-    (λ i l t. release-of s h b i x (call_at s i) at o l refl (k.calls_fit i None l) t) in
+    (λ i l t. release-elsewhere s h b i x k at o l t) in
     record {
       left = 1;
       reads = rw still refl;

@@ -27,8 +27,7 @@ pub record Counting (t : State) (b r : ℕ) : Type 0 where
 -- what fits after a step from s to t, and what then holds of block b and of record r, where only they are counted otherwise
 pub record Settled (s t : State) (b r : ℕ) : Type 0 where
   pub size : IsInSize (1 + t.tables.align_bits + t.tables.tail_bits + t.tables.size_bits) t.ceiling (length t.tables.blocks)
-      (length t.tables.records)
-      (length t.handles) (length t.calls)
+      (length t.tables.records) (length t.handles) (length t.calls)
   pub blocks : ArePlaced t.tables.blocks
   pub fit : All (Fits t.tables t.calls) t.handles
   pub calls_fit : ((c : ℕ) → c ≢ b → holders (reading t) c ≡ holders (reading s) c) → All (FitsCall t) t.calls
@@ -47,16 +46,16 @@ pub record Settled (s t : State) (b r : ℕ) : Type 0 where
 
 -- The frame lemma: a step in which no handle or call comes or goes that is of another block than b, and after which this holds of
 -- b, keeps the machine sound.
-pub sound-framed : {s t : State} {o o' : Option Handle} {c c' : Option Pending} {b : ℕ} (r : ℕ) → IsSound s → t.ceiling ≡ s.ceiling → Swapped s t o o' c c'
-    → ((d : ℕ) → d ≢ b → (held_by t.tables d o ≡ false) × (held_by t.tables d o' ≡ false) × (drops_by t.tables d c ≡ false)
+pub sound-framed : {s t : State} {o o' : Option Handle} {c c' : Option Pending} {b : ℕ} (r : ℕ) → IsSound s → t.ceiling ≡ s.ceiling
+    → Swapped s t o o' c c' → ((d : ℕ) → d ≢ b → (held_by t.tables d o ≡ false) × (held_by t.tables d o' ≡ false) × (drops_by t.tables d c ≡ false)
     × (drops_by t.tables d c' ≡ false)) → Settled s t b r → IsSound t
 sound-framed {s} {t} {o} {o'} {c} {c'} {b} r k same w of d =
     let held : (e : ℕ) → e ≢ b → holders (reading t) e ≡ holders (reading s) e = λ e ne. let (h, h', u, u') = of e ne in
     let z = rw (h, h', unless _ _ (drops-more e _) u, unless _ _ (drops-more e _) u') at (w.holders e) in omega (arith, z) in
     let used : (e : ℕ) → e ≢ b → users (reading t) e ≡ users (reading s) e = λ e ne. let (h, h', u, u') = of e ne in
     let z = rw (h, h', u, u') at (w.users e) in omega (arith, z) in
-    let none : (p : Tables → ℕ → Option Handle → Bool) → ((e : ℕ) → p t.tables e o' ≡ true → held_by t.tables e o' ≡ true) → (e : ℕ) → e ≢ b
-    → p t.tables e o' ≡ false = λ p f e ne. unless _ _ (f e) (of e ne).1 in
+    let none : (p : Tables → ℕ → Option Handle → Bool) → ((e : ℕ) → p t.tables e o' ≡ true → held_by t.tables e o' ≡ true) → (e : ℕ)
+    → e ≢ b → p t.tables e o' ≡ false = λ p f e ne. unless _ _ (f e) (of e ne).1 in
     let alone-on : (q : ℕ) → (record_at t.tables q).live ≡ true → hidden t.calls q ≡ 0 → q ≢ r → (record_at t.tables r).live ≡ true
     → (record_at t.tables q).block ≢ (record_at t.tables r).block = λ q l z ne lr i.
     let e = d.kept q l ne in (d.apart q (rw e.0 at l) ne (rw e.0 at (i ∙ (d.mine lr).block))).0 (sym e.1 ∙ z) in

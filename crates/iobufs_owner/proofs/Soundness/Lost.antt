@@ -1,8 +1,8 @@
 -- A clone or slice loses the race: its record is freed, and the call will add to the winner's.
-use Rattle.iobufs_owner.proofs.Base.{◌≡◌, ◌≢◌, ℕ, ◌+◌, ◌<◌, ◌==◌, true, cond, length, set, sym, ◌∙◌, ap, subst, refl, arith, Option, Some, None, length-set, State, Tables, record_at, handle_at, call_at, holders, users, tally, reading, IsSound, FitsCall, Shares, hidden, readies, releases, called, record_freed, tables_without, Handle, Share, Pending, Ready, Add, Counted, count-some, count-two, names, shares-kept, calls-fit-set, at-some, ne_eqb, eq-eqb, live-inside, record-log-dead, call-fits, all-fit-on, sound-same, inl, inr, call-kept, Swapped, counts-swapped, describes, swaps-none, swaps-set}
+use Rattle.iobufs_owner.proofs.Base.{◌≡◌, ◌≢◌, ℕ, ◌+◌, ◌<◌, ◌==◌, true, cond, length, set, sym, ◌∙◌, subst, refl, arith, Option, Some, None, length-set, State, Tables, record_at, handle_at, call_at, holders, users, tally, reading, IsSound, FitsCall, Shares, hidden, readies, called, record_freed, tables_without, Handle, Share, Pending, Ready, Add, Counted, count-two, names, shares-kept, calls-fit-set, at-some, ne_eqb, eq-eqb, live-inside, record-log-dead, call-fits, all-fit-on, sound-same, inl, inr, call-kept, Swapped, counts-swapped, describes, swaps-none, swaps-set}
 use Rattle.iobufs_owner.proofs.Soundness.RecordFreed.{dead-at, dead-block, dead-other, dead-keeps, dead-let_go, dead-live}
 use Rattle.iobufs_owner.proofs.Soundness.Alone.{named}
-use Rattle.iobufs_owner.proofs.Soundness.Won.{some-same}
+use Rattle.iobufs_owner.proofs.Soundness.Won.{some-same, racing}
 
 -- the unpublished record of a call can be freed: no other thread's call counts on it
 not-mine : (s : State) (p r i : ℕ) (k : Share) (w : ℕ) (c : Option Pending) → IsSound s → call_at s p ≡ Some (Ready k w r) → i ≢ p
@@ -31,8 +31,7 @@ sound-lost s p r w winner part' x k at atx xw =
     let e = dead-keeps g r in
     let v : Swapped s next None None (Some (Ready part' w r)) c =
     counts-swapped k e (λ i d l q j t. dead-let_go g r q) (swaps-none s.handles) (swaps-set s.calls p (Some (Ready part' w r)) c at l) in
-    let hidr : hidden s.calls r ≡ 1 = (let a = count-some (readies r) s.calls p None l (ap (readies r) at ∙ eq-eqb r r refl) in let m =
-    (k.counted r f.live).one_maker in omega (arith, a, m)) in
+    let hidr = (racing s p r w part' k at).once in
     let hm : (d : ℕ) → holders (reading next) d ≡ holders (reading s) d = λ d. omega (arith, v.holders d) in
     let um : (d : ℕ) → users (reading next) d ≡ users (reading s) d = λ d. omega (arith, v.users d) in
     let dm : (d : ℕ) → tally (describes g' d) s.handles ≡ tally (describes g d) s.handles = λ d. omega (arith, v.describes d) in

@@ -1,5 +1,5 @@
 -- The last step of a drop: record and block are freed.
-use Rattle.iobufs_owner.proofs.Base.{◌≡◌, ◌≢◌, inl, inr, ℕ, ◌<◌, ◌==◌, true, false, length, set, sym, ◌∙◌, ap, refl, arith, Option, Some, None, length-set, eqb_tells, State, Tables, owner_of, record_at, handle_at, call_at, holds, holders, users, drops, tally, reading, read_handle, read_call, has_let_go, tables_without, both_freed, called, IsSound, alone, hidden, readies, releases, Handle, Pending, Release, count-some, count-less, count-most, count-two, count-find, count-sum, holders-le-users, calls-fit-set, at-some, owner-counted, ne_eqb, eq-eqb, live-inside, held_by, still_by, drops_by, holders-as, users-as, lets_go, drops-split, go-releases, block-log-freed, record-log-dead, and_right, call-fits, all-fit-on, call-kept, cases_Bool, Swapped, alone-few, counts-swapped, swaps-none, swaps-set}
+use Rattle.iobufs_owner.proofs.Base.{◌≡◌, ◌≢◌, inl, inr, ℕ, ◌<◌, ◌==◌, true, false, length, set, sym, ◌∙◌, ap, refl, arith, Option, Some, None, length-set, eqb_tells, State, Tables, owner_of, record_at, handle_at, call_at, holds, holders, users, drops, tally, reading, read_handle, read_call, has_let_go, tables_without, both_freed, called, IsSound, hidden, readies, releases, Handle, Pending, Release, count-some, count-less, count-most, count-two, count-find, count-sum, holders-le-users, calls-fit-set, at-some, owner-counted, ne_eqb, eq-eqb, live-inside, held_by, still_by, drops_by, holders-as, users-as, lets_go, drops-split, go-releases, block-log-freed, record-log-dead, and_right, call-fits, all-fit-on, call-kept, cases_Bool, Swapped, alone-few, counts-swapped, swaps-none, swaps-set}
 use Rattle.iobufs_owner.proofs.Soundness.RecordFreed.{dead-at, dead-block, dead-other, dead-keeps, dead-let_go, dead-live}
 use Rattle.iobufs_owner.proofs.Soundness.Alone.{named, ready-borrows}
 use Rattle.iobufs_owner.proofs.Soundness.Frame.{sound-framed}

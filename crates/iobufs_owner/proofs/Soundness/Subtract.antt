@@ -1,5 +1,5 @@
 -- A drop lets go: the count shrinks by one.
-use Rattle.iobufs_owner.proofs.Base.{◌≡◌, ◌≢◌, inl, inr, ℕ, ◌+◌, ◌-◌, ◌<◌, ◌==◌, true, false, cond, length, set, sym, ◌∙◌, ap, refl, arith, All, Option, Some, None, nat_eq, length-set, All-from_get_or, nat_tests, eqb_tells, State, Tables, record_at, call_at, holders, users, reading, has_let_go, IsSound, FitsCall, alone, describes, hidden, readies, releases, Pending, Subtract, Release, count-some, count-two, holders-le-users, KeepsLetGo, calls-fit-set, at-some, ne_eqb, eq-eqb, counted, with_count, called, live-inside, record-log-counted, holders-as, still_by, drops_by, call-fits, count-none, all-fit-on, call-kept, cases_Bool, alone-few, Swapped, counts-swapped, swaps-none, swaps-set, Record}
+use Rattle.iobufs_owner.proofs.Base.{◌≡◌, ◌≢◌, inl, inr, ℕ, ◌+◌, ◌-◌, ◌<◌, ◌==◌, true, false, cond, length, set, sym, ◌∙◌, ap, refl, arith, All, Option, Some, None, nat_eq, length-set, All-from_get_or, eqb_tells, State, Tables, record_at, call_at, holders, users, reading, has_let_go, IsSound, FitsCall, hidden, readies, releases, Pending, Subtract, Release, count-some, holders-le-users, KeepsLetGo, calls-fit-set, at-some, ne_eqb, eq-eqb, counted, with_count, called, live-inside, record-log-counted, holders-as, still_by, drops_by, call-fits, count-none, all-fit-on, call-kept, alone-few, Swapped, counts-swapped, swaps-none, swaps-set, Record, count-set, get_or-set_other, release-alone}
 use Rattle.iobufs_owner.proofs.Soundness.AddHolder.{counted-keeps, counted-block, counted-live, counted-same, counted-rest}
 use Rattle.iobufs_owner.proofs.Soundness.Frame.{block-log-still, sound-framed}
 
@@ -15,24 +15,14 @@ afterwards-by : (P : Option Pending → Type 0) (r n : ℕ) → (n ≡ 1 → P (
 afterwards-by P r n some none = elim (eqb_tells n 1) [ inl i ↦ rw i.0 (some i.1) | inr i ↦ rw i.0 (none i.1) ]
 
 -- no call releases a block that another drop holds
-none-release : (s : State) (p r i : ℕ) (c : Option Pending) → IsSound s → call_at s p ≡ Some (Subtract r) → i < length s.calls
-    → call_at s i ≡ c
-    → FitsCall s c → releases s.tables (record_at s.tables r).block c ≡ true → ⊥
-none-release s p r i (Some (Release q)) k at l e f t =
+none-release : (s : State) (p r i : ℕ) → IsSound s → call_at s p ≡ Some (Subtract r) → i < length s.calls
+    → releases s.tables (record_at s.tables r).block (call_at s i) ≡ true → ⊥
+none-release s p r i k at l t =
     let b : ℕ = (record_at s.tables r).block in
-    let lp = at-some s.calls p (Subtract r) at in
-    let same : b ≡ (record_at s.tables q).block = grind (arith, nat_tests, t) in
-    let h = holders-as s b in
-    let one = count-some (still_by s.tables b) s.calls p None lp (rw at (eq-eqb b b refl)) in
-    let n = rw (← same) at f.alone in
-    elim (cases_Bool (has_let_go s.tables q)) [
-      | inl z ↦ (let m = rw z at n in omega (arith, m, h, one))
-      | inr z ↦ (let m = rw z at n in
-          let two = count-two (still_by s.tables b) s.calls p i None (λ j. let q = sym at ∙ ap (λ (n : ℕ). call_at s n) j ∙ e in cc) lp l
-          (rw at (eq-eqb b b refl)) (rw (e, z) (eq-eqb b (record_at s.tables q).block same)) in
-          omega (arith, m, h, two))
-    ]
-none-release s p r i c k at l e f t = cc
+    let other : p ≢ i = λ j. (let z = rw (← j, at) at t in cc) in
+    let one = count-some (still_by s.tables b) (set s.calls i None) p None (rw length-set (at-some s.calls p (Subtract r) at))
+    (rw (get_or-set_other s.calls i p None None other, at) (eq-eqb b b refl)) in
+    omega (arith, holders-as s b, release-alone s b (call_at s i) (k.calls_fit i None l) t, count-set (still_by s.tables b) s.calls i None None l, one)
 
 -- so another count for that block's record leaves each call that frees a record as it was
 pub counted-drops : (s : State) (p r n : ℕ) → IsSound s → call_at s p ≡ Some (Subtract r)
@@ -40,7 +30,7 @@ pub counted-drops : (s : State) (p r n : ℕ) → IsSound s → call_at s p ≡ 
 counted-drops s p r n k at =
     All-from_get_or (KeepsLetGo s.tables (counted s.tables r n)) s.calls None
     (λ i l q e live. ap (λ (m : ℕ). nat_eq m 0)
-    (ap (λ (v : Record). v.count) (counted-rest s.tables r n q (λ same. none-release s p r i (call_at s i) k at l refl (k.calls_fit i None l)
+    (ap (λ (v : Record). v.count) (counted-rest s.tables r n q (λ same. none-release s p r i k at l
     (rw e (eq-eqb (record_at s.tables r).block (record_at s.tables q).block (ap (λ (m : ℕ). (record_at s.tables m).block) (sym same))))))))
 
 -- it is the last holder's drop that goes on, and its record counts none then
@@ -78,13 +68,10 @@ sound-subtracted s p r k at =
     let hid : (q : ℕ) → hidden (set s.calls p y) q ≡ hidden s.calls q = λ q.
     let z = rw (afterwards-by (λ y. readies q y ≡ false) r n (λ _. refl) (λ _. refl)) at (w.hidden q) in omega (arith, z) in
     let never : (i : ℕ) → i < length s.calls → releases g b (call_at s i) ≡ true → ⊥ =
-    λ i lo t. none-release s p r i (call_at s i) k at lo refl (k.calls_fit i None lo) t in
-    sound-framed r k refl w (λ d ne. (
-      refl,
-      refl,
-      rw bb (ne_eqb d b ne),
-      afterwards-by (λ y. drops_by g' d y ≡ false) r n (λ _. rw bb (ne_eqb d b ne)) (λ _. refl),
-    )) (record {
+    λ i lo t. none-release s p r i k at lo t in
+    let ends : (d : ℕ) → d ≢ b → drops_by g' d y ≡ false =
+    λ d ne. afterwards-by (λ y. drops_by g' d y ≡ false) r n (λ _. rw bb (ne_eqb d b ne)) (λ _. refl) in
+    sound-framed r k refl w (λ d ne. (refl, refl, rw bb (ne_eqb d b ne), ends d ne)) (record {
       size = rw (length-set, length-set) k.size;
       blocks = k.blocks;
       fit = all-fit-on (set s.calls p y) s.handles e (λ _ q x _ _ f. (counted-live g r (n - 1) q ∙ f.live, hid q ∙ f.shown)) k.fit;

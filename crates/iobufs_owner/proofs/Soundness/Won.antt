@@ -1,5 +1,5 @@
 -- A clone or slice wins the race: its record takes the descriptor's place, and counts the handle and the new view.
-use Rattle.iobufs_owner.proofs.Base.{◌≡◌, inl, inr, ℕ, ◌+◌, ◌^◌, ◌<◌, ◌≤◌, ◌==◌, cond, List, length, get_or, set, sym, ◌∙◌, ap, subst, refl, arith, All, Option, Some, None, length-set, get_or-set_same, get_or-set_other, set-set, eqb_tells, State, Tables, owner_of, record_at, block_at, handle_at, call_at, holders, users, is_block, reading, IsSound, Fits, FitsCall, Shares, SpeaksOf, alone, describes, hidden, readies, releases, counted, called, edited, with_handle, part, Handle, Share, View, Pending, Loaded, Ready, Add, Subtract, Release, Descriptor, Counted, count-some, owner-kept, shares-kept, promised-kept, described-kept, handles-fit-set, at-some, owner-counted, ne_eqb, eq-eqb, fits-at, alone-at, live-inside, lies-still, alone-described, describes-described, describes-counted, describes-few, no_record, record-log-counted, call-fits, fit-on, set-get_or, Swapped, calls-fit-set, counts-swapped, holders-le-users, swaps-set}
+use Rattle.iobufs_owner.proofs.Base.{◌≡◌, inl, inr, ℕ, ◌+◌, ◌^◌, ◌<◌, ◌≤◌, ◌==◌, cond, List, length, get_or, set, sym, ◌∙◌, ap, subst, refl, arith, All, Option, Some, None, length-set, get_or-set_same, get_or-set_other, set-set, eqb_tells, State, Tables, owner_of, record_at, block_at, handle_at, call_at, holders, users, is_block, reading, IsSound, Fits, FitsCall, Shares, SpeaksOf, hidden, readies, counted, called, edited, with_handle, part, Handle, Share, View, Pending, Loaded, Ready, Add, Subtract, Release, Descriptor, Counted, count-some, owner-kept, shares-kept, promised-kept, handles-fit-set, at-some, owner-counted, ne_eqb, eq-eqb, fits-at, alone-at, live-inside, lies-still, alone-described, describes-described, describes-counted, describes-few, no_record, record-log-counted, call-fits, fit-on, set-get_or, Swapped, calls-fit-set, counts-swapped, holders-le-users, swaps-set}
 use Rattle.iobufs_owner.proofs.Soundness.AddHolder.{sound-added, counted-keeps, counted-let_go, counted-block, counted-live, counted-same, counted-rest}
 use Rattle.iobufs_owner.proofs.Soundness.Frame.{block-log-still, sound-framed}
 
@@ -26,6 +26,18 @@ record IsStillPromised (s : State) (part : Share) (w b : ℕ) : Type 0 where
   pub shares : Shares s part view
   pub promised : SpeaksOf s.tables view w b
 
+-- in a sound machine the record of a clone or slice in the race is hidden, and counts two
+pub record IsHidden (s : State) (r : ℕ) : Type 0 where
+  pub once : hidden s.calls r ≡ 1
+  pub two : (record_at s.tables r).count ≡ 2
+
+pub racing : (s : State) (p r w : ℕ) (part : Share) → IsSound s → call_at s p ≡ Some (Ready part w r) → IsHidden s r
+racing s p r w part k at =
+    let me = k.counted r (call-fits s p (Ready part w r) k at).live in
+    let some = count-some (readies r) s.calls p None (at-some s.calls p (Ready part w r) at) (ap (readies r) at ∙ eq-eqb r r refl) in
+    let once : hidden s.calls r ≡ 1 = omega (arith, me.one_maker, some) in
+    record { once = once; two = me.fresh once }
+
 share-shown : (s : State) (p h r : ℕ) (x : Handle) (b : ℕ) (part : Share) (z : ℕ) (y : Handle) (d : ℕ) → handle_at s h ≡ Some x
     → h < length s.handles → All (Fits s.tables s.calls) s.handles → owner_of s.tables x ≡ Some b → (record_at s.tables r).block ≡ b
     → Shares s part y → SpeaksOf s.tables y z d → IsStillPromised (shown s p h r x) part z d
@@ -33,27 +45,25 @@ share-shown s p h r x b part z y d at l fit o bl sh pr =
     let g : Tables = s.tables in
     let g' : Tables = counted s.tables r 1 in
     let e = counted-keeps g r 1 in
+    let q = promised-kept g g' y z d e (owner-kept g g' s.calls y e (rw sh.at at (fit part.handle None (at-some s.handles _ y sh.at)))) pr in
     elim (eqb_tells part.handle h) [
       | inl i ↦ (let yx : y ≡ x = some-same y x (sym sh.at ∙ ap (λ n. get_or s.handles n None) i.1 ∙ at) in
-          let pr' : SpeaksOf g x z d = subst (λ (y : Handle). SpeaksOf g y z d) yx pr in
+          let q' : SpeaksOf g' x z d = subst (λ (y : Handle). SpeaksOf g' y z d) yx q in
           let sh' : Shares s part x = subst (λ (y : Handle). Shares s part y) yx sh in
-          let u : Handle = by_record x r in
-          let v : Handle = record x { word = Descriptor z } in
-          let ov : owner_of g' v ≡ owner_of g v = owner-kept g g' s.calls v e
-          (record { block = d; log = pr'.log; tail = pr'.tail; says = pr'.says }) in record {
+          let u : Handle = by_record x r in record {
             view = u;
             shares = record {
-              at = rw i.1 (get_or-set_same s.handles h
-                  (Some u) None l);
+              at = rw i.1 (get_or-set_same s.handles h (Some u) None l);
               view = sh'.view;
               order = sh'.order;
               within = sh'.within;
             };
             promised = record {
-              log = pr'.log;
-              tail = pr'.tail;
-              says = described-kept g g' v z d pr'.log pr'.tail ov e pr'.says;
-              owner = owner-counted g' u r refl ∙ ap Some (counted-block g r 1 r ∙ bl) ∙ sym o ∙ pr'.owner;
+              log = q'.log;
+              tail = q'.tail;
+              says = q'.says;
+              owner = owner-counted g' u r refl ∙ ap Some (counted-block g r 1 r ∙ bl) ∙ sym o
+                  ∙ subst (λ (y : Handle). owner_of g y ≡ Some d) yx pr.owner;
               now' = inr (r, refl);
             };
           })
@@ -61,8 +71,7 @@ share-shown s p h r x b part z y d at l fit o bl sh pr =
         view = y;
         shares = shares-kept s (shown s p h r x) part y
             (λ a. get_or-set_other s.handles h part.handle (Some (by_record x r)) None i.1 ∙ a) sh;
-        promised = promised-kept g g' y z d e (owner-kept g g' s.calls y e
-            (rw sh.at at (fit part.handle None (at-some s.handles part.handle y sh.at)))) pr;
+        promised = q;
       }
     ]
 
@@ -124,9 +133,7 @@ sound-shown s p r w part x k atp at word =
     let e = counted-keeps g r 1 in
     let ox : owner_of g' x ≡ Some b = owner-kept g g' s.calls x e (fits-at s h x k at) ∙ o in
     let oy : owner_of g' y ≡ Some b = owner-counted g' y r refl ∙ ap Some (counted-block g r 1 r ∙ f.same) in
-    let two : (record_at s.tables r).count ≡ 2 =
-    (let a = count-some (readies r) s.calls p None lp (ap (readies r) atp ∙ eq-eqb r r refl) in let m =
-    (k.counted r f.live).one_maker in (k.counted r f.live).fresh (omega (arith, a, m))) in
+    let two = (racing s p r w part k atp).two in
     let c : Option Pending = Some (Ready part w r) in
     let v : Swapped s next (Some x) (Some y) c None =
     counts-swapped k e (λ i d l q j t. counted-let_go g r 1 q (rw two refl)) (swaps-set s.handles h (Some x) (Some y) at l)
@@ -152,7 +159,7 @@ sound-shown s p r w part x k atp at word =
             (Counted r) x.kind pr.says.lies);
         native = λ m. absurd (let q = sym view ∙ m in cc);
       }) (λ i _ li. fit-on (set s.calls p None) (get_or s.handles i None) e
-      (λ z q _ _ f. (counted-live g r 1 q ∙ f.live, (let n = less q in let m = f.shown in omega arith))) (k.fit i None li));
+          (λ z q _ _ f. (counted-live g r 1 q ∙ f.live, (let n = less q in let m = f.shown in omega arith))) (k.fit i None li));
       calls_fit = λ _. calls-fit-set s next p None lp tt
           (λ i _ _ fits. call-shown s p h r i x b (call_at s i) at w word l k.fit o f.same two less hm fits) k.calls_fit;
       kept = λ q _ ne. (counted-rest g r 1 q ne, (let n = rw (ne_eqb q r ne) at (hid q) in omega (arith, n)));
@@ -206,10 +213,7 @@ sound-won s p r w part' x k at atx xw few =
       order = sh.order;
       within = sh.within;
     } in
-    let hid : hidden s.calls r
-    ≡ 1 = (let a = count-some (readies r) s.calls p None (at-some s.calls p (Ready part' w r) at) (ap (readies r) at ∙ eq-eqb r r refl) in
-    let m = (k.counted r f.live).one_maker in omega (arith, a, m)) in
     let count1 : (record_at s1.tables r).count ≡ 1 = counted-same g r 1 inside in
     let ceiling = k.size.ceiling in
-    rw (twice s.tables r inside ((k.counted r f.live).fresh hid)) at
+    rw (twice s.tables r inside (racing s p r w part' k at).two) at
     (sound-added s1 r part' (by_record x r) one sh1 refl (omega (arith, count1, ceiling)) (rw length-set few))
