@@ -70,7 +70,8 @@ pub swaps-none : {X : Type 0} (xs : List (Option X)) → Swaps xs xs None None
 swaps-none xs p e = refl
 
 -- another entry under a number
-pub swaps-set : {X : Type 0} (xs : List (Option X)) (i : ℕ) (o n : Option X) → get_or xs i None ≡ o → i < length xs → Swaps xs (set xs i n) o n
+pub swaps-set : {X : Type 0} (xs : List (Option X)) (i : ℕ) (o n : Option X) → get_or xs i None ≡ o → i < length xs
+    → Swaps xs (set xs i n) o n
 swaps-set xs i o n at l p e = rw (← at) (count-set p xs i n None l)
 
 -- an entry more
@@ -105,8 +106,7 @@ counts-swapped {s} {t} {o} {o'} {c} {c'} k e gone hs cs =
     → tally p t.calls + cond (p c) 1 0 ≡ tally q s.calls + cond (p c') 1 0 =
     λ p q same n. cs p n ∙ ap (λ m. m + cond (p c') 1 0)
     (tally-kept (λ c. KeepsLetGo g u c × FitsCall s c) p q s.calls same (λ i d l. (gone i d l, k.calls_fit i d l))) in
-    let held : (b : ℕ) → tally (held_by u b) t.handles + cond (held_by u b o) 1 0 ≡ tally (held_by g b) s.handles + cond (held_by u b o') 1 0 =
-    λ b. handles (held_by u b) (held_by g b) (λ o f. ap (holds b) (read-kept g u s.calls o e f)) refl in
+    let held = λ (b : ℕ). handles (held_by u b) (held_by g b) (λ o f. ap (holds b) (read-kept g u s.calls o e f)) refl in
     record {
       holders = λ b. let d = calls (still_by u b) (still_by g b) (λ c f. ap (still_holds b) (call-read-kept s u c e f.0 f.1)) refl in
           omega (arith, holders-as s b, holders-as t b, held b, d);

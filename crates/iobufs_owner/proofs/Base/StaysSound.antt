@@ -1,5 +1,5 @@
 -- A handle without block more, and a handle that changes and holds what it held, keep the machine sound.
-use Rattle.iobufs_owner.proofs.Base.Known.{◌≡◌, ℕ, ◌^◌, ◌<◌, true, false, List, [], ◌∷◌, ◌++◌, length, get_or, set, ◌∙◌, refl, arith, Option, Some, None, length-append, length-set, All-push, All-set, get_or_append_left, get_or-set_other, with_handle, edited, is_lent, State, Tables, owner_of, record_at, handle_at, holders, users, tally, reading, IsSound, FitsWord, Fits, alone, describes, LogsBlocks, Block, Freed, Handle, Empty, Counted, All, FitsCall, FitsRecord, IsInSize, Pending, Record, call_at, subst, ◌≤◌, ◌+◌, releases, hidden, FitsRecordAt, LogsRecords, nat_eq, ap, cases_Bool, inl, inr}
+use Rattle.iobufs_owner.proofs.Base.Known.{◌≡◌, ℕ, ◌^◌, ◌<◌, true, false, List, [], ◌∷◌, ◌++◌, length, get_or, set, ◌∙◌, refl, arith, Option, Some, None, length-append, length-set, All-push, All-set, get_or_append_left, get_or-set_other, with_handle, edited, is_lent, State, Tables, owner_of, record_at, handle_at, holders, users, tally, reading, IsSound, FitsWord, Fits, alone, describes, LogsBlocks, Block, Freed, Handle, Empty, Counted, All, FitsCall, FitsRecord, IsInSize, Pending, Record, call_at, subst, ◌≤◌, ◌+◌, releases, hidden, LogsRecords, nat_eq, ap, cases_Bool, inl, inr}
 use Rattle.iobufs_owner.proofs.Base.Kept.{keeps-self, calls-kept, at-some}
 use Rattle.iobufs_owner.proofs.Base.Counts.{count-append, count-set, held_by, holders-as, users-as}
 
@@ -71,7 +71,9 @@ pub sound-same : (s : State) (rs : List Record) (hs : List (Option Handle)) (cs 
     → ((b : ℕ) → tally (releases (record s.tables { records = rs }) b) cs ≤ 1)
     → ((b : ℕ) → holders (reading (changed s rs hs cs log)) b ≡ holders (reading s) b)
     → ((b : ℕ) → users (reading (changed s rs hs cs log)) b ≡ users (reading s) b)
-    → ((r : ℕ) → (get_or rs r no_record).live ≡ true → FitsRecordAt (changed s rs hs cs log) r (get_or rs r no_record))
+    → ((r : ℕ) → (get_or rs r no_record).live ≡ true → FitsRecord (get_or rs r no_record) (length s.tables.blocks) (hidden cs r)
+    (holders (reading s) (get_or rs r no_record).block) (users (reading s) (get_or rs r no_record).block)
+    (tally (describes (record s.tables { records = rs }) (get_or rs r no_record).block) hs))
     → ((q r : ℕ) → (get_or rs q no_record).live ≡ true → (get_or rs r no_record).live ≡ true → hidden cs q ≡ 0 → hidden cs r ≡ 0
     → (get_or rs q no_record).block ≡ (get_or rs r no_record).block → q ≡ r)
     → ((b : ℕ) → 0 < tally (alone (record s.tables { records = rs }) b) hs → holders (reading s) b ≡ 1) → LogsRecords rs log
@@ -82,7 +84,7 @@ sound-same s rs hs cs log k size fit calls one hm um counted shown sole records 
   fit = fit;
   calls_fit = calls;
   one_release = one;
-  counted = counted;
+  counted = λ r l. rw (hm, um) (counted r l);
   one_record = shown;
   sole = λ b p. rw hm (sole b p);
   capped = λ b. rw hm (k.capped b);
@@ -102,12 +104,11 @@ pub sound-handles : (s : State) (hs : List (Option Handle)) → IsSound s → le
 sound-handles s hs k few fit held dm sole stay =
     let next : State = record s { handles = hs } in
     let hm : (b : ℕ) → holders (reading next) b ≡ holders (reading s) b = λ b. omega (arith, holders-as s b, holders-as next b, held b) in
-    let um : (b : ℕ) → users (reading next) b ≡ users (reading s) b = λ b. omega (arith, users-as s b, users-as next b, held b) in
     sound-same s _ _ _ _ k (sized k.size k.size.few_blocks k.size.few_records few k.size.few_calls)
     fit
     (calls-kept next k refl (keeps-self s.tables) (λ r t. t) stay (λ i d l q j t. refl) (λ b l. hm b))
-    k.one_release hm um
-    (λ r live. rw (hm, um) (fits-fewer (k.counted r live) (omega arith) (dm (record_at s.tables r).block)))
+    k.one_release hm (λ b. omega (arith, users-as s b, users-as next b, held b))
+    (λ r live. fits-fewer (k.counted r live) (omega arith) (dm (record_at s.tables r).block))
     k.one_record
     (λ b p. sole b p) k.record_log
 

@@ -97,10 +97,10 @@ sound-added s r m x k sh xw on few =
             live = counted-live g r n r ∙ fx.live;
             known = rw counted-block fx.known;
             shown = fx.shown;
-            lies = rw bb (record { begins = omega (arith, lies.begins); ends = omega (arith, sh.order, sh.within, lies.ends); no_room = refl });
+            lies = rw bb (record { begins = omega (arith, lies.begins); ends = omega (arith, lies.ends); no_room = refl });
             native = λ m. absurd (cc);
           });
-      calls_fit = λ others. calls-fit-kept next k refl e (λ _ q _ _ t. counted-live g r n q ∙ t) (λ i z l a. append-at s.handles (Some y) i z a)
+      calls_fit = λ others. calls-fit-kept next k refl e (λ _ q _ _ t. counted-live g r n q ∙ t) (λ i z _. append-at s.handles (Some y) i z)
           gone (λ p q l i. others (record_at g q).block (λ j. release-elsewhere s h b p x k sh.at ox l (rw i (eq-eqb b _ (sym j)))));
       kept = λ q _ ne. (counted-rest g r n q ne, refl);
       apart = λ q live ne i. (λ z. ne (k.one_record q r live fx.live z fx.shown i), some);

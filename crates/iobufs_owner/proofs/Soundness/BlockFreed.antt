@@ -122,7 +122,7 @@ sound-freed_counted s h x r o k at free xm xw is =
     sound-let-go s h b r x o (tables_without g r).records _ k at free ox f.known one is (rw length-set k.size.few_records) (dead-keeps g r)
     (λ i d l q j t. dead-let_go g r q) (λ i q li m t. calls-live s h r q i once li m t) (λ i ne li. fit-dead s h r i k once ne li)
     (dead-at g r) (λ live. (dead-live g r r inside live).1 refl)
-    (λ q live ne i. ne (k.one_record q r live f.live (unready s h b q k me free i) f.shown i)) (record-log-dead r _ inside refl f.live k.record_log)
+    (λ q l n i. n (k.one_record q r l f.live (unready s h b q k me free i) f.shown i)) (record-log-dead r _ inside refl f.live k.record_log)
 
 -- ---- a handle without block is gone
 

@@ -1,5 +1,5 @@
 -- A thread's call becomes another one; neither is a drop, and neither has made a record.
-use Rattle.iobufs_owner.proofs.Base.{◌≡◌, ℕ, ◌<◌, false, length, set, sym, ◌∙◌, refl, arith, Option, Some, None, length-set, State, Tables, record_at, call_at, holders, users, still_holds, drops, reading, read_call, IsSound, FitsCall, hidden, readies, releases, called, Share, Pending, Loaded, Add, keeps-self, call-kept, calls-fit-set, all-fit-on, sound-same, Swapped, counts-swapped, swaps-none, swaps-set}
+use Rattle.iobufs_owner.proofs.Base.{◌≡◌, ℕ, ◌<◌, false, length, set, sym, ◌∙◌, refl, arith, Option, Some, None, length-set, State, Tables, record_at, call_at, holders, still_holds, drops, reading, read_call, IsSound, FitsCall, hidden, readies, releases, called, Share, Pending, Loaded, Add, keeps-self, call-kept, calls-fit-set, all-fit-on, sound-same, Swapped, counts-swapped, swaps-none, swaps-set}
 
 -- calls that count for nothing
 pub record IsQuiet (s : State) (c : Option Pending) : Type 0 where
@@ -31,7 +31,6 @@ sound-called s p c k l q r f =
     counts-swapped k (keeps-self g) (λ i d l q j t. refl) (swaps-none s.handles) (swaps-set s.calls p (call_at s p) c refl l) in
     let hm : (b : ℕ) → holders (reading next) b ≡ holders (reading s) b =
     λ b. let z = rw (q.still b, r.still b) at (w.holders b) in omega (arith, z) in
-    let um : (b : ℕ) → users (reading next) b ≡ users (reading s) b = λ b. let z = rw (q.drops b, r.drops b) at (w.users b) in omega (arith, z) in
     let hid : (n : ℕ) → hidden (set s.calls p c) n ≡ hidden s.calls n =
     λ n. let z = rw (q.readies n, r.readies n) at (w.hidden n) in omega (arith, z) in
     sound-same s _ _ _ _ k (rw length-set k.size)
@@ -40,7 +39,8 @@ sound-called s p c k l q r f =
     let kept : (o : Option Pending) → FitsCall s o → FitsCall next o =
     λ o. call-kept next o k (keeps-self g) (λ q j t. refl) (λ n _ t. t) (λ n _ _. hid n) (λ _ _ _ a. a) (λ n _. hm (record_at g n).block) in
     calls-fit-set s next p c l (kept c f) (λ i _ _. kept (call_at s i)) k.calls_fit))
-    (λ b. let z = rw (r.releases b) at (w.releases b) in omega (arith, z, k.one_release b)) hm um
-    (λ n t. rw (hid n, hm, um) (k.counted n t))
+    (λ b. let z = rw (r.releases b) at (w.releases b) in omega (arith, z, k.one_release b)) hm
+    (λ b. let z = rw (q.drops b, r.drops b) at (w.users b) in omega (arith, z))
+    (λ n t. rw (hid n) (k.counted n t))
     (λ n m a b u v e. k.one_record n m a b (sym (hid n) ∙ u) (sym (hid m) ∙ v) e)
     (λ b t. k.sole b t) k.record_log

@@ -1,5 +1,5 @@
 -- A drop begins: the handle of a counted block is gone, and its call holds in its place.
-use Rattle.iobufs_owner.proofs.Base.{◌≡◌, inl, inr, ℕ, ◌+◌, ◌<◌, ◌≤◌, true, false, cond, length, get_or, set, sym, ◌∙◌, ap, refl, arith, Bool, nat_eq, Some, None, length-set, nat_tests, eqb_tells, State, Tables, record_at, handle_at, call_at, Dropping, holders, users, tally, reading, read_call, has_let_go, state_without, called, is_lent, IsSound, FitsCall, hidden, readies, releases, Handle, View, Pending, Subtract, Release, Counted, keeps-self, calls-fit-set, handles-fit-set, at-some, owner-counted, ne_eqb, eq-eqb, fits-fewer, count-none, fit-on, sound-same, list_any_at, borrows_it, call-kept, lent-stays, Swapped, counts-swapped, swaps-set}
+use Rattle.iobufs_owner.proofs.Base.{◌≡◌, inl, inr, ℕ, ◌+◌, ◌<◌, ◌≤◌, true, false, cond, length, get_or, set, sym, ◌∙◌, ap, refl, arith, Bool, nat_eq, Some, None, length-set, nat_tests, eqb_tells, State, Tables, record_at, handle_at, call_at, Dropping, holders, tally, reading, read_call, has_let_go, state_without, called, is_lent, IsSound, FitsCall, hidden, readies, releases, Handle, View, Pending, Subtract, Release, Counted, keeps-self, calls-fit-set, handles-fit-set, at-some, owner-counted, ne_eqb, eq-eqb, fits-fewer, count-none, fit-on, sound-same, list_any_at, borrows_it, call-kept, lent-stays, Swapped, counts-swapped, swaps-set}
 use Rattle.iobufs_owner.proofs.Soundness.AddHolder.{release-elsewhere}
 
 abbrev pub dropping : State → ℕ → ℕ → Pending → State
@@ -26,9 +26,9 @@ sound-dropping s p h r x c k at word view free none lp d =
     let o = owner-counted g x r word in
     let w : Swapped s next (Some x) None None (Some c) = counts-swapped k (keeps-self g) (λ i d l q j t. refl)
     (swaps-set s.handles h (Some x) None at l) (swaps-set s.calls p None (Some c) none lp) in
-    let hm : (b : ℕ) → holders (reading next) b ≡ holders (reading s) b = λ b. let z = rw (o, d.reads) at (w.holders b) in omega (arith, z) in
-    let um : (b : ℕ) → users (reading next) b ≡ users (reading s) b = λ b. let z = rw (o, d.reads) at (w.users b) in omega (arith, z) in
-    let hid : (q : ℕ) → hidden (set s.calls p (Some c)) q ≡ hidden s.calls q = λ q. let z = rw (d.hides q) at (w.hidden q) in omega (arith, z) in
+    let hm : (b : ℕ) → holders (reading next) b ≡ holders (reading s) b =
+    λ b. let z = rw (o, d.reads) at (w.holders b) in omega (arith, z) in
+    let hid : (q : ℕ) → hidden next.calls q ≡ hidden s.calls q = λ q. let z = rw (d.hides q) at (w.hidden q) in omega (arith, z) in
     sound-same s _ _ _ _ k (rw (length-set, length-set) k.size)
     (handles-fit-set g (set s.calls p (Some c)) s.handles h None l tt
     (λ i _ li. fit-on (set s.calls p (Some c)) (get_or s.handles i None) (keeps-self g) (λ x q _ _ f. (f.live, hid q ∙ f.shown))
@@ -36,8 +36,8 @@ sound-dropping s p h r x c k at word view free none lp d =
     (calls-fit-set s next p (Some c) lp (d.fits next refl hid (hm (record_at g r).block)) (λ i _ lo.
     call-kept next (call_at s i) k (keeps-self g) (λ q j t. refl) (λ q _ t. t) (λ q _ _. hid q)
     (λ j y b. lent-stays s h None free j y (list_any_at (borrows_it j) s.calls i None lo b)) (λ q _. hm (record_at g q).block)) k.calls_fit)
-    (λ b. omega (arith, w.releases b, d.first b)) hm um
-    (λ q live. rw (hid q, hm, um) (fits-fewer (k.counted q live) (omega arith) (omega (arith, w.describes (record_at g q).block))))
+    (λ b. omega (arith, w.releases b, d.first b)) hm (λ b. let z = rw (o, d.reads) at (w.users b) in omega (arith, z))
+    (λ q live. rw (hid q) (fits-fewer (k.counted q live) (omega arith) (omega (arith, w.describes (record_at g q).block))))
     (λ q q' a b u v e. k.one_record q q' a b (sym (hid q) ∙ u) (sym (hid q') ∙ v) e)
     (λ b t. k.sole b (omega (arith, w.alone b))) k.record_log
 

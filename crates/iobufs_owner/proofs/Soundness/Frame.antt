@@ -47,8 +47,8 @@ pub record Settled (s t : State) (b r : ℕ) : Type 0 where
 -- The frame lemma: a step in which no handle or call comes or goes that is of another block than b, and after which this holds of
 -- b, keeps the machine sound.
 pub sound-framed : {s t : State} {o o' : Option Handle} {c c' : Option Pending} {b : ℕ} (r : ℕ) → IsSound s → t.ceiling ≡ s.ceiling
-    → Swapped s t o o' c c' → ((d : ℕ) → d ≢ b → (held_by t.tables d o ≡ false) × (held_by t.tables d o' ≡ false) × (drops_by t.tables d c ≡ false)
-    × (drops_by t.tables d c' ≡ false)) → Settled s t b r → IsSound t
+    → Swapped s t o o' c c' → ((d : ℕ) → d ≢ b → (held_by t.tables d o ≡ false) × (held_by t.tables d o' ≡ false)
+    × (drops_by t.tables d c ≡ false) × (drops_by t.tables d c' ≡ false)) → Settled s t b r → IsSound t
 sound-framed {s} {t} {o} {o'} {c} {c'} {b} r k same w of d =
     let held : (e : ℕ) → e ≢ b → holders (reading t) e ≡ holders (reading s) e = λ e ne. let (h, h', u, u') = of e ne in
     let z = rw (h, h', unless _ _ (drops-more e _) u, unless _ _ (drops-more e _) u') at (w.holders e) in omega (arith, z) in
@@ -66,7 +66,7 @@ sound-framed {s} {t} {o} {o'} {c} {c'} {b} r k same w of d =
       calls_fit = d.calls_fit held;
       one_release = λ e. elim (eqb_tells e b) [
         | inl i ↦ rw i.1 d.one_release
-        | inr i ↦ (let z = rw (unless _ _ (releases-drops t.tables e c') (of e i.1).3) at (w.releases e) in omega (arith, z, k.one_release e))
+        | inr i ↦ (let z = rw (unless _ _ (releases-drops t.tables e c') (of e i.1).3) at (w.releases e) in omega (arith, z))
       ];
       counted = λ q l. elim (eqb_tells q r) [
         | inl i ↦ rw i.1 (let m = d.mine (rw i.1 at l) in record {
@@ -90,7 +90,7 @@ sound-framed {s} {t} {o} {o'} {c} {c'} {b} r k same w of d =
                 used = rw j.1 u.1;
                 undescribed = λ z. absurd (u.0 z);
               })
-              | inr j ↦ (let z = rw (none describes (λ e. describes-holds t.tables e o') _ j.1) at (w.describes (record_at s.tables q).block) in
+              | inr j ↦ (let z = rw (none describes (λ e. describes-holds _ e o') _ j.1) at (w.describes (record_at s.tables q).block) in
                   rw (held _ j.1, used _ j.1) (fits-fewer m w.longer (omega (arith, z))))
             ])
       ];
@@ -107,7 +107,7 @@ sound-framed {s} {t} {o} {o'} {c} {c'} {b} r k same w of d =
       ];
       sole = λ e p. elim (eqb_tells e b) [
         | inl i ↦ rw i.1 (d.sole (rw i.1 at p))
-        | inr i ↦ (let z = rw (none alone (λ e. alone-holds t.tables e o') e i.1) at (w.alone e) in held e i.1 ∙ k.sole e (omega (arith, z, p)))
+        | inr i ↦ (let z = rw (none alone (λ e. alone-holds _ e o') e i.1) at (w.alone e) in held e i.1 ∙ k.sole e (omega (arith, z, p)))
       ];
       capped = λ e. elim (eqb_tells e b) [ inl i ↦ rw i.1 d.capped | inr i ↦ rw (held e i.1, same) (k.capped e) ];
       known_users = λ e p. elim (eqb_tells e b) [

@@ -1,5 +1,5 @@
 -- A new record keeps the machine sound: for a new block, and in the place of a descriptor.
-use Rattle.iobufs_owner.proofs.Base.{frozen-lies, ◌≡◌, ℕ, ◌^◌, ◌<◌, ◌⊎◌, inl, inr, true, false, [], ◌∷◌, ◌++◌, length, sym, ◌∙◌, ap, subst, refl, arith, Option, Some, None, nat_eq, length-append, length-set, All-set, get_or_append_left, get_or-append_seam, nat_tests, State, Tables, owner_of, record_at, block_at, holders, users, is_block, reading, has_let_go, IsSound, Fits, FitsWord, FitsCall, LiesIn, hidden, readies, with_block, with_record, with_handle, edited, next_record, Lends, frozen, IsGoodPlace, Block, Record, Handle, Kind, Mut, Pending, Ready, Word, Descriptor, Counted, Keeps, calls-kept, owner-kept, at-some, owner-counted, holders-le-users, grown, grown-keeps, eq-eqb, fits-at, live-inside, described-at, alone-at, alone-described, describes-described, describes-counted, describes-few, no_record, below-or, record-log-more, sized, call_at, count-none, all-fit-on, keeps-records, lent-stays, Swapped, counts-swapped, ne_eqb, part, swaps-none, swaps-set}
+use Rattle.iobufs_owner.proofs.Base.{frozen-lies, ◌≡◌, ℕ, ◌^◌, ◌<◌, ◌⊎◌, inl, inr, true, false, [], ◌∷◌, ◌++◌, length, sym, ◌∙◌, ap, subst, refl, arith, Option, Some, None, nat_eq, length-append, length-set, All-set, get_or_append_left, get_or-append_seam, nat_tests, State, Tables, owner_of, record_at, block_at, holders, users, is_block, reading, has_let_go, IsSound, Fits, FitsWord, FitsCall, LiesIn, hidden, readies, with_block, with_record, with_handle, edited, next_record, Lends, frozen, IsGoodPlace, Block, Record, Handle, Kind, Mut, Pending, Ready, Word, Descriptor, Counted, Keeps, calls-kept, owner-kept, at-some, owner-counted, holders-le-users, grown, grown-keeps, eq-eqb, fits-at, live-inside, described-at, alone-at, alone-described, describes-counted, describes-few, no_record, below-or, record-log-more, sized, call_at, count-none, all-fit-on, keeps-records, lent-stays, Swapped, counts-swapped, ne_eqb, part, swaps-none, swaps-set}
 use Rattle.iobufs_owner.proofs.Soundness.New.{sound-block}
 use Rattle.iobufs_owner.proofs.Soundness.Frame.{block-log-still, sound-framed}
 
@@ -125,7 +125,7 @@ sound-promoted s h x w b kind k t xw ox few =
     let one : holders (reading s) b ≡ 1 = alone-at s h x b k at (alone-described g b x w xw ∙ ap (is_block b) ox ∙ eq-eqb b b refl) in
     let one' : holders (reading next) b ≡ 1 = hm b ∙ one in
     let some : 0 < users (reading next) b = omega (arith, one', holders-le-users (reading next) b) in
-    let dm = rw (describes-described g' b x w xw ∙ ap (is_block b) ox' ∙ eq-eqb b b refl, describes-counted g' b y r refl) at (w'.describes b) in
+    let dm = rw (ox', oy, xw, eq-eqb b b refl) at (w'.describes b) in
     let shown = unhidden-next s k in
     sound-framed r k refl w' (λ d ne. (rw ox' (ne_eqb d b ne), rw oy (ne_eqb d b ne), refl, refl)) (record {
       size = sized k.size k.size.few_blocks (rw length-append (omega arith)) (rw length-set k.size.few_handles) k.size.few_calls;
@@ -137,7 +137,7 @@ sound-promoted s h x w b kind k t xw ox few =
         lies = rw (new-block, ← same) (frozen-lies (block_at g d.block) x (Counted r) x.kind d.says.lies);
         native = λ m. absurd (cc);
       }) (all-fit-on s.calls s.handles e (λ _ q z _ _ c. (live q c.live, c.shown)) k.fit);
-      calls_fit = λ _. calls-kept next k refl e live (lent-stays s h (Some y) t.free) (λ i d l q j t. recorded-let_go g 1 b q t) (λ c _. hm c);
+      calls_fit = λ _. calls-kept next k refl e live (lent-stays s h (Some y) t.free) (λ i d l q j. recorded-let_go g 1 b q) (λ c _. hm c);
       kept = λ q l ne. (elim (recorded-either g 1 b q l) [ inl v ↦ v.1 | inr i ↦ absurd (ne i) ], refl);
       apart = λ q l ne i. (λ z. let u = rw i at ((k.counted q l).undescribed z) in omega (arith, u, dm), some);
       mine = λ _. record {

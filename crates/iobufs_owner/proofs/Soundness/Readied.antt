@@ -1,5 +1,5 @@
 -- A clone or slice has loaded a descriptor and makes a record, which nothing shows yet.
-use Rattle.iobufs_owner.proofs.Base.{◌≡◌, inl, inr, ℕ, ◌+◌, ◌^◌, ◌<◌, ◌==◌, true, cond, length, set, sym, ◌∙◌, ap, subst, refl, arith, Option, Some, None, length-append, length-set, State, Tables, record_at, call_at, holders, users, tally, reading, IsSound, IsLoading, SpeaksOf, hidden, called, with_record, part, Record, Share, Pending, Loaded, Ready, owner-kept, shares-kept, promised-kept, calls-fit-set, at-some, ne_eqb, eq-eqb, fits-at, live-inside, owner-used, record-log-more, sized, all-fit-on, sound-same, call-kept, Swapped, counts-swapped, describes, swaps-none, swaps-set}
+use Rattle.iobufs_owner.proofs.Base.{◌≡◌, inl, inr, ℕ, ◌+◌, ◌^◌, ◌<◌, ◌==◌, true, cond, length, set, sym, ◌∙◌, ap, subst, refl, arith, Option, Some, None, length-append, length-set, State, Tables, record_at, call_at, holders, tally, reading, IsSound, IsLoading, SpeaksOf, hidden, called, with_record, part, Record, Share, Pending, Loaded, Ready, owner-kept, shares-kept, promised-kept, calls-fit-set, at-some, ne_eqb, eq-eqb, fits-at, live-inside, owner-used, record-log-more, sized, all-fit-on, sound-same, call-kept, Swapped, counts-swapped, describes, swaps-none, swaps-set}
 use Rattle.iobufs_owner.proofs.Soundness.NewRecord.{recorded, recorded-new, recorded-keeps, recorded-let_go, recorded-live, recorded-either, unhidden-next}
 
 -- a clone or slice that has loaded a descriptor of a block makes a record of it that counts two, where there were fewer than 2^32: the
@@ -20,9 +20,8 @@ sound-readied s p part w b k at ld same few =
     let known : b < length g.blocks = promised.says.known in
     let live : (q : ℕ) → (record_at g q).live ≡ true → (record_at g' q).live ≡ true = λ q t. recorded-live g 2 b q t in
     let v : Swapped s next None None (Some (Loaded part w)) c =
-    counts-swapped k e (λ i d l q j t. recorded-let_go g 2 b q t) (swaps-none s.handles) (swaps-set s.calls p (Some (Loaded part w)) c at l) in
+    counts-swapped k e (λ i d l q j. recorded-let_go g 2 b q) (swaps-none s.handles) (swaps-set s.calls p (Some (Loaded part w)) c at l) in
     let hm : (d : ℕ) → holders (reading next) d ≡ holders (reading s) d = λ d. omega (arith, v.holders d) in
-    let um : (d : ℕ) → users (reading next) d ≡ users (reading s) d = λ d. omega (arith, v.users d) in
     let dm : (d : ℕ) → tally (describes g' d) s.handles ≡ tally (describes g d) s.handles = λ d. omega (arith, v.describes d) in
     let hid : (q : ℕ) → hidden (set s.calls p c) q ≡ hidden s.calls q + cond (q == r) 1 0 = λ q. omega (arith, v.hidden q) in
     let old : (q : ℕ) → q < length g.records → hidden (set s.calls p c) q ≡ hidden s.calls q =
@@ -47,16 +46,16 @@ sound-readied s p part w b k at ld same few =
       same = ap (λ (v : Record). v.block) new;
     }) (λ i _ _. call-kept next (call_at s i) k e (λ q j t. recorded-let_go g 2 b q t) (λ n _ t. live n t)
     (λ n _ t. old n (live-inside g.records n t)) (λ _ _ _ a. a) (λ n _. hm (record_at g n).block)) k.calls_fit)
-    (λ d. omega (arith, v.releases d, k.one_release d)) hm um
+    (λ d. omega (arith, v.releases d, k.one_release d)) hm (λ d. omega (arith, v.users d))
     (λ q t. elim (recorded-either g 2 b q t) [
-      | inl u ↦ rw (u.1, old q u.0, hm, um, dm (record_at g q).block)
+      | inl u ↦ rw (u.1, old q u.0, dm (record_at g q).block)
           (k.counted q (ap (λ (v : Record). v.live) (sym u.1) ∙ t))
       | inr i ↦ rw (i, new) (record {
         known = known;
         one_maker = omega (arith, one);
         counts = λ z. absurd (omega (arith, z, one));
         fresh = λ z. refl;
-        used = rw um (owner-used s part.handle ld.view b ld.shares.at promised.owner);
+        used = owner-used s part.handle ld.view b ld.shares.at promised.owner;
         undescribed = λ z. absurd (omega (arith, z, one));
       })
     ])

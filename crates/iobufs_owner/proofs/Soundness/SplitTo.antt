@@ -70,10 +70,9 @@ sound-split_described s h w b at x k t i o low few' few =
     let s1 : State = edited (with_record s 1 b) h y in
     let one : IsSound s1 = sound-promoted s h x w b View k t i o few' in
     let at1 : handle_at s1 h ≡ Some y = get_or-set_same s.handles h (Some y) None l in
-    let ceiling = k.size.ceiling in
     let two = sound-added s1 r (record { handle = h; lo = 0; hi = at }) y one
     (record { at = at1; view = refl; order = omega arith; within = low }) refl
-    (rw (recorded-new s.tables 1 b) (omega (arith, ceiling))) (rw length-set few) in
+    (rw (recorded-new s.tables 1 b) (omega arith)) (rw length-set few) in
     let g2 : Tables = counted (recorded s.tables 1 b) r ((record_at (recorded s.tables 1 b) r).count + 1) in
     let t1 : Lends s1 h View y = record { at = at1; kind_is = refl; free = t.free } in
     let three = sound-part_counted (record s1 { tables = g2; handles = s1.handles ++ Some front ∷ [] }) h y r at x.len two

@@ -22,7 +22,8 @@ none-release s p r i k at l t =
     let other : p ≢ i = λ j. (let z = rw (← j, at) at t in cc) in
     let one = count-some (still_by s.tables b) (set s.calls i None) p None (rw length-set (at-some s.calls p (Subtract r) at))
     (rw (get_or-set_other s.calls i p None None other, at) (eq-eqb b b refl)) in
-    omega (arith, holders-as s b, release-alone s b (call_at s i) (k.calls_fit i None l) t, count-set (still_by s.tables b) s.calls i None None l, one)
+    let drop = count-set (still_by s.tables b) s.calls i None None l in
+    omega (arith, holders-as s b, one, drop, release-alone s b (call_at s i) (k.calls_fit i None l) t)
 
 -- so another count for that block's record leaves each call that frees a record as it was
 pub counted-drops : (s : State) (p r n : ℕ) → IsSound s → call_at s p ≡ Some (Subtract r)

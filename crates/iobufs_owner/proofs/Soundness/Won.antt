@@ -1,5 +1,5 @@
 -- A clone or slice wins the race: its record takes the descriptor's place, and counts the handle and the new view.
-use Rattle.iobufs_owner.proofs.Base.{◌≡◌, inl, inr, ℕ, ◌+◌, ◌^◌, ◌<◌, ◌≤◌, ◌==◌, cond, List, length, get_or, set, sym, ◌∙◌, ap, subst, refl, arith, All, Option, Some, None, length-set, get_or-set_same, get_or-set_other, set-set, eqb_tells, State, Tables, owner_of, record_at, block_at, handle_at, call_at, holders, users, is_block, reading, IsSound, Fits, FitsCall, Shares, SpeaksOf, hidden, readies, counted, called, edited, with_handle, part, Handle, Share, View, Pending, Loaded, Ready, Add, Subtract, Release, Descriptor, Counted, count-some, owner-kept, shares-kept, promised-kept, handles-fit-set, at-some, owner-counted, ne_eqb, eq-eqb, fits-at, alone-at, live-inside, lies-still, alone-described, describes-described, describes-counted, describes-few, no_record, record-log-counted, call-fits, fit-on, set-get_or, Swapped, calls-fit-set, counts-swapped, holders-le-users, swaps-set}
+use Rattle.iobufs_owner.proofs.Base.{◌≡◌, inl, inr, ℕ, ◌+◌, ◌^◌, ◌<◌, ◌≤◌, ◌==◌, cond, List, length, get_or, set, sym, ◌∙◌, ap, subst, refl, arith, All, Option, Some, None, length-set, get_or-set_same, get_or-set_other, set-set, eqb_tells, State, Tables, owner_of, record_at, block_at, handle_at, call_at, holders, users, is_block, reading, IsSound, Fits, FitsCall, Shares, SpeaksOf, hidden, readies, counted, called, edited, with_handle, part, Handle, Share, View, Pending, Loaded, Ready, Add, Subtract, Release, Descriptor, Counted, count-some, owner-kept, shares-kept, promised-kept, handles-fit-set, at-some, owner-counted, ne_eqb, eq-eqb, fits-at, alone-at, live-inside, lies-still, alone-described, describes-few, no_record, record-log-counted, call-fits, fit-on, set-get_or, Swapped, calls-fit-set, counts-swapped, holders-le-users, swaps-set}
 use Rattle.iobufs_owner.proofs.Soundness.AddHolder.{sound-added, counted-keeps, counted-let_go, counted-block, counted-live, counted-same, counted-rest}
 use Rattle.iobufs_owner.proofs.Soundness.Frame.{block-log-still, sound-framed}
 
@@ -26,11 +26,12 @@ record IsStillPromised (s : State) (part : Share) (w b : ℕ) : Type 0 where
   pub shares : Shares s part view
   pub promised : SpeaksOf s.tables view w b
 
--- in a sound machine the record of a clone or slice in the race is hidden, and counts two
+-- a record that one call has made and not shown, and that counts two
 pub record IsHidden (s : State) (r : ℕ) : Type 0 where
   pub once : hidden s.calls r ≡ 1
   pub two : (record_at s.tables r).count ≡ 2
 
+-- in a sound machine the record of a clone or slice in the race is hidden
 pub racing : (s : State) (p r w : ℕ) (part : Share) → IsSound s → call_at s p ≡ Some (Ready part w r) → IsHidden s r
 racing s p r w part k at =
     let me = k.counted r (call-fits s p (Ready part w r) k at).live in
@@ -45,7 +46,7 @@ share-shown s p h r x b part z y d at l fit o bl sh pr =
     let g : Tables = s.tables in
     let g' : Tables = counted s.tables r 1 in
     let e = counted-keeps g r 1 in
-    let q = promised-kept g g' y z d e (owner-kept g g' s.calls y e (rw sh.at at (fit part.handle None (at-some s.handles _ y sh.at)))) pr in
+    let q = promised-kept g g' y z d e (owner-kept g g' s.calls y e (rw sh.at at (fit _ None (at-some s.handles _ y sh.at)))) pr in
     elim (eqb_tells part.handle h) [
       | inl i ↦ (let yx : y ≡ x = some-same y x (sym sh.at ∙ ap (λ n. get_or s.handles n None) i.1 ∙ at) in
           let q' : SpeaksOf g' x z d = subst (λ (y : Handle). SpeaksOf g' y z d) yx q in
@@ -144,7 +145,7 @@ sound-shown s p r w part x k atp at word =
     let one : holders (reading s) b ≡ 1 = alone-at s h x b k at (alone-described g b x w word ∙ ap (is_block b) o ∙ eq-eqb b b refl) in
     let me = k.counted r f.live in
     let mine : hidden (set s.calls p None) r ≡ 0 = (let z = rw (eq-eqb r r refl) at (hid r) in let m = me.one_maker in omega (arith, z)) in
-    let dm = rw (describes-described g' b x w word ∙ ap (is_block b) ox ∙ eq-eqb b b refl, describes-counted g' b y r refl) at (v.describes b) in
+    let dm = rw (ox, oy, word, eq-eqb b b refl) at (v.describes b) in
     let one' : holders (reading next) b ≡ 1 = hm b ∙ one in
     let some : 0 < users (reading next) b = omega (arith, one', holders-le-users (reading next) b) in
     let here : (record_at g' r).block ≡ b = counted-block g r 1 r ∙ f.same in
@@ -214,6 +215,5 @@ sound-won s p r w part' x k at atx xw few =
       within = sh.within;
     } in
     let count1 : (record_at s1.tables r).count ≡ 1 = counted-same g r 1 inside in
-    let ceiling = k.size.ceiling in
     rw (twice s.tables r inside (racing s p r w part' k at).two) at
-    (sound-added s1 r part' (by_record x r) one sh1 refl (omega (arith, count1, ceiling)) (rw length-set few))
+    (sound-added s1 r part' (by_record x r) one sh1 refl (omega (arith, count1)) (rw length-set few))
