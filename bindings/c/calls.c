@@ -235,9 +235,12 @@ static void make_drained(struct iobufmut_at *buffer) {
 
 static void buffer_of_none(void) {
     PART(none);
+    uint8_t *at = NULL;
     CHECK(iobufmut_len(&none) == 0);
     CHECK(iobufmut_capacity(&none) == 0);
     CHECK(iobufmut_remaining_mut(&none) == 0);
+    CHECK(iobufmut_chunk(&none, &at) == 0);
+    CHECK(at != NULL);
     OK(iobufmut_put_slice(&none, bytes(""), 0));
     CHECK(iobufmut_put_slice(&none, bytes("x"), 1) == IOBUFS_OUT_OF_RANGE);
     CHECK(iobufmut_put_u8(&none, 1) == IOBUFS_OUT_OF_RANGE);
@@ -555,7 +558,7 @@ static void text_append_all(void) {
 
 /* ---- iobufsmut ---- */
 
-/* Makes parts of two buffers of these capacities; a handle between them, without a buffer, counts for nothing. */
+/* Makes parts of two buffers of these capacities; an empty buffer between them counts for nothing. */
 static void make_parts(struct iobufsmut_at *parts, size_t one, size_t other) {
     PART(first); PART(second); PART(none);
     OK(iobufmut_with_capacity(one, &first));
@@ -576,6 +579,7 @@ static void parts_of_few(void) {
     CHECK(iobufsmut_part_count(&parts) == 1);
     CHECK(iobufsmut_put_u8(&parts, 1) == IOBUFS_OUT_OF_RANGE);
     CHECK(iobufsmut_chunk(&parts, &at) == 0);
+    CHECK(at != NULL);
     OK(iobufmut_with_capacity(4, &buffer));
     iobufsmut_from_mut(&buffer, &parts);
     CHECK(iobufsmut_capacity(&parts) == 4);
@@ -661,12 +665,15 @@ static void parts_coalesce(void) {
 static void builders(void) {
     BUILDER(builder); VIEW(hello); TEXT(text);
     HELLO(hello);
-    CHECK(iobufs_builder_push(&builder, &hello) == IOBUFS_DECLINED);
-    CHECK(view_is(&hello, "hello world"));
+    OK(iobufs_builder_finish(&builder, &text));
+    CHECK(text_is(&text, ""));
+    OK(iobufs_builder_push(&builder, &hello)); /* an empty builder takes views, and no byte */
+    CHECK(view_is(&hello, ""));
     CHECK(iobufs_builder_put_u8(&builder, 1) == IOBUFS_OUT_OF_RANGE);
     CHECK(iobufs_builder_remaining_mut(&builder) == 0);
     OK(iobufs_builder_finish(&builder, &text));
-    CHECK(text_is(&text, ""));
+    CHECK(text_is(&text, "hello world"));
+    HELLO(hello);
     CHECK(iobufs_builder_new(SIZE_MAX, &builder) == IOBUFS_BAD_LAYOUT);
     OK(iobufs_builder_new(6, &builder));
     OK(iobufs_builder_put_length(&builder, 11));
@@ -883,16 +890,18 @@ static void received_of_none(void) {
     RECEIVED(none); VIEW(body);
     uint8_t *at = NULL;
     size_t space = 7, wrong = 0;
-    CHECK(iobufs_frames_space(&none, &at, &space) == IOBUFS_DECLINED);
-    CHECK(at == NULL);
-    CHECK(space == 7);
     CHECK(iobufs_received_len(&none) == 0);
     CHECK(iobufs_frames_filled(&none, 1) == IOBUFS_OUT_OF_RANGE);
     CHECK(iobufs_received_next(&none, 0, 9, &body, &wrong) == IOBUFS_END_OF_BUFFER);
     OK(iobufs_frames_filled(&none, 0));
     CHECK(iobufs_received_new(10, &none) == IOBUFS_BAD_KIND);
     CHECK(iobufs_received_new(255, &none) == IOBUFS_BAD_KIND);
-    CHECK(iobufs_frames_space(&none, &at, &space) == IOBUFS_DECLINED);
+    OK(iobufs_frames_space(&none, &at, &space));
+    CHECK(space != 7 && space > 0);
+    receive(&none, "\2hi", 3); /* its lengths are varints */
+    OK(iobufs_received_next(&none, 0, 9, &body, &wrong));
+    CHECK(view_is(&body, "hi"));
+    iobufs_received_drop(&none); iobuf_drop(&body);
 }
 
 /* No contract says where the space is, and that bytes that are written there are received. */

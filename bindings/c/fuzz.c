@@ -30,14 +30,14 @@ enum { NO_BLOCK = 0, BUILDERS_BLOCK = -1 };
 
 /* A view. `room` is the capacity of the writable buffer that it becomes, if its block is its own. */
 struct view { uint8_t at[MOST]; size_t len; int block; size_t room; };
-/* A writable buffer, if one is there. */
-struct part { int there; uint8_t at[MOST]; size_t len, capacity; };
+/* A writable buffer. */
+struct part { uint8_t at[MOST]; size_t len, capacity; };
 /* A text: its views. An empty text has one, without bytes. */
 struct text { struct view piece[PIECES]; size_t count; };
 /* Several writable buffers. */
 struct row { struct part part[ROW_PARTS]; size_t count; };
 /* A builder: how many bytes it may still write, how many it has written since the last pushed view, and all of them. */
-struct builder { int there; size_t room, inline_len; struct text text; };
+struct builder { size_t room, inline_len; struct text text; };
 
 static int holders[BLOCKS]; /* how many views share each block */
 static const struct view no_bytes;
@@ -76,14 +76,14 @@ static struct view between(const struct view *v, size_t from, size_t to) {
 }
 /* A writable buffer of these bytes. */
 static struct part part_of(const uint8_t *at, size_t len, size_t capacity) {
-    struct part p = { 1, { 0 }, len, capacity };
+    struct part p = { { 0 }, len, capacity };
     memcpy(p.at, at, len);
     return p;
 }
-/* A buffer becomes a view, and none is left. */
+/* A buffer becomes a view, and an empty one is left. */
 static struct view frozen(struct part *p) {
     struct view v = no_bytes;
-    if (p->there && p->len) {
+    if (p->len) {
         memcpy(v.at, p->at, p->len);
         v.len = p->len;
         v.room = p->capacity;
@@ -182,19 +182,19 @@ static size_t row_capacity(const struct row *r) {
     for (size_t i = 0; i < r->count; i++) n += r->part[i].capacity;
     return n;
 }
-/* No row is left: that reads as one buffer without bytes. */
+/* The empty row is left: one buffer without bytes. */
 static void no_row(struct row *r) {
     r->part[0] = no_part;
     r->count = 1;
 }
-/* Buffers without capacity are left out of a row; if all are, it has one that is there. */
+/* Buffers without capacity are left out of a row; if all are, it has one. */
 static void keep_parts(struct row *r) {
     size_t kept = 0;
     for (size_t i = 0; i < r->count; i++) {
         struct part p = r->part[i];
         if (p.capacity) r->part[kept++] = p;
     }
-    if (kept == 0) r->part[kept++] = part_of(no_part.at, 0, 0);
+    if (kept == 0) r->part[kept++] = no_part;
     r->count = kept;
 }
 static void row_bytes(const struct row *r, uint8_t *out) {
@@ -756,7 +756,7 @@ static void text_call(int text, int out, int view) {
     same_view(view);
 }
 
-/* A row of some of the writable buffers, none of which is left. One that is too long is dropped. */
+/* A row of some of the writable buffers, which are left empty. One that is too long is dropped. */
 static void row_of_parts(int row) {
     struct row *r = &rows[row];
     struct iobufmut_at places[VIEWS];
@@ -764,7 +764,7 @@ static void row_of_parts(int row) {
     r->count = 0;
     for (size_t p = 0; p < count; p++) {
         places[p] = part_at[p];
-        if (parts[p].there) r->part[r->count++] = parts[p];
+        r->part[r->count++] = parts[p];
         parts[p] = no_part;
     }
     keep_parts(r);
@@ -819,7 +819,7 @@ static void row_copy_out(int row, size_t n) {
     CHECK(!memcmp(some, all, n));
     row_drain(r, n);
 }
-/* The views of the buffers are a text, and no row is left. */
+/* The views of the buffers are a text, and the empty row is left. */
 static void row_freeze(int row, int text) {
     struct row *r = &rows[row];
     OK(iobufsmut_freeze(&row_at[row], &text_at[text]));
@@ -831,7 +831,7 @@ static void row_freeze(int row, int text) {
     no_row(r);
     same_text(text);
 }
-/* One buffer moves, several are copied, and no row is left. */
+/* One buffer moves, several are copied, and the empty row is left. */
 static void row_coalesce(int row, int part) {
     struct row *r = &rows[row];
     uint8_t all[ROW_PARTS * MOST];
@@ -882,11 +882,10 @@ static void builder_put(const uint8_t *at, size_t n) {
     builder.inline_len += n;
 }
 static void builder_new(void) {
-    if (builder.there) return;
+    if (builder.room || builder.text.count) return;
     size_t n = below(MOST_ROOM);
     OK(iobufs_builder_new(n, &builder_at));
     builder = no_builder;
-    builder.there = 1;
     builder.room = n;
 }
 static void builder_put_slice(size_t n) {
@@ -905,8 +904,7 @@ static void builder_put_u32(uint32_t four) {
 static void builder_push(int view) {
     struct view *v = &views[view];
     if (builder.text.count > MOST_BUILT) return;
-    CHECK(iobufs_builder_push(&builder_at, &view_at[view]) == (builder.there ? IOBUFS_OK : IOBUFS_DECLINED));
-    if (!builder.there) return;
+    OK(iobufs_builder_push(&builder_at, &view_at[view]));
     if (v->len == 0) { let_go(v); return; }
     builder.text.piece[builder.text.count++] = *v;
     builder.inline_len = 0;

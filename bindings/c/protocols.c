@@ -246,7 +246,7 @@ static void statuses(void) {
               == unwritten[i].status);
     CHECK(iobufs_received_with_layout(&unknown, &block) == IOBUFS_BAD_KIND);
     CHECK(iobufs_received_set_layout(&block, &unknown) == IOBUFS_BAD_KIND);
-    CHECK(iobufs_received_set_layout(&block, &typed) == IOBUFS_DECLINED);
+    OK(iobufs_received_set_layout(&block, &typed));
     CHECK(iobufs_received_next_whole(&block, 0, 9, &whole, &header, &wrong) == IOBUFS_END_OF_BUFFER);
     CHECK(header == 99);
 }

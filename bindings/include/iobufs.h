@@ -65,7 +65,7 @@ enum iobufs_code {
     IOBUFS_END_OF_BUFFER = 5,  /* fewer bytes remain than the call needs */
     IOBUFS_INVALID_VARINT = 6, /* the bytes are an invalid varint */
     IOBUFS_INVALID_LENGTH = 7, /* the length is outside the range, or below `counts` */
-    IOBUFS_DECLINED = 8,       /* the buffer can't be converted, there is none, or both are one; all stays */
+    IOBUFS_DECLINED = 8,       /* the buffer can't be converted, or both are one; all stays */
     IOBUFS_BAD_KIND = 9       /* the kind of a bound, or a prefix, is unknown */
 };
 typedef uint8_t iobufs_status;
@@ -90,21 +90,21 @@ static inline const char *iobufs_strerror(iobufs_status status) {
 /* Sizes and the alignment, of which a buffer's memory has to be. The library's own are at most these, and depend on how it
  * was built; `iobuf_size()` .. return the sizes. */
 #define IOBUF_SIZE 48
-#define IOBUFMUT_SIZE 64
+#define IOBUFMUT_SIZE 56
 #define IOBUFS_SIZE 56
-#define IOBUFSMUT_SIZE 184
-#define IOBUFS_BUILDER_SIZE 120
+#define IOBUFSMUT_SIZE 80
+#define IOBUFS_BUILDER_SIZE 112
 #define IOBUFS_FRAMES_SIZE 64
-#define IOBUFS_RECEIVED_SIZE 120
+#define IOBUFS_RECEIVED_SIZE 112
 #define IOBUFS_ALIGN 8
 
 struct iobuf { uint64_t room[IOBUF_SIZE / 8]; };                   /* IoBuf: bytes to read, in one chunk */
-struct iobufmut { uint64_t room[IOBUFMUT_SIZE / 8]; };             /* IoBufMut: a buffer to write, or none */
+struct iobufmut { uint64_t room[IOBUFMUT_SIZE / 8]; };             /* IoBufMut: a buffer to write */
 struct iobufs { uint64_t room[IOBUFS_SIZE / 8]; };                 /* IoBufs: bytes in several chunks */
-struct iobufsmut { uint64_t room[IOBUFSMUT_SIZE / 8]; };           /* IoBufsMut: parts to write, or none */
-struct iobufs_builder { uint64_t room[IOBUFS_BUILDER_SIZE / 8]; }; /* Builder: an iobufs in the making, or none */
+struct iobufsmut { uint64_t room[IOBUFSMUT_SIZE / 8]; };           /* IoBufsMut: parts to write */
+struct iobufs_builder { uint64_t room[IOBUFS_BUILDER_SIZE / 8]; }; /* Builder: an iobufs in the making */
 struct iobufs_frames { uint64_t room[IOBUFS_FRAMES_SIZE / 8]; };   /* Frames: frames of bytes that come in chunks */
-struct iobufs_received { uint64_t room[IOBUFS_RECEIVED_SIZE / 8]; }; /* Received: frames of bytes that are read into one block, or none */
+struct iobufs_received { uint64_t room[IOBUFS_RECEIVED_SIZE / 8]; }; /* Received: frames of bytes that are read into one block */
 
 /* Handles. */
 struct iobuf_at { struct iobuf *at; };
@@ -116,7 +116,8 @@ struct iobufs_frames_at { struct iobufs_frames *at; };
 struct iobufs_received_at { struct iobufs_received *at; };
 
 /* `struct iobuf_at view = IOBUF_INIT;` makes an empty buffer, whose memory lives as long as the block around it (C alone):
- * one line in place of the memory, the handle and the call of `.._init`. */
+ * one line in place of the memory, the handle and the call of `.._init`. IOBUFS_RECEIVED_INIT makes an empty receive block
+ * of frames whose headers are varint lengths; `iobufs_received_new` makes one of other lengths. */
 #ifndef __cplusplus
 #define IOBUF_INIT iobuf_made(&(struct iobuf){{0}})
 #define IOBUFMUT_INIT iobufmut_made(&(struct iobufmut){{0}})
@@ -197,13 +198,13 @@ IOBUFS_CHECKED iobufs_status iobuf_slice(const struct iobuf_at *src, uint8_t lo_
  * Keeps: the view. */
 IOBUFS_CHECKED iobufs_status iobuf_try_into_mut(struct iobuf_at *src, struct iobufmut_at *out);
 
-/* ---- iobufmut (IoBufMut): a buffer to write, which never grows. A handle without one reads as one of capacity 0 ---- */
+/* ---- iobufmut (IoBufMut): a buffer to write, which never grows. The empty one has capacity 0 ---- */
 
 /* The library's size of a `struct iobufmut`. */
 size_t iobufmut_size(void);
-/* Makes a handle with no buffer of memory. */
+/* Makes the empty buffer of memory. (IoBufMut::default) */
 void iobufmut_init(struct iobufmut *at);
-/* Drops the buffer; none is left. (Drop) */
+/* Drops the buffer; the empty one is left. (Drop) */
 void iobufmut_drop(struct iobufmut_at *part);
 /* An empty buffer of capacity n. (IoBufMut::with_capacity)
  * Fails: IOBUFS_BAD_LAYOUT if n is above SSIZE_MAX; IOBUFS_MEMORY except for 0. */
@@ -225,7 +226,7 @@ size_t iobufmut_capacity(const struct iobufmut_at *part);
 /* How many bytes may still be put. (BufMut::remaining_mut) */
 size_t iobufmut_remaining_mut(const struct iobufmut_at *part);
 /* Writes a pointer to the readable bytes, as iobuf_chunk does, and returns how many there are; they may be
- * overwritten there. If there is no buffer, no pointer is written. (AsRef, AsMut) */
+ * overwritten there. (AsRef, AsMut) */
 size_t iobufmut_chunk(struct iobufmut_at *part, uint8_t **out);
 /* Appends bytes. (BufMut::put_slice)
  * Fails: IOBUFS_OUT_OF_RANGE if they don't fit. */
@@ -262,7 +263,7 @@ IOBUFS_CHECKED iobufs_status iobufmut_advance(struct iobufmut_at *part, size_t n
 /* Copies the first n bytes out and drops them. (Buf::copy_to_slice)
  * Fails: IOBUFS_END_OF_BUFFER if there are fewer. */
 IOBUFS_CHECKED iobufs_status iobufmut_copy_to_slice(struct iobufmut_at *part, uint8_t *dst, size_t n);
-/* The bytes as a view, not copied; no buffer is left. (freeze)
+/* The bytes as a view, not copied; the empty buffer is left. (freeze)
  * Fails: IOBUFS_MEMORY (reserved), and the buffer is dropped. */
 IOBUFS_CHECKED iobufs_status iobufmut_freeze(struct iobufmut_at *part, struct iobuf_at *out);
 
@@ -339,17 +340,17 @@ IOBUFS_CHECKED iobufs_status iobufs_coalesce(struct iobufs_at *bufs, struct iobu
  * Keeps: the chunks. */
 IOBUFS_CHECKED iobufs_status iobufs_try_into_single(struct iobufs_at *bufs, struct iobuf_at *out);
 
-/* ---- iobufsmut (IoBufsMut): writable buffers (parts) as one. A handle without any reads as one part of capacity 0 ---- */
+/* ---- iobufsmut (IoBufsMut): writable buffers (parts) as one. The empty one has one part, of capacity 0 ---- */
 
 /* The library's size of a `struct iobufsmut`. */
 size_t iobufsmut_size(void);
-/* Makes a handle with no parts of memory. */
+/* Makes the empty iobufsmut of memory. (IoBufsMut::default) */
 void iobufsmut_init(struct iobufsmut *at);
-/* Drops the buffers; none are left. (Drop) */
+/* Drops the buffers; the empty iobufsmut is left. (Drop) */
 void iobufsmut_drop(struct iobufsmut_at *parts);
-/* The one part of a buffer; none is left. (From<IoBufMut>) */
+/* The one part of a buffer, whose handle is left empty. (From<IoBufMut>) */
 void iobufsmut_from_mut(struct iobufmut_at *part, struct iobufsmut_at *out);
-/* The buffers of n handles in order, without those that can hold no byte; none are left there. (FromIterator)
+/* The buffers of n handles in order, without those that can hold no byte; the handles are left empty. (FromIterator)
  * Fails: IOBUFS_TOO_LONG if the capacities would pass SIZE_MAX; IOBUFS_MEMORY. After both the buffers may be
  *   dropped. */
 IOBUFS_CHECKED iobufs_status iobufsmut_from_parts(struct iobufmut_at *buffers, size_t n, struct iobufsmut_at *out);
@@ -362,7 +363,7 @@ size_t iobufsmut_remaining_mut(const struct iobufsmut_at *parts);
 /* The number of parts. (own) */
 size_t iobufsmut_part_count(const struct iobufsmut_at *parts);
 /* Writes a pointer to the first chunk of the readable bytes, as iobuf_chunk does, and returns the chunk's length; its
- * bytes may be overwritten there. If there are no parts, no pointer is written. (Buf::chunk) */
+ * bytes may be overwritten there. (Buf::chunk) */
 size_t iobufsmut_chunk(struct iobufsmut_at *parts, uint8_t **out);
 /* Fills a list of n for readv (or writev) with the first chunks of the readable bytes, and returns how many it
  * filled. To read into parts, set their length first. (Buf::chunks_vectored) */
@@ -398,21 +399,22 @@ IOBUFS_CHECKED iobufs_status iobufsmut_advance(struct iobufsmut_at *parts, size_
 /* Copies the first n bytes out and drops them. (Buf::copy_to_slice)
  * Fails: IOBUFS_END_OF_BUFFER if there are fewer. */
 IOBUFS_CHECKED iobufs_status iobufsmut_copy_to_slice(struct iobufsmut_at *parts, uint8_t *dst, size_t n);
-/* The parts that hold bytes as the chunks of one iobufs, not copied; none are left. (freeze)
+/* The parts that hold bytes as the chunks of one iobufs, not copied; the empty iobufsmut is left. (freeze)
  * Fails: IOBUFS_MEMORY, for the deque, and the parts are dropped. */
 IOBUFS_CHECKED iobufs_status iobufsmut_freeze(struct iobufsmut_at *parts, struct iobufs_at *out);
-/* The parts as one buffer; the bytes of several are copied, perhaps into the first one's storage. None
- * are left, also after an error. (coalesce)
+/* The parts as one buffer; the bytes of several are copied, perhaps into the first one's storage. The empty
+ * iobufsmut is left, also after an error. (coalesce)
  * Fails: IOBUFS_BAD_LAYOUT if several have more than SSIZE_MAX bytes; IOBUFS_MEMORY, for the copy. */
 IOBUFS_CHECKED iobufs_status iobufsmut_coalesce(struct iobufsmut_at *parts, struct iobufmut_at *out);
 
-/* ---- iobufs_builder (Builder): bytes that are put, and views that are pushed, as one iobufs ---- */
+/* ---- iobufs_builder (Builder): bytes that are put, and views that are pushed, as one iobufs. The empty one takes views
+ * alone ---- */
 
 /* The library's size of a `struct iobufs_builder`. */
 size_t iobufs_builder_size(void);
-/* Makes a handle with no builder of memory. */
+/* Makes the empty builder of memory. (own) */
 void iobufs_builder_init(struct iobufs_builder *at);
-/* Drops the builder; none is left. (Drop) */
+/* Drops the builder; the empty one is left. (Drop) */
 void iobufs_builder_drop(struct iobufs_builder_at *builder);
 /* A builder for this many bytes that are put. (Builder::new)
  * Fails: IOBUFS_BAD_LAYOUT if they are above SSIZE_MAX; IOBUFS_MEMORY except for 0. */
@@ -441,11 +443,10 @@ IOBUFS_CHECKED iobufs_status iobufs_builder_put_u64(struct iobufs_builder_at *bu
  * Fails: IOBUFS_OUT_OF_RANGE if it doesn't fit. */
 IOBUFS_CHECKED iobufs_status iobufs_builder_put_length(struct iobufs_builder_at *builder, size_t n);
 /* Pushes a view, not copied, and leaves its handle empty. (Builder::push)
- * Fails: IOBUFS_DECLINED if there is no builder; IOBUFS_TOO_LONG if the bytes would pass SIZE_MAX; IOBUFS_MEMORY,
- *   for the deque.
+ * Fails: IOBUFS_TOO_LONG if the bytes would pass SIZE_MAX; IOBUFS_MEMORY, for the deque.
  * Keeps: both. */
 IOBUFS_CHECKED iobufs_status iobufs_builder_push(struct iobufs_builder_at *builder, struct iobuf_at *view);
-/* All that was put and pushed as an iobufs; no builder is left, also after an error. (Builder::finish)
+/* All that was put and pushed as an iobufs; the empty builder is left, also after an error. (Builder::finish)
  * Fails: IOBUFS_MEMORY (reserved). */
 IOBUFS_CHECKED iobufs_status iobufs_builder_finish(struct iobufs_builder_at *builder, struct iobufs_at *out);
 
@@ -567,29 +568,30 @@ IOBUFS_CHECKED iobufs_status iobufs_frames_head(uint8_t prefix, size_t n, uint8_
 IOBUFS_CHECKED iobufs_status iobufs_frames_header(const struct iobufs_layout *layout, const uint8_t *around, size_t count, size_t n,
     uint8_t *out, size_t room, size_t *len);
 
-/* ---- iobufs_received (Received): frames of bytes that are read into one block. A handle without one reads as one that holds nothing ---- */
+/* ---- iobufs_received (Received): frames of bytes that are read into one block ---- */
 
 /* The library's size of a `struct iobufs_received`. */
 size_t iobufs_received_size(void);
-/* Makes a handle with no receive block of memory. */
+/* Makes an empty receive block of memory, of frames whose headers are varint lengths. (own) */
 void iobufs_received_init(struct iobufs_received *at);
-/* Drops what came and was not taken; no receive block is left. (Drop) */
+/* Drops what came and was not taken; what iobufs_received_init makes is left. (Drop) */
 void iobufs_received_drop(struct iobufs_received_at *received);
-/* An empty receive block of frames whose lengths are written as an `enum iobufs_prefix`. (own)
+/* An empty receive block of frames whose lengths are written as an `enum iobufs_prefix`: of varints, what
+ * iobufs_received_init makes. (own)
  * Fails: IOBUFS_BAD_KIND if it is none. */
 IOBUFS_CHECKED iobufs_status iobufs_received_new(uint8_t prefix, struct iobufs_received_at *out);
 /* An empty receive block of frames with this layout. (own)
  * Fails: IOBUFS_BAD_KIND if `layout->prefix` is no `enum iobufs_prefix`. */
 IOBUFS_CHECKED iobufs_status iobufs_received_with_layout(const struct iobufs_layout *layout, struct iobufs_received_at *out);
 /* Sets the layout of the headers, from the next frame on. (own)
- * Fails: IOBUFS_BAD_KIND if `layout->prefix` is no `enum iobufs_prefix`; IOBUFS_DECLINED if there is no receive block. */
+ * Fails: IOBUFS_BAD_KIND if `layout->prefix` is no `enum iobufs_prefix`. */
 IOBUFS_CHECKED iobufs_status iobufs_received_set_layout(struct iobufs_received_at *received, const struct iobufs_layout *layout);
 /* How many bytes came and were not taken. (own) */
 size_t iobufs_received_len(const struct iobufs_received_at *received);
 /* Lends the space for a read: writes its address to `out`, and to `n` how many bytes it has, at least one. They are
  * zeros, or what the block held before. If there is no space, it uses the block again if no body shares it, and else
  * allocates. It also allocates after a frame above 64 KiB, which has a block of its own. (own)
- * Fails: IOBUFS_DECLINED if there is no receive block; IOBUFS_MEMORY if it allocates. */
+ * Fails: IOBUFS_MEMORY if it allocates. */
 IOBUFS_CHECKED iobufs_status iobufs_frames_space(struct iobufs_received_at *received, uint8_t **out, size_t *n);
 /* Counts the first n bytes of the space as received, after they were written there; the space is what is after them.
  * (own)

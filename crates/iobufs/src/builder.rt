@@ -70,6 +70,19 @@ fn make_room(pushes: &mut Gapped, pushable: usize, len: usize) -> Result<(), Buf
 }
 
 impl Builder {
+    /// Makes a builder without space for inline bytes, to which views may be pushed. Allocates nothing.
+    #[tactic(auto, using(crate::proofs::Building::BuildLaws::building))]
+    pub fn empty(alloc: Global) -> Builder
+        ensures { result ≡ empty_building 0 }
+    {
+        Builder {
+            inline: IoBufMut::new(alloc),
+            pushes: Gapped::new(alloc),
+            placed: 0,
+            pushable: usize::MAX,
+        }
+    }
+
     /// Makes a builder for this many inline bytes (`Builder::new`). Fails with `BufError::BadLayout` above
     /// `isize::MAX`, and with `BufError::Memory` if allocation fails.
     #[tactic(auto, using(crate::proofs::Building::BuildLaws::building))]

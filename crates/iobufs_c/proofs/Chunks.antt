@@ -1,9 +1,8 @@
--- Lists that are filled place by place: with the chunks of parts and their lengths, and with the buffers at places.
-use Rattle.std.proofs.Common.{◌≡◌, ℕ, zero, suc, ◌<◌, ◌≤◌, ◌+◌, ◌==◌, true, false, Option, None, replicate, slice_index_or, List, [], ◌∷◌, ◌++◌, length, map, take, drop, Some, slice_get, slice_set, arith, ap, sym, refl, ◌∙◌, length-take, take-append-drop, append-nil}
+-- Lists that are filled place by place: with the chunks of parts and their lengths, and with the values of places.
+use Rattle.std.proofs.Common.{◌≡◌, ℕ, zero, suc, ◌<◌, ◌≤◌, ◌+◌, ◌==◌, true, false, replicate, slice_index_or, List, [], ◌∷◌, ◌++◌, length, map, take, drop, Some, slice_get, slice_set, arith, ap, sym, refl, ◌∙◌, length-take, take-append-drop, append-nil}
 use Rattle.std.proofs.Math.Seq.{drop-append-add, map-set_same, take-append-add, take-append_seam}
 use Rattle.std.proofs.lemmas.Bool.Decides.{nat_tests}
 use Rattle.std.proofs.lemmas.Grind.{common_steps, replicate_next}
-use Rattle.iobufs_c.specs.Rows.{held_parts}
 use Rattle.std.proofs.lemmas.List.Elements.{filter-append}
 use Rattle.iobufs.specs.Parts.{parts_chunks}
 use Rattle.iobufs_core.specs.Chunks.{full_chunks, is_full}
@@ -122,7 +121,7 @@ first_chunks parts i n count =
     ap (take n) (chunks_split parts i) ∙ ap (λ k. take k (parts_chunks (take i parts) ++ parts_chunks (drop i parts))) (sym count)
     ∙ take-append_seam (parts_chunks (take i parts)) (parts_chunks (drop i parts))
 
--- ---- the buffers of places
+-- ---- the values of places
 
 -- where the first i elements are mapped to a value, and so is one that is put into the next place, the first i + 1 are
 pub taken_more : {X Y : Type 0} (f : X → Y) (xs : List X) (i : ℕ) (x : X) (y : Y) → i < length xs → f x ≡ y
@@ -138,18 +137,6 @@ pub places_same : {X Y : Type 0} (f : X → Y) (xs : List X) (i : ℕ) (x d : X)
     → map f (slice_set xs i x) ≡ map f xs
 places_same f xs i x d same = map-set_same f xs i x d same
 
-held-append : (xs ys : List (Option Part)) → held_parts (xs ++ ys) ≡ held_parts xs ++ held_parts ys
-held-append [] ys = refl
-held-append (Some part ∷ xs) ys = ap (λ ps. part ∷ ps) (held-append xs ys)
-held-append (None ∷ xs) ys = held-append xs ys
-
--- the buffers of one place more
-held_more : {X : Type 0} (f : X → Option Part) (xs : List X) (i : ℕ) (x : X) → i < length xs
-    → held_parts (map f (take (i + 1) xs)) ≡ held_parts (map f (take i xs)) ++ held_parts (f (slice_index_or xs i x) ∷ [])
-held_more f xs i x inside =
-    ap (λ ys. held_parts (map f ys)) (take_more xs i x inside) ∙ ap held_parts (map-append f (take i xs) (slice_index_or xs i x ∷ []))
-    ∙ held-append (map f (take i xs)) (f (slice_index_or xs i x) ∷ [])
-
 -- a place after those that changed is as it was
 pub place_kept : {X : Type 0} (xs old : List X) (i : ℕ) (d : X) → drop i xs ≡ drop i old → slice_index_or xs i d ≡ slice_index_or old i d
 place_kept xs old i d so =
@@ -157,16 +144,9 @@ place_kept xs old i d so =
     ap (λ k. slice_index_or xs k d) (sym same) ∙ sym (get_or-drop i xs 0 d) ∙ ap (λ ys. slice_index_or ys 0 d) so ∙ get_or-drop i old 0 d
     ∙ ap (λ k. slice_index_or old k d) same
 
--- so the next place adds its buffer, or nothing
-pub held_next : {X : Type 0} (f : X → Option Part) (xs : List X) (i : ℕ) (d : X) (part : Part) → i < length xs
-    → f (slice_index_or xs i d) ≡ Some part
-    → held_parts (map f (take i xs)) ++ part ∷ [] ≡ held_parts (map f (take (i + 1) xs))
-held_next f xs i d part inside at = ap (λ place. held_parts (map f (take i xs)) ++ held_parts (place ∷ [])) (sym at)
-    ∙ sym (held_more f xs i d inside)
-
--- a place without a buffer adds none to those at the places before it
-pub held_same : {X : Type 0} (f : X → Option Part) (xs : List X) (i : ℕ) (d : X) → i < length xs → f (slice_index_or xs i d) ≡ None
-    → held_parts (map f (take i xs)) ≡ held_parts (map f (take (i + 1) xs))
-held_same f xs i d inside at =
-    sym (append-nil (held_parts (map f (take i xs)))) ∙ ap (λ place. held_parts (map f (take i xs)) ++ held_parts (place ∷ [])) (sym at)
-    ∙ sym (held_more f xs i d inside)
+-- so the next place adds its value
+pub value_next : {X Y : Type 0} (f : X → Y) (xs : List X) (i : ℕ) (d : X) (y : Y) → i < length xs → f (slice_index_or xs i d) ≡ y
+    → map f (take i xs) ++ y ∷ [] ≡ map f (take (i + 1) xs)
+value_next f xs i d y inside at =
+    ap (λ z. map f (take i xs) ++ z ∷ []) (sym at) ∙ sym (map-append f (take i xs) (slice_index_or xs i d ∷ []))
+    ∙ ap (map f) (sym (take_more xs i d inside))

@@ -1,12 +1,9 @@
--- The state of a handle's frames, and of a receive block's handle.
+-- The state of a handle's frames, and how frames are taken from them and from a receive block.
 --     default_frames      nothing was fed, and lengths are varints
 --     prefix_from_c,      how lengths are written, and how headers are laid out, as C says it
 --     layout_from_c
 --     HasHeader,          so many bytes can follow a header with these bytes around its length; and that header
 --     header_for
---     received_row        what the memory holds: a receive block, or none
---     received_or_none    what the handle shows: none reads as one that holds nothing, with varints
---     AreBoth             a receive block became another one; none stays none
 --     length_told         the invalid length that is written
 --     IsTold              the status of taking a frame, and what is written
 --     TakesOf, ReceivesBy the first frame is taken from frames, and from a receive block, and nothing else changes
@@ -14,19 +11,16 @@
 --     TakesWholeOf,
 --     TakesReceived,
 --     TakesWholeReceived
-use denote.RattleType.{RattleType}
 use Rattle.std.specs.Prelude.{◌≡◌, ℕ, ◌==◌, if◌then◌else◌, Option, Some, None, Result, Ok, Err, List, take, drop, replicate}
 use Rattle.std.specs.Option.{option_map}
-use Rattle.std.specs.contracts.option.Option.{the_row as option_row}
 use Rattle.iobufs_core.specs.MarkedText.{MarkedText, default_text}
-use Rattle.iobufs_core.specs.View.{View, view_of_bytes}
+use Rattle.iobufs_core.specs.View.{View}
 use Rattle.iobufs_core.specs.declared.codec.base.Error.{Error}
 use Rattle.iobufs_core.specs.declared.codec.base.Error.TheVariants as error
 use Rattle.iobufs_core.specs.declared.codec.base.RangeCfg.{RangeCfg}
 use Rattle.iobufs_frames.specs.Frames.{HasFrameSize, IsCutFrom, IsSplitFrom, MatchTaken, Parts, Takes, has_bytes, header_written, is_any, is_body, is_whole}
 use Rattle.iobufs_frames.specs.Prefixes.{bare}
-use Rattle.iobufs_frames.specs.Receiving.{KeepsSpace, ReceivedBytes, none_received}
-use Rattle.iobufs_frames.specs.contracts.block.Received.{the_row as of_received}
+use Rattle.iobufs_frames.specs.Receiving.{KeepsReceived, ReceivedBytes, is_bytes_view}
 use Rattle.iobufs_frames.specs.declared.Frames.{Frames}
 use Rattle.iobufs_frames.specs.declared.lengths.Layout.{Layout}
 use Rattle.iobufs_frames.specs.declared.lengths.Prefix.{Prefix}
@@ -70,22 +64,6 @@ abbrev pub header_for : Layout → List ℕ → ℕ → List ℕ
 header_for layout around n =
     header_written layout (record { before = take layout.before around; after = drop layout.before around; body = replicate n 0 })
 
--- a receive block, or none
-abbrev pub received_row : RattleType
-received_row = option_row of_received
-
--- none reads as one that holds nothing
-abbrev pub received_or_none : Option ReceivedBytes → ReceivedBytes
-received_or_none (Some received) = received
-received_or_none None = none_received (bare Spelled)
-
--- a receive block became one that is so related to it, or none stays none
-abbrev pub AreBoth : (ReceivedBytes → ReceivedBytes → Type 0) → Option ReceivedBytes → Option ReceivedBytes → Type 0
-AreBoth R (Some old) (Some new) = R old new
-AreBoth R (Some old) None = ⊥
-AreBoth R None (Some new) = ⊥
-AreBoth R None None = Unit {0}
-
 -- the invalid length that is written, if it is that
 abbrev pub length_told : Error → ℕ → ℕ
 length_told (error.InvalidLength n) wrong = n
@@ -118,18 +96,16 @@ TakesWholeOf range old new code out now wrong length =
 
 -- the first frame is taken so from a receive block, as a view of a `Bytes`
 pub record ReceivesBy {T : Type 0} (gives : Parts → T → Type 0) (needs : Parts → Type 0) (view : T → View)
-    (range : RangeCfg) (old new : Option ReceivedBytes) (code : ℕ) (out now : T) (wrong length : ℕ) : Type 0 where
+    (range : RangeCfg) (old new : ReceivedBytes) (code : ℕ) (out now : T) (wrong length : ℕ) : Type 0 where
   pub found : Result (Option T) Error
   pub told : IsTold found code out now wrong length
-  pub next : Takes gives needs (received_or_none old).layout range (received_or_none old).bytes found (received_or_none new).bytes
-  pub rest : MatchTaken found (λ taken. AreBoth (λ had has. (has.layout ≡ had.layout) × KeepsSpace had has) old new
-      × (view taken ≡ view_of_bytes (view taken).bytes)) (new ≡ old)
+  pub next : Takes gives needs old.layout range old.bytes found new.bytes
+  pub rest : KeepsReceived (λ taken. is_bytes_view (view taken)) old found new
 
-abbrev pub TakesReceived : RangeCfg → Option ReceivedBytes → Option ReceivedBytes → ℕ → View → View → ℕ → ℕ → Type 0
+abbrev pub TakesReceived : RangeCfg → ReceivedBytes → ReceivedBytes → ℕ → View → View → ℕ → ℕ → Type 0
 TakesReceived range old new code out now wrong length =
     ReceivesBy is_body has_bytes (λ body. body) range old new code out now wrong length
 
-abbrev pub TakesWholeReceived : RangeCfg → Option ReceivedBytes → Option ReceivedBytes → ℕ → ℕ × View → ℕ × View → ℕ → ℕ → Type 0
+abbrev pub TakesWholeReceived : RangeCfg → ReceivedBytes → ReceivedBytes → ℕ → ℕ × View → ℕ × View → ℕ → ℕ → Type 0
 TakesWholeReceived range old new code out now wrong length =
-    ReceivesBy (is_whole (received_or_none old).layout (λ view. view.bytes)) is_any (λ whole. whole.1) range old new
-    code out now wrong length
+    ReceivesBy (is_whole old.layout (λ view. view.bytes)) is_any (λ whole. whole.1) range old new code out now wrong length

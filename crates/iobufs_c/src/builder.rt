@@ -1,37 +1,33 @@
 // Builders, reached by their handles.
-ghost use Rattle.std.specs.Prelude.{◌≡◌, ◌≤◌, ◌<◌, ◌==◌, ◌∷◌, [], if◌then◌else◌, ◌^◌, length, replicate, nat_le, Option, Some, None};
+ghost use Rattle.std.specs.Prelude.{◌≡◌, ◌≤◌, ◌<◌, ◌==◌, ◌∷◌, [], if◌then◌else◌, ◌^◌, length, replicate, nat_le};
 ghost use Rattle.std.specs.Borrow.{sem, Lends, full_share};
-ghost use Rattle.std.specs.Option.{option_map};
 ghost use Rattle.std.specs.Ptr.{lies_at, room_at};
 ghost use Rattle.iobufs.specs.Building.{Building, building_items, building_push, building_put, building_room, empty_building, finished, room_for_pushes};
+ghost use Rattle.iobufs.specs.contracts.builder.Builder.{the_row as builder_row};
 ghost use Rattle.iobufs_core.specs.Items.{items_inline};
 ghost use Rattle.iobufs_core.specs.View.{default_view};
 ghost use Rattle.iobufs_c.specs.Codes.{IsDoneUnless, code_of};
-ghost use Rattle.iobufs_c.specs.Rows.{builder_row, building_or_empty};
 
-use crate::part::fits;
 use crate::status::{Status, refusal, within};
 use crate::text::{TextAt, hand_text};
 use crate::view::ViewAt;
-use iobufs::bufs::IoBufs;
 use iobufs::builder::Builder;
 use iobufs_core::codec::{BufMut, BufsMut};
 use std::alloc::Global;
 use std::marker::{Model, Send};
 use std::mem;
 
-/// The handle of a builder, or of none, in the caller's memory. A handle without a builder reads as one of capacity 0,
-/// and takes nothing.
+/// The handle of a builder in the caller's memory. An empty handle has a builder without space for inline bytes.
 #[repr(C)]
 pub struct BuilderAt {
     at: *mut u8,
-    ghost value: { Option Building },
+    ghost value: { Building },
 }
 
 impl Model for BuilderAt {
     ghost use Rattle.std.specs.Borrow.{full_share};
     ghost use Rattle.std.specs.Ptr.{lies_at};
-    ghost use Rattle.iobufs_c.specs.Rows.{builder_row};
+    ghost use Rattle.iobufs.specs.contracts.builder.Builder.{the_row as builder_row};
 
     ghost also_owns = { λ h. lies_at builder_row full_share h.at h.value };
 }
@@ -42,46 +38,46 @@ unsafe impl Send for BuilderAt {}
 impl BuilderAt {
     ghost use Rattle.iobufs_c.specs.contracts.builder.BuilderAt.{the_row};
 
-    /// Borrows the contents of the handle.
-    pub(crate) fn get(&mut self) -> &mut Option<Builder>
+    /// Borrows the builder of the handle.
+    pub(crate) fn get(&mut self) -> &mut Builder
         ensures* writes_back { sem 𝓛 (Lends the_row builder_row self.entry result
             (λ v. record { at = self.old.at; value = v })) }
         ensures value { result.now ≡ self.old.value }
     {
-        unsafe { &mut *(self.at as *mut Option<Builder>) }
+        unsafe { &mut *(self.at as *mut Builder) }
     }
 }
 
-fn none() -> Option<Builder>
-    ensures { result ≡ None }
+fn empty(alloc: Global) -> Builder
+    ensures { result ≡ empty_building 0 }
 {
-    None
+    Builder::empty(alloc)
 }
 
 /// Returns how many bytes of memory a `Builder` takes.
 #[unsafe(no_mangle)]
 pub extern "C" fn iobufs_builder_size() -> usize
-    ensures value { result ≡ 120 }
+    ensures value { result ≡ 112 }
 {
-    mem::size_of::<Option<Builder>>()
+    mem::size_of::<Builder>()
 }
 
-/// Makes a handle of memory, without a builder.
+/// Makes an empty builder of memory.
 #[unsafe(no_mangle)]
-pub unsafe extern "C" fn iobufs_builder_init(at: *mut u8)
+pub unsafe extern "C" fn iobufs_builder_init(alloc: Global, at: *mut u8)
     requires* { sem 𝓛 (room_at builder_row at) }
-    ensures* { sem 𝓛 (lies_at builder_row full_share at None) }
+    ensures* { sem 𝓛 (lies_at builder_row full_share at (empty_building 0)) }
 {
-    (at as *mut Option<Builder>).write(none());
+    (at as *mut Builder).write(empty(alloc));
 }
 
-/// Drops the builder; none is left.
+/// Drops the builder; an empty one is left.
 #[unsafe(no_mangle)]
-pub extern "C" fn iobufs_builder_drop(builder: &mut BuilderAt)
+pub extern "C" fn iobufs_builder_drop(alloc: Global, builder: &mut BuilderAt)
     ensures at { builder.new.at ≡ builder.old.at }
-    ensures value { builder.new.value ≡ None }
+    ensures value { builder.new.value ≡ empty_building 0 }
 {
-    *builder.get() = None;
+    *builder.get() = empty(alloc);
 }
 
 /// Makes a builder for `capacity` inline bytes. Returns `Status::BadLayout` above `isize::MAX`, or `Status::Memory` if
@@ -89,14 +85,14 @@ pub extern "C" fn iobufs_builder_drop(builder: &mut BuilderAt)
 #[unsafe(no_mangle)]
 pub extern "C" fn iobufs_builder_new(alloc: Global, capacity: usize, out: &mut BuilderAt) -> u8
     ensures at { out.new.at ≡ out.old.at }
-    ensures value { out.new.value ≡ (if result == 0 then Some (empty_building capacity) else out.old.value) }
+    ensures value { out.new.value ≡ (if result == 0 then empty_building capacity else out.old.value) }
     ensures bad_layout { 2 ^ 63 ≤ capacity → result ≡ code_of Status.BadLayout }
     ensures memory { capacity < 2 ^ 63 → IsDoneUnless result Status.Memory }
     ensures nothing { capacity ≡ 0 → result ≡ 0 }
 {
     match Builder::new(alloc, capacity) {
         Ok(builder) => {
-            *out.get() = Some(builder);
+            *out.get() = builder;
             Status::Done.code()
         }
         Err(cause) => refusal(cause),
@@ -107,79 +103,59 @@ pub extern "C" fn iobufs_builder_new(alloc: Global, capacity: usize, out: &mut B
 #[unsafe(no_mangle)]
 pub extern "C" fn iobufs_builder_remaining_mut(builder: &mut BuilderAt) -> usize
     ensures same { (builder.new.at ≡ builder.old.at) × (builder.new.value ≡ builder.old.value) }
-    ensures value { result ≡ building_room (building_or_empty builder.old.value) }
+    ensures value { result ≡ building_room builder.old.value }
 {
-    match builder.get() {
-        Some(builder) => builder.remaining_mut(),
-        None => 0,
-    }
+    builder.get().remaining_mut()
 }
 
 /// Writes bytes. Returns `Status::OutOfRange` if they don't fit; then nothing changes.
 #[unsafe(no_mangle)]
 pub extern "C" fn iobufs_builder_put_slice(builder: &mut BuilderAt, src: &[u8]) -> u8
     ensures at { builder.new.at ≡ builder.old.at }
-    ensures value { builder.new.value ≡ (if result == 0 then option_map
-        (λ b. building_put b src.now) builder.old.value else builder.old.value) }
+    ensures value { builder.new.value ≡ (if result == 0 then building_put builder.old.value src.now else builder.old.value) }
     ensures result { result ≡ (if nat_le (length src.now)
-        (building_room (building_or_empty builder.old.value)) then 0 else code_of Status.OutOfRange) }
+        (building_room builder.old.value) then 0 else code_of Status.OutOfRange) }
 {
-    match builder.get() {
-        Some(builder) => within(builder.try_put_slice(src)),
-        None => fits(src.len(), 0),
-    }
+    within(builder.get().try_put_slice(src))
 }
 
 /// Writes a byte `n` times. Returns `Status::OutOfRange` if `n` bytes don't fit; then nothing changes.
 #[unsafe(no_mangle)]
 pub extern "C" fn iobufs_builder_put_bytes(builder: &mut BuilderAt, value: u8, n: usize) -> u8
     ensures at { builder.new.at ≡ builder.old.at }
-    ensures value { builder.new.value ≡ (if result == 0 then option_map
-        (λ b. building_put b (replicate n value)) builder.old.value else builder.old.value) }
+    ensures value { builder.new.value ≡ (if result == 0 then building_put builder.old.value (replicate n value) else builder.old.value) }
     ensures result { result ≡ (if nat_le n (building_room
-        (building_or_empty builder.old.value)) then 0 else code_of Status.OutOfRange) }
+        builder.old.value) then 0 else code_of Status.OutOfRange) }
 {
-    match builder.get() {
-        Some(builder) => within(builder.try_put_bytes(value, n)),
-        None => fits(n, 0),
-    }
+    within(builder.get().try_put_bytes(value, n))
 }
 
 /// Writes one byte. Returns `Status::OutOfRange` if it doesn't fit; then nothing changes.
 #[unsafe(no_mangle)]
 pub extern "C" fn iobufs_builder_put_u8(builder: &mut BuilderAt, n: u8) -> u8
     ensures at { builder.new.at ≡ builder.old.at }
-    ensures value { builder.new.value ≡ (if result == 0 then option_map
-        (λ b. building_put b (n ∷ [])) builder.old.value else builder.old.value) }
+    ensures value { builder.new.value ≡ (if result == 0 then building_put builder.old.value (n ∷ []) else builder.old.value) }
     ensures result { result ≡ (if nat_le 1 (building_room
-        (building_or_empty builder.old.value)) then 0 else code_of Status.OutOfRange) }
+        builder.old.value) then 0 else code_of Status.OutOfRange) }
 {
-    match builder.get() {
-        Some(builder) => within(builder.try_put_slice(&[n])),
-        None => fits(1, 0),
-    }
+    within(builder.get().try_put_slice(&[n]))
 }
 
 /// Pushes a view without copying, and leaves its handle empty. Returns `Status::TooLong` if the view is longer than
-/// pushes may still add, `Status::Memory` if an allocation fails, or `Status::Declined` if there is no builder; then
-/// both are unchanged.
+/// pushes may still add, or `Status::Memory` if an allocation fails; then both are unchanged.
 #[unsafe(no_mangle)]
 pub extern "C" fn iobufs_builder_push(builder: &mut BuilderAt, piece: &mut ViewAt) -> u8
     ensures at { (builder.new.at ≡ builder.old.at) × (piece.new.at ≡ piece.old.at) }
-    ensures value { builder.new.value ≡ (if result == 0 then option_map
-        (λ b. building_push b piece.old.value) builder.old.value else builder.old.value) }
+    ensures value { builder.new.value ≡ (if result == 0 then building_push builder.old.value
+        piece.old.value else builder.old.value) }
     ensures piece { piece.new.value ≡ (if result == 0 then default_view else piece.old.value) }
-    ensures none { builder.old.value ≡ None → result ≡ code_of Status.Declined }
-    ensures too_long { (b : Building) → builder.old.value ≡ Some b → room_for_pushes b < length piece.old.value.bytes
+    ensures too_long { room_for_pushes builder.old.value < length piece.old.value.bytes
         → result ≡ code_of Status.TooLong }
-    ensures memory { (b : Building) → builder.old.value ≡ Some b → length piece.old.value.bytes ≤ room_for_pushes b
+    ensures memory { length piece.old.value.bytes ≤ room_for_pushes builder.old.value
         → IsDoneUnless result Status.Memory }
-    ensures nothing { (b : Building) → builder.old.value ≡ Some b → length piece.old.value.bytes ≡ 0 → result ≡ 0 }
+    ensures nothing { length piece.old.value.bytes ≡ 0 → result ≡ 0 }
 {
-    let Some(builder) = builder.get() else {
-        return Status::Declined.code();
-    };
-    match builder.push(mem::take(piece.get())) {
+    match builder.get().push(mem::take(piece.get())) {
         Ok(()) => Status::Done.code(),
         Err(refused) => {
             *piece.get() = refused.value;
@@ -188,21 +164,20 @@ pub extern "C" fn iobufs_builder_push(builder: &mut BuilderAt, piece: &mut ViewA
     }
 }
 
-/// Finishes the builder to an `IoBufs`, which is empty if there is no builder; none is left. Returns `Status::Memory`
-/// if an allocation fails; then the builder is dropped, and `out` unchanged.
+/// Finishes the builder to an `IoBufs`; an empty builder is left. Returns `Status::Memory` if an allocation fails; then
+/// the builder is dropped, and `out` unchanged.
 #[unsafe(no_mangle)]
-pub extern "C" fn iobufs_builder_finish(builder: &mut BuilderAt, out: &mut TextAt) -> u8
+pub extern "C" fn iobufs_builder_finish(
+    alloc: Global,
+    builder: &mut BuilderAt,
+    out: &mut TextAt,
+) -> u8
     ensures at { (builder.new.at ≡ builder.old.at) × (out.new.at ≡ out.old.at) }
-    ensures builder { builder.new.value ≡ None }
-    ensures value { out.new.value ≡ (if result == 0 then finished
-        (building_or_empty builder.old.value) else out.old.value) }
+    ensures builder { builder.new.value ≡ empty_building 0 }
+    ensures value { out.new.value ≡ (if result == 0 then finished builder.old.value else out.old.value) }
     ensures memory { IsDoneUnless result Status.Memory }
-    ensures nothing { building_items (building_or_empty builder.old.value) ≡ [] → result ≡ 0 }
-    ensures no_inline { items_inline (building_items (building_or_empty builder.old.value)) ≡ 0 → result ≡ 0 }
+    ensures nothing { building_items builder.old.value ≡ [] → result ≡ 0 }
+    ensures no_inline { items_inline (building_items builder.old.value) ≡ 0 → result ≡ 0 }
 {
-    let Some(builder) = mem::replace(builder.get(), None) else {
-        *out.get() = IoBufs::default();
-        return Status::Done.code();
-    };
-    hand_text(builder.finish(), out)
+    hand_text(mem::replace(builder.get(), empty(alloc)).finish(), out)
 }

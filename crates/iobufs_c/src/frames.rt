@@ -53,7 +53,7 @@ impl FramesAt {
     }
 }
 
-fn empty() -> Frames
+fn empty(_alloc: Global) -> Frames
     ensures { result ≡ default_frames }
 {
     Frames::default()
@@ -69,11 +69,11 @@ pub extern "C" fn iobufs_frames_size() -> usize
 
 /// Makes frames of memory, to which nothing was fed.
 #[unsafe(no_mangle)]
-pub unsafe extern "C" fn iobufs_frames_init(at: *mut u8)
+pub unsafe extern "C" fn iobufs_frames_init(alloc: Global, at: *mut u8)
     requires* { sem 𝓛 (room_at frames_row at) }
     ensures* { sem 𝓛 (lies_at frames_row full_share at default_frames) }
 {
-    (at as *mut Frames).write(empty());
+    (at as *mut Frames).write(empty(alloc));
 }
 
 /// Drops what was fed.
@@ -82,7 +82,7 @@ pub extern "C" fn iobufs_frames_drop(frames: &mut FramesAt)
     ensures at { frames.new.at ≡ frames.old.at }
     ensures value { frames.new.value ≡ default_frames }
 {
-    *frames.get() = empty();
+    *frames.get() = Frames::default();
 }
 
 /// Returns how many bytes were fed and not taken.

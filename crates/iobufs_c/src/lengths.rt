@@ -1,6 +1,5 @@
 // Varint lengths, and bytes after their length.
 ghost use Rattle.std.specs.Prelude.{◌≡◌, ℕ, ◌==◌, if◌then◌else◌, length, nat_le, false, Ok, Err};
-ghost use Rattle.std.specs.Option.{option_map};
 ghost use Rattle.iobufs.specs.Building.{building_put, building_room};
 ghost use Rattle.iobufs.specs.Parts.{parts_fill, parts_spare};
 ghost use Rattle.iobufs_core.specs.MarkedText.{of_view, text_advanced, text_rest};
@@ -9,10 +8,9 @@ ghost use Rattle.iobufs_core.specs.Spelling.{spell};
 ghost use Rattle.iobufs_core.specs.View.{view_advanced, view_rest};
 ghost use Rattle.iobufs_core.specs.Wire.{HasStaticView, IsLengthRead, IsViewFault, IsViewRead, view_written};
 ghost use Rattle.iobufs_c.specs.Codes.{IsReadCode, IsViewReadCode, code_of};
-ghost use Rattle.iobufs_c.specs.Rows.{building_or_empty, part_or_empty, parts_of};
 
 use crate::builder::BuilderAt;
-use crate::part::{PartAt, fits};
+use crate::part::PartAt;
 use crate::parts::PartsAt;
 use crate::status::{Status, fault};
 use crate::text::TextAt;
@@ -33,14 +31,11 @@ pub extern "C" fn iobufs_length_size(n: usize) -> usize
 #[unsafe(no_mangle)]
 pub extern "C" fn iobufmut_put_length(part: &mut PartAt, n: usize) -> u8
     ensures at { part.new.at ≡ part.old.at }
-    ensures value { part.new.value ≡ (if result == 0 then option_map
-        (λ part. part_put part (spell n)) part.old.value else part.old.value) }
+    ensures value { part.new.value ≡ (if result == 0 then part_put part.old.value (spell n) else part.old.value) }
     ensures result { result ≡ (if nat_le (length (spell n))
-        (part_or_empty part.old.value).spare then 0 else code_of Status.OutOfRange) }
+        part.old.value.spare then 0 else code_of Status.OutOfRange) }
 {
-    let Some(part) = part.get() else {
-        return fits(iobufs_length_size(n), 0);
-    };
+    let part = part.get();
     if iobufs_length_size(n) > part.remaining_mut() {
         return Status::OutOfRange.code();
     }
@@ -52,14 +47,11 @@ pub extern "C" fn iobufmut_put_length(part: &mut PartAt, n: usize) -> u8
 #[unsafe(no_mangle)]
 pub extern "C" fn iobufsmut_put_length(parts: &mut PartsAt, n: usize) -> u8
     ensures at { parts.new.at ≡ parts.old.at }
-    ensures value { parts.new.value ≡ (if result == 0 then option_map
-        (λ parts. parts_fill parts (spell n)) parts.old.value else parts.old.value) }
+    ensures value { parts.new.value ≡ (if result == 0 then parts_fill parts.old.value (spell n) else parts.old.value) }
     ensures result { result ≡ (if nat_le (length (spell n))
-        (parts_spare (parts_of parts.old.value)) then 0 else code_of Status.OutOfRange) }
+        (parts_spare parts.old.value) then 0 else code_of Status.OutOfRange) }
 {
-    let Some(parts) = parts.get() else {
-        return fits(iobufs_length_size(n), 0);
-    };
+    let parts = parts.get();
     if iobufs_length_size(n) > parts.remaining_mut() {
         return Status::OutOfRange.code();
     }
@@ -71,14 +63,11 @@ pub extern "C" fn iobufsmut_put_length(parts: &mut PartsAt, n: usize) -> u8
 #[unsafe(no_mangle)]
 pub extern "C" fn iobufs_builder_put_length(builder: &mut BuilderAt, n: usize) -> u8
     ensures at { builder.new.at ≡ builder.old.at }
-    ensures value { builder.new.value ≡ (if result == 0 then option_map
-        (λ b. building_put b (spell n)) builder.old.value else builder.old.value) }
+    ensures value { builder.new.value ≡ (if result == 0 then building_put builder.old.value (spell n) else builder.old.value) }
     ensures result { result ≡ (if nat_le (length (spell n))
-        (building_room (building_or_empty builder.old.value)) then 0 else code_of Status.OutOfRange) }
+        (building_room builder.old.value) then 0 else code_of Status.OutOfRange) }
 {
-    let Some(builder) = builder.get() else {
-        return fits(iobufs_length_size(n), 0);
-    };
+    let builder = builder.get();
     if iobufs_length_size(n) > builder.remaining_mut() {
         return Status::OutOfRange.code();
     }

@@ -1,7 +1,6 @@
 // Big-endian numbers of a fixed size.
 ghost use Rattle.std.specs.Prelude.{◌≡◌, ◌<◌, ◌==◌, ◌∷◌, [], if◌then◌else◌, length, nat_le, false, Ok};
 ghost use Rattle.std.specs.Int.{to_be_bytes, w16, w32, w64};
-ghost use Rattle.std.specs.Option.{option_map};
 ghost use Rattle.iobufs.specs.Building.{building_put, building_room};
 ghost use Rattle.iobufs.specs.Parts.{parts_fill, parts_spare};
 ghost use Rattle.iobufs_core.specs.MarkedText.{text_advanced};
@@ -9,7 +8,6 @@ ghost use Rattle.iobufs_core.specs.Part.{part_put};
 ghost use Rattle.iobufs_core.specs.View.{view_advanced};
 ghost use Rattle.iobufs_core.specs.Wire.{IsNumberRead};
 ghost use Rattle.iobufs_c.specs.Codes.{IsDoneUnless, code_of};
-ghost use Rattle.iobufs_c.specs.Rows.{building_or_empty, part_or_empty, parts_of};
 
 use crate::builder::{BuilderAt, iobufs_builder_put_slice};
 use crate::part::{PartAt, iobufmut_put_slice};
@@ -24,9 +22,8 @@ use std::alloc::Global;
 #[unsafe(no_mangle)]
 pub extern "C" fn iobufmut_put_u16(part: &mut PartAt, n: u16) -> u8
     ensures at { part.new.at ≡ part.old.at }
-    ensures value { part.new.value ≡ (if result == 0 then option_map
-        (λ part. part_put part (to_be_bytes w16 n)) part.old.value else part.old.value) }
-    ensures result { result ≡ (if nat_le 2 (part_or_empty part.old.value).spare then 0 else code_of Status.OutOfRange) }
+    ensures value { part.new.value ≡ (if result == 0 then part_put part.old.value (to_be_bytes w16 n) else part.old.value) }
+    ensures result { result ≡ (if nat_le 2 part.old.value.spare then 0 else code_of Status.OutOfRange) }
 {
     iobufmut_put_slice(part, &u16::to_be_bytes(n))
 }
@@ -35,9 +32,8 @@ pub extern "C" fn iobufmut_put_u16(part: &mut PartAt, n: u16) -> u8
 #[unsafe(no_mangle)]
 pub extern "C" fn iobufmut_put_u32(part: &mut PartAt, n: u32) -> u8
     ensures at { part.new.at ≡ part.old.at }
-    ensures value { part.new.value ≡ (if result == 0 then option_map
-        (λ part. part_put part (to_be_bytes w32 n)) part.old.value else part.old.value) }
-    ensures result { result ≡ (if nat_le 4 (part_or_empty part.old.value).spare then 0 else code_of Status.OutOfRange) }
+    ensures value { part.new.value ≡ (if result == 0 then part_put part.old.value (to_be_bytes w32 n) else part.old.value) }
+    ensures result { result ≡ (if nat_le 4 part.old.value.spare then 0 else code_of Status.OutOfRange) }
 {
     iobufmut_put_slice(part, &u32::to_be_bytes(n))
 }
@@ -46,9 +42,8 @@ pub extern "C" fn iobufmut_put_u32(part: &mut PartAt, n: u32) -> u8
 #[unsafe(no_mangle)]
 pub extern "C" fn iobufmut_put_u64(part: &mut PartAt, n: u64) -> u8
     ensures at { part.new.at ≡ part.old.at }
-    ensures value { part.new.value ≡ (if result == 0 then option_map
-        (λ part. part_put part (to_be_bytes w64 n)) part.old.value else part.old.value) }
-    ensures result { result ≡ (if nat_le 8 (part_or_empty part.old.value).spare then 0 else code_of Status.OutOfRange) }
+    ensures value { part.new.value ≡ (if result == 0 then part_put part.old.value (to_be_bytes w64 n) else part.old.value) }
+    ensures result { result ≡ (if nat_le 8 part.old.value.spare then 0 else code_of Status.OutOfRange) }
 {
     iobufmut_put_slice(part, &u64::to_be_bytes(n))
 }
@@ -57,10 +52,9 @@ pub extern "C" fn iobufmut_put_u64(part: &mut PartAt, n: u64) -> u8
 #[unsafe(no_mangle)]
 pub extern "C" fn iobufsmut_put_u16(parts: &mut PartsAt, n: u16) -> u8
     ensures at { parts.new.at ≡ parts.old.at }
-    ensures value { parts.new.value ≡ (if result == 0 then option_map
-        (λ parts. parts_fill parts (to_be_bytes w16 n)) parts.old.value else parts.old.value) }
+    ensures value { parts.new.value ≡ (if result == 0 then parts_fill parts.old.value (to_be_bytes w16 n) else parts.old.value) }
     ensures result { result ≡ (if nat_le 2 (parts_spare
-        (parts_of parts.old.value)) then 0 else code_of Status.OutOfRange) }
+        parts.old.value) then 0 else code_of Status.OutOfRange) }
 {
     iobufsmut_put_slice(parts, &u16::to_be_bytes(n))
 }
@@ -69,10 +63,9 @@ pub extern "C" fn iobufsmut_put_u16(parts: &mut PartsAt, n: u16) -> u8
 #[unsafe(no_mangle)]
 pub extern "C" fn iobufsmut_put_u32(parts: &mut PartsAt, n: u32) -> u8
     ensures at { parts.new.at ≡ parts.old.at }
-    ensures value { parts.new.value ≡ (if result == 0 then option_map
-        (λ parts. parts_fill parts (to_be_bytes w32 n)) parts.old.value else parts.old.value) }
+    ensures value { parts.new.value ≡ (if result == 0 then parts_fill parts.old.value (to_be_bytes w32 n) else parts.old.value) }
     ensures result { result ≡ (if nat_le 4 (parts_spare
-        (parts_of parts.old.value)) then 0 else code_of Status.OutOfRange) }
+        parts.old.value) then 0 else code_of Status.OutOfRange) }
 {
     iobufsmut_put_slice(parts, &u32::to_be_bytes(n))
 }
@@ -81,10 +74,9 @@ pub extern "C" fn iobufsmut_put_u32(parts: &mut PartsAt, n: u32) -> u8
 #[unsafe(no_mangle)]
 pub extern "C" fn iobufsmut_put_u64(parts: &mut PartsAt, n: u64) -> u8
     ensures at { parts.new.at ≡ parts.old.at }
-    ensures value { parts.new.value ≡ (if result == 0 then option_map
-        (λ parts. parts_fill parts (to_be_bytes w64 n)) parts.old.value else parts.old.value) }
+    ensures value { parts.new.value ≡ (if result == 0 then parts_fill parts.old.value (to_be_bytes w64 n) else parts.old.value) }
     ensures result { result ≡ (if nat_le 8 (parts_spare
-        (parts_of parts.old.value)) then 0 else code_of Status.OutOfRange) }
+        parts.old.value) then 0 else code_of Status.OutOfRange) }
 {
     iobufsmut_put_slice(parts, &u64::to_be_bytes(n))
 }
@@ -93,10 +85,9 @@ pub extern "C" fn iobufsmut_put_u64(parts: &mut PartsAt, n: u64) -> u8
 #[unsafe(no_mangle)]
 pub extern "C" fn iobufs_builder_put_u16(builder: &mut BuilderAt, n: u16) -> u8
     ensures at { builder.new.at ≡ builder.old.at }
-    ensures value { builder.new.value ≡ (if result == 0 then option_map
-        (λ b. building_put b (to_be_bytes w16 n)) builder.old.value else builder.old.value) }
+    ensures value { builder.new.value ≡ (if result == 0 then building_put builder.old.value (to_be_bytes w16 n) else builder.old.value) }
     ensures result { result ≡ (if nat_le 2 (building_room
-        (building_or_empty builder.old.value)) then 0 else code_of Status.OutOfRange) }
+        builder.old.value) then 0 else code_of Status.OutOfRange) }
 {
     iobufs_builder_put_slice(builder, &u16::to_be_bytes(n))
 }
@@ -105,10 +96,9 @@ pub extern "C" fn iobufs_builder_put_u16(builder: &mut BuilderAt, n: u16) -> u8
 #[unsafe(no_mangle)]
 pub extern "C" fn iobufs_builder_put_u32(builder: &mut BuilderAt, n: u32) -> u8
     ensures at { builder.new.at ≡ builder.old.at }
-    ensures value { builder.new.value ≡ (if result == 0 then option_map
-        (λ b. building_put b (to_be_bytes w32 n)) builder.old.value else builder.old.value) }
+    ensures value { builder.new.value ≡ (if result == 0 then building_put builder.old.value (to_be_bytes w32 n) else builder.old.value) }
     ensures result { result ≡ (if nat_le 4 (building_room
-        (building_or_empty builder.old.value)) then 0 else code_of Status.OutOfRange) }
+        builder.old.value) then 0 else code_of Status.OutOfRange) }
 {
     iobufs_builder_put_slice(builder, &u32::to_be_bytes(n))
 }
@@ -117,10 +107,9 @@ pub extern "C" fn iobufs_builder_put_u32(builder: &mut BuilderAt, n: u32) -> u8
 #[unsafe(no_mangle)]
 pub extern "C" fn iobufs_builder_put_u64(builder: &mut BuilderAt, n: u64) -> u8
     ensures at { builder.new.at ≡ builder.old.at }
-    ensures value { builder.new.value ≡ (if result == 0 then option_map
-        (λ b. building_put b (to_be_bytes w64 n)) builder.old.value else builder.old.value) }
+    ensures value { builder.new.value ≡ (if result == 0 then building_put builder.old.value (to_be_bytes w64 n) else builder.old.value) }
     ensures result { result ≡ (if nat_le 8 (building_room
-        (building_or_empty builder.old.value)) then 0 else code_of Status.OutOfRange) }
+        builder.old.value) then 0 else code_of Status.OutOfRange) }
 {
     iobufs_builder_put_slice(builder, &u64::to_be_bytes(n))
 }

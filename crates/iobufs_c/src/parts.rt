@@ -1,18 +1,16 @@
 // Several writable buffers as one, reached by their handles.
-ghost use Rattle.std.specs.Prelude.{◌≡◌, ◌⊎◌, ◌≤◌, ◌<◌, ◌^◌, ◌==◌, ◌∷◌, [], if◌then◌else◌, List, length, map, take, drop, min, replicate, nat_le, Option, Some, None, IfOk, IsOk, OnOk, OnErr, false, MatchOption};
+ghost use Rattle.std.specs.Prelude.{◌≡◌, ◌⊎◌, ◌≤◌, ◌<◌, ◌^◌, ◌==◌, ◌∷◌, [], if◌then◌else◌, List, length, map, take, drop, min, replicate, nat_le, IfOk, IsOk, OnOk, OnErr, false};
 ghost use Rattle.std.specs.Borrow.{sem, Lends, full_share};
-ghost use Rattle.std.specs.Option.{option_map};
 ghost use Rattle.std.specs.Ptr.{lies_at, null_ptr, room_at};
 ghost use Rattle.iobufs.specs.Parts.{kept_parts, parts_capacity, parts_chunks, parts_coalesced, parts_drained, parts_fill, parts_filled, parts_frozen, parts_spare, parts_with_len};
+ghost use Rattle.iobufs.specs.contracts.bufs_mut.IoBufsMut.{the_row as parts_row};
 ghost use Rattle.iobufs_core.specs.Chunks.{first_chunk};
-ghost use Rattle.iobufs_core.specs.Part.{Part};
+ghost use Rattle.iobufs_core.specs.Part.{Part, empty_part};
 ghost use Rattle.iobufs_c.specs.Codes.{IsDoneUnless, code_of};
-ghost use Rattle.iobufs_c.specs.Rows.{held_parts, parts_of, parts_row};
 
-use crate::part::{PartAt, fits, hand_part};
+use crate::part::{PartAt, empty as empty_buffer, hand_part};
 use crate::status::{Status, enough, refusal, within};
 use crate::text::{Chunk, TextAt, hand_text};
-use iobufs::bufs::IoBufs;
 use iobufs::bufs_mut::IoBufsMut;
 use iobufs_core::buf::IoBufMut;
 use iobufs_core::codec::{Buf, BufMut};
@@ -20,18 +18,17 @@ use std::alloc::{AllocError, Global};
 use std::marker::{Model, Send};
 use std::mem;
 
-/// The handle of an `IoBufsMut`, or of none, in the caller's memory. A handle without one reads as one buffer of
-/// capacity 0.
+/// The handle of an `IoBufsMut` in the caller's memory. An empty handle has one buffer, of capacity 0.
 #[repr(C)]
 pub struct PartsAt {
     at: *mut u8,
-    ghost value: { Option (List Part) },
+    ghost value: { List Part },
 }
 
 impl Model for PartsAt {
     ghost use Rattle.std.specs.Borrow.{full_share};
     ghost use Rattle.std.specs.Ptr.{lies_at};
-    ghost use Rattle.iobufs_c.specs.Rows.{parts_row};
+    ghost use Rattle.iobufs.specs.contracts.bufs_mut.IoBufsMut.{the_row as parts_row};
 
     ghost also_owns = { λ h. lies_at parts_row full_share h.at h.value };
 }
@@ -42,75 +39,71 @@ unsafe impl Send for PartsAt {}
 impl PartsAt {
     ghost use Rattle.iobufs_c.specs.contracts.parts.PartsAt.{the_row};
 
-    /// Borrows the contents of the handle.
-    pub(crate) fn get(&mut self) -> &mut Option<IoBufsMut>
+    /// Borrows the `IoBufsMut` of the handle.
+    pub(crate) fn get(&mut self) -> &mut IoBufsMut
         ensures* writes_back { sem 𝓛 (Lends the_row parts_row self.entry result
             (λ v. record { at = self.old.at; value = v })) }
         ensures value { result.now ≡ self.old.value }
     {
-        unsafe { &mut *(self.at as *mut Option<IoBufsMut>) }
+        unsafe { &mut *(self.at as *mut IoBufsMut) }
     }
 }
 
-fn none() -> Option<IoBufsMut>
-    ensures { result ≡ None }
+fn empty(alloc: Global) -> IoBufsMut
+    ensures { result ≡ empty_part 0 ∷ [] }
 {
-    None
+    IoBufsMut::from(IoBufMut::new(alloc))
 }
 
 /// Returns how many bytes of memory an `IoBufsMut` takes.
 #[unsafe(no_mangle)]
 pub extern "C" fn iobufsmut_size() -> usize
-    ensures value { result ≡ 184 }
+    ensures value { result ≡ 80 }
 {
-    mem::size_of::<Option<IoBufsMut>>()
+    mem::size_of::<IoBufsMut>()
 }
 
-/// Makes a handle of memory, without buffers.
+/// Makes an empty `IoBufsMut` of memory.
 #[unsafe(no_mangle)]
-pub unsafe extern "C" fn iobufsmut_init(at: *mut u8)
+pub unsafe extern "C" fn iobufsmut_init(alloc: Global, at: *mut u8)
     requires* { sem 𝓛 (room_at parts_row at) }
-    ensures* { sem 𝓛 (lies_at parts_row full_share at None) }
+    ensures* { sem 𝓛 (lies_at parts_row full_share at (empty_part 0 ∷ [])) }
 {
-    (at as *mut Option<IoBufsMut>).write(none());
+    (at as *mut IoBufsMut).write(empty(alloc));
 }
 
-/// Drops the buffers; none are left.
+/// Drops the buffers; an empty one is left.
 #[unsafe(no_mangle)]
-pub extern "C" fn iobufsmut_drop(parts: &mut PartsAt)
+pub extern "C" fn iobufsmut_drop(alloc: Global, parts: &mut PartsAt)
     ensures at { parts.new.at ≡ parts.old.at }
-    ensures value { parts.new.value ≡ None }
+    ensures value { parts.new.value ≡ empty_part 0 ∷ [] }
 {
-    *parts.get() = None;
+    *parts.get() = empty(alloc);
 }
 
-/// Makes an `IoBufsMut` of one buffer, whose handle is left empty; of none if there is no buffer.
+/// Makes an `IoBufsMut` of one buffer, whose handle is left empty.
 #[unsafe(no_mangle)]
-pub extern "C" fn iobufsmut_from_mut(part: &mut PartAt, out: &mut PartsAt)
+pub extern "C" fn iobufsmut_from_mut(alloc: Global, part: &mut PartAt, out: &mut PartsAt)
     ensures at { (part.new.at ≡ part.old.at) × (out.new.at ≡ out.old.at) }
-    ensures part { part.new.value ≡ None }
-    ensures value { out.new.value ≡ option_map (λ part. part ∷ []) part.old.value }
+    ensures part { part.new.value ≡ empty_part 0 }
+    ensures value { out.new.value ≡ part.old.value ∷ [] }
 {
-    let Some(part) = mem::replace(part.get(), None) else {
-        *out.get() = None;
-        return;
-    };
-    *out.get() = Some(IoBufsMut::from(part));
+    let part = mem::replace(part.get(), empty_buffer(alloc));
+    *out.get() = IoBufsMut::from(part);
 }
 
 // Takes the buffers of these handles, in order, and leaves the handles empty. If an allocation fails, all stay.
 fn take_row(alloc: Global, places: &mut [PartAt]) -> Result<Vec<IoBufMut>, AllocError>
-    ensures ok { IfOk result (λ row. row.items ≡ held_parts (map (λ place. place.value) places.old)) }
-    ensures taken { OnOk result (map (λ place. place.value) places.new ≡ replicate (length places.old) None) }
+    ensures ok { IfOk result (λ row. row.items ≡ map (λ place. place.value) places.old) }
+    ensures taken { OnOk result (map (λ place. place.value) places.new ≡ replicate (length places.old) (empty_part 0)) }
     ensures unchanged { OnErr result (places.new ≡ places.old) }
     ensures at { map (λ place. place.at) places.new ≡ map (λ place. place.at) places.old }
     ensures nothing { length places.old ≡ 0 → IsOk result }
 {
     let mut row = Vec::with_capacity(alloc, places.len())?;
     for i in 0..places.len() {
-        if let Some(part) = mem::replace(places[i].get(), None) {
-            row.push(part).unwrap();
-        }
+        let part = mem::replace(places[i].get(), empty_buffer(alloc));
+        row.push(part).unwrap();
     }
     Ok(row)
 }
@@ -125,14 +118,14 @@ pub extern "C" fn iobufsmut_from_parts(
     out: &mut PartsAt,
 ) -> u8
     ensures at { (map (λ place. place.at) places.new ≡ map (λ place. place.at) places.old) × (out.new.at ≡ out.old.at) }
-    ensures value { out.new.value ≡ (if result == 0 then Some
-        (kept_parts (held_parts (map (λ place. place.value) places.old))) else out.old.value) }
-    ensures taken { result ≡ 0 → map (λ place. place.value) places.new ≡ replicate (length places.old) None }
+    ensures value { out.new.value ≡ (if result == 0 then kept_parts
+        (map (λ place. place.value) places.old) else out.old.value) }
+    ensures taken { result ≡ 0 → map (λ place. place.value) places.new ≡ replicate (length places.old) (empty_part 0) }
     ensures unchanged { (result == 0) ≡ false
-        → (places.new ≡ places.old) ⊎ (map (λ place. place.value) places.new ≡ replicate (length places.old) None) }
-    ensures too_long { 2 ^ 64 ≤ parts_capacity (held_parts (map (λ place. place.value) places.old))
+        → (places.new ≡ places.old) ⊎ (map (λ place. place.value) places.new ≡ replicate (length places.old) (empty_part 0)) }
+    ensures too_long { 2 ^ 64 ≤ parts_capacity (map (λ place. place.value) places.old)
         → (result ≡ code_of Status.Memory) ⊎ (result ≡ code_of Status.TooLong) }
-    ensures fits { parts_capacity (held_parts (map (λ place. place.value) places.old)) < 2 ^ 64
+    ensures fits { parts_capacity (map (λ place. place.value) places.old) < 2 ^ 64
         → IsDoneUnless result Status.Memory }
     ensures nothing { length places.old ≡ 0 → result ≡ 0 }
 {
@@ -141,7 +134,7 @@ pub extern "C" fn iobufsmut_from_parts(
     };
     match IoBufsMut::from_parts(alloc, row.into_iter()) {
         Ok(parts) => {
-            *out.get() = Some(parts);
+            *out.get() = parts;
             Status::Done.code()
         }
         Err(cause) => refusal(cause),
@@ -152,61 +145,47 @@ pub extern "C" fn iobufsmut_from_parts(
 #[unsafe(no_mangle)]
 pub extern "C" fn iobufsmut_len(parts: &mut PartsAt) -> usize
     ensures same { (parts.new.at ≡ parts.old.at) × (parts.new.value ≡ parts.old.value) }
-    ensures value { result ≡ length (parts_filled (parts_of parts.old.value)) }
+    ensures value { result ≡ length (parts_filled parts.old.value) }
 {
-    match parts.get() {
-        Some(parts) => parts.len(),
-        None => 0,
-    }
+    parts.get().len()
 }
 
 /// Returns the sum of the buffers' capacities. A drained buffer counts with its spare capacity.
 #[unsafe(no_mangle)]
 pub extern "C" fn iobufsmut_capacity(parts: &mut PartsAt) -> usize
     ensures same { (parts.new.at ≡ parts.old.at) × (parts.new.value ≡ parts.old.value) }
-    ensures value { result ≡ parts_capacity (parts_of parts.old.value) }
+    ensures value { result ≡ parts_capacity parts.old.value }
 {
-    match parts.get() {
-        Some(parts) => parts.capacity(),
-        None => 0,
-    }
+    parts.get().capacity()
 }
 
 /// Returns how many bytes may still be written.
 #[unsafe(no_mangle)]
 pub extern "C" fn iobufsmut_remaining_mut(parts: &mut PartsAt) -> usize
     ensures same { (parts.new.at ≡ parts.old.at) × (parts.new.value ≡ parts.old.value) }
-    ensures value { result ≡ parts_spare (parts_of parts.old.value) }
+    ensures value { result ≡ parts_spare parts.old.value }
 {
-    match parts.get() {
-        Some(parts) => parts.remaining_mut(),
-        None => 0,
-    }
+    parts.get().remaining_mut()
 }
 
 /// Returns the number of buffers.
 #[unsafe(no_mangle)]
 pub extern "C" fn iobufsmut_part_count(parts: &mut PartsAt) -> usize
     ensures same { (parts.new.at ≡ parts.old.at) × (parts.new.value ≡ parts.old.value) }
-    ensures value { result ≡ length (parts_of parts.old.value) }
+    ensures value { result ≡ length parts.old.value }
 {
-    match parts.get() {
-        Some(parts) => parts.part_count(),
-        None => 1,
-    }
+    parts.get().part_count()
 }
 
-/// Writes the address of the first chunk of the readable bytes, if there is a buffer, and returns the chunk's length.
-/// No other buffer shares the bytes, so the caller may overwrite them; no contract says with which bytes.
+/// Writes the address of the first chunk of the readable bytes, and returns the chunk's length. No other buffer shares
+/// the bytes, so the caller may overwrite them; no contract says with which bytes.
 #[unsafe(no_mangle)]
 pub extern "C" fn iobufsmut_chunk(parts: &mut PartsAt, out: &mut *mut u8) -> usize
     ensures same { (parts.new.at ≡ parts.old.at) × (parts.new.value ≡ parts.old.value) }
-    ensures value { result ≡ length (first_chunk (parts_chunks (parts_of parts.old.value))) }
-    ensures address { MatchOption parts.old.value (out.new ≡ out.old) (λ _. out.new ≡ null_ptr → ⊥) }
+    ensures value { result ≡ length (first_chunk (parts_chunks parts.old.value)) }
+    ensures address { out.new ≡ null_ptr → ⊥ }
 {
-    let Some(parts) = parts.get() else {
-        return 0;
-    };
+    let parts = parts.get();
     *out = parts.chunk_ptr();
     parts.chunk().len()
 }
@@ -250,15 +229,12 @@ fn fill_chunks(parts: &mut IoBufsMut, out: &mut [Chunk]) -> usize
 #[unsafe(no_mangle)]
 pub extern "C" fn iobufsmut_chunks(parts: &mut PartsAt, out: &mut [Chunk]) -> usize
     ensures same { (parts.new.at ≡ parts.old.at) × (parts.new.value ≡ parts.old.value) }
-    ensures count { result ≡ min (length out.old) (length (parts_chunks (parts_of parts.old.value))) }
+    ensures count { result ≡ min (length out.old) (length (parts_chunks parts.old.value)) }
     ensures lengths { map (λ chunk. chunk.len) (take result out.new) ≡ map length
-        (take result (parts_chunks (parts_of parts.old.value))) }
+        (take result (parts_chunks parts.old.value)) }
     ensures rest { drop result out.new ≡ drop result out.old }
 {
-    match parts.get() {
-        Some(parts) => fill_chunks(parts, out),
-        None => 0,
-    }
+    fill_chunks(parts.get(), out)
 }
 
 /// Writes bytes into the spare capacity, buffer after buffer. Returns `Status::OutOfRange` if they don't fit; then
@@ -266,45 +242,33 @@ pub extern "C" fn iobufsmut_chunks(parts: &mut PartsAt, out: &mut [Chunk]) -> us
 #[unsafe(no_mangle)]
 pub extern "C" fn iobufsmut_put_slice(parts: &mut PartsAt, src: &[u8]) -> u8
     ensures at { parts.new.at ≡ parts.old.at }
-    ensures value { parts.new.value ≡ (if result == 0 then option_map
-        (λ parts. parts_fill parts src.now) parts.old.value else parts.old.value) }
+    ensures value { parts.new.value ≡ (if result == 0 then parts_fill parts.old.value src.now else parts.old.value) }
     ensures result { result ≡ (if nat_le (length src.now)
-        (parts_spare (parts_of parts.old.value)) then 0 else code_of Status.OutOfRange) }
+        (parts_spare parts.old.value) then 0 else code_of Status.OutOfRange) }
 {
-    match parts.get() {
-        Some(parts) => within(parts.try_put_slice(src)),
-        None => fits(src.len(), 0),
-    }
+    within(parts.get().try_put_slice(src))
 }
 
 /// Writes a byte `n` times. Returns `Status::OutOfRange` if `n` bytes don't fit; then nothing changes.
 #[unsafe(no_mangle)]
 pub extern "C" fn iobufsmut_put_bytes(parts: &mut PartsAt, value: u8, n: usize) -> u8
     ensures at { parts.new.at ≡ parts.old.at }
-    ensures value { parts.new.value ≡ (if result == 0 then option_map
-        (λ parts. parts_fill parts (replicate n value)) parts.old.value else parts.old.value) }
+    ensures value { parts.new.value ≡ (if result == 0 then parts_fill parts.old.value (replicate n value) else parts.old.value) }
     ensures result { result ≡ (if nat_le n (parts_spare
-        (parts_of parts.old.value)) then 0 else code_of Status.OutOfRange) }
+        parts.old.value) then 0 else code_of Status.OutOfRange) }
 {
-    match parts.get() {
-        Some(parts) => within(parts.try_put_bytes(value, n)),
-        None => fits(n, 0),
-    }
+    within(parts.get().try_put_bytes(value, n))
 }
 
 /// Writes one byte. Returns `Status::OutOfRange` if it doesn't fit; then nothing changes.
 #[unsafe(no_mangle)]
 pub extern "C" fn iobufsmut_put_u8(parts: &mut PartsAt, n: u8) -> u8
     ensures at { parts.new.at ≡ parts.old.at }
-    ensures value { parts.new.value ≡ (if result == 0 then option_map
-        (λ parts. parts_fill parts (n ∷ [])) parts.old.value else parts.old.value) }
+    ensures value { parts.new.value ≡ (if result == 0 then parts_fill parts.old.value (n ∷ []) else parts.old.value) }
     ensures result { result ≡ (if nat_le 1 (parts_spare
-        (parts_of parts.old.value)) then 0 else code_of Status.OutOfRange) }
+        parts.old.value) then 0 else code_of Status.OutOfRange) }
 {
-    match parts.get() {
-        Some(parts) => within(parts.try_put_slice(&[n])),
-        None => fits(1, 0),
-    }
+    within(parts.get().try_put_slice(&[n]))
 }
 
 /// Makes `n` bytes readable, filling the buffers in order; those that were not are zero. A later buffer loses the
@@ -312,83 +276,62 @@ pub extern "C" fn iobufsmut_put_u8(parts: &mut PartsAt, n: u8) -> u8
 #[unsafe(no_mangle)]
 pub extern "C" fn iobufsmut_set_len(parts: &mut PartsAt, n: usize) -> u8
     ensures at { parts.new.at ≡ parts.old.at }
-    ensures value { parts.new.value ≡ (if result == 0 then option_map
-        (λ parts. parts_with_len parts n) parts.old.value else parts.old.value) }
+    ensures value { parts.new.value ≡ (if result == 0 then parts_with_len parts.old.value n else parts.old.value) }
     ensures result { result ≡ (if nat_le n (parts_capacity
-        (parts_of parts.old.value)) then 0 else code_of Status.OutOfRange) }
+        parts.old.value) then 0 else code_of Status.OutOfRange) }
 {
-    match parts.get() {
-        Some(parts) => within(parts.try_set_len(n)),
-        None => fits(n, 0),
-    }
+    within(parts.get().try_set_len(n))
 }
 
 /// Drops the first bytes. Returns `Status::OutOfRange` if there are fewer; then nothing changes.
 #[unsafe(no_mangle)]
 pub extern "C" fn iobufsmut_advance(parts: &mut PartsAt, n: usize) -> u8
     ensures at { parts.new.at ≡ parts.old.at }
-    ensures value { parts.new.value ≡ (if result == 0 then option_map
-        (λ parts. parts_drained parts n) parts.old.value else parts.old.value) }
+    ensures value { parts.new.value ≡ (if result == 0 then parts_drained parts.old.value n else parts.old.value) }
     ensures result { result ≡ (if nat_le n (length
-        (parts_filled (parts_of parts.old.value))) then 0 else code_of Status.OutOfRange) }
+        (parts_filled parts.old.value)) then 0 else code_of Status.OutOfRange) }
 {
-    match parts.get() {
-        Some(parts) => within(parts.try_advance(n)),
-        None => fits(n, 0),
-    }
+    within(parts.get().try_advance(n))
 }
 
 /// Copies the first bytes out, and drops them. Returns `Status::EndOfBuffer` if there are fewer; then nothing changes.
 #[unsafe(no_mangle)]
 pub extern "C" fn iobufsmut_copy_to_slice(parts: &mut PartsAt, dst: &mut [u8]) -> u8
     ensures at { parts.new.at ≡ parts.old.at }
-    ensures value { parts.new.value ≡ (if result == 0 then option_map
-        (λ parts. parts_drained parts (length dst.old)) parts.old.value else parts.old.value) }
+    ensures value { parts.new.value ≡ (if result == 0 then parts_drained parts.old.value (length dst.old) else parts.old.value) }
     ensures bytes { dst.new ≡ (if result == 0 then take (length dst.old)
-        (parts_filled (parts_of parts.old.value)) else dst.old) }
+        (parts_filled parts.old.value) else dst.old) }
     ensures result { result ≡ (if nat_le (length dst.old)
-        (length (parts_filled (parts_of parts.old.value))) then 0 else code_of Status.EndOfBuffer) }
+        (length (parts_filled parts.old.value)) then 0 else code_of Status.EndOfBuffer) }
 {
-    match parts.get() {
-        Some(parts) => enough(parts.try_copy_to_slice(dst).is_ok()),
-        None => enough(dst.is_empty()),
-    }
+    enough(parts.get().try_copy_to_slice(dst).is_ok())
 }
 
-/// Freezes the buffers that hold bytes to the chunks of one `IoBufs`; no buffers are left. Returns `Status::Memory` if
-/// an allocation fails; then they are dropped, and `out` unchanged.
+/// Freezes the buffers that hold bytes to the chunks of one `IoBufs`; an empty buffer is left. Returns `Status::Memory`
+/// if an allocation fails; then they are dropped, and `out` unchanged.
 #[unsafe(no_mangle)]
 pub extern "C" fn iobufsmut_freeze(alloc: Global, parts: &mut PartsAt, out: &mut TextAt) -> u8
     ensures at { (parts.new.at ≡ parts.old.at) × (out.new.at ≡ out.old.at) }
-    ensures parts { parts.new.value ≡ None }
-    ensures value { out.new.value ≡ (if result == 0 then parts_frozen (parts_of parts.old.value) else out.old.value) }
+    ensures parts { parts.new.value ≡ empty_part 0 ∷ [] }
+    ensures value { out.new.value ≡ (if result == 0 then parts_frozen parts.old.value else out.old.value) }
     ensures memory { IsDoneUnless result Status.Memory }
-    ensures nothing { length (parts_filled (parts_of parts.old.value)) ≡ 0 → result ≡ 0 }
+    ensures nothing { length (parts_filled parts.old.value) ≡ 0 → result ≡ 0 }
 {
-    let Some(parts) = mem::replace(parts.get(), None) else {
-        *out.get() = IoBufs::default();
-        return Status::Done.code();
-    };
-    hand_text(parts.freeze(alloc), out)
+    hand_text(mem::replace(parts.get(), empty(alloc)).freeze(alloc), out)
 }
 
-/// Joins the buffers into one, as `IoBufsMut::coalesce` does; none are left. Returns `Status::BadLayout` if two or more
+/// Joins the buffers into one, as `IoBufsMut::coalesce` does; an empty one is left. Returns `Status::BadLayout` if two or more
 /// hold more than `isize::MAX` bytes, or `Status::Memory`; then they are dropped, and `out` unchanged.
 #[unsafe(no_mangle)]
 pub extern "C" fn iobufsmut_coalesce(alloc: Global, parts: &mut PartsAt, out: &mut PartAt) -> u8
     ensures at { (parts.new.at ≡ parts.old.at) × (out.new.at ≡ out.old.at) }
-    ensures parts { parts.new.value ≡ None }
-    ensures value { out.new.value ≡
-        (if result == 0 then option_map parts_coalesced parts.old.value else out.old.value) }
-    ensures single { length (parts_of parts.old.value) ≡ 1 → result ≡ 0 }
-    ensures bad_layout { 1 < length (parts_of parts.old.value)
-        → 2 ^ 63 ≤ length (parts_filled (parts_of parts.old.value)) → result ≡ code_of Status.BadLayout }
-    ensures memory { length (parts_filled (parts_of parts.old.value)) < 2 ^ 63 → IsDoneUnless result Status.Memory }
-    ensures nothing { length (parts_filled (parts_of parts.old.value)) ≡ 0 → result ≡ 0 }
+    ensures parts { parts.new.value ≡ empty_part 0 ∷ [] }
+    ensures value { out.new.value ≡ (if result == 0 then parts_coalesced parts.old.value else out.old.value) }
+    ensures single { length parts.old.value ≡ 1 → result ≡ 0 }
+    ensures bad_layout { 1 < length parts.old.value
+        → 2 ^ 63 ≤ length (parts_filled parts.old.value) → result ≡ code_of Status.BadLayout }
+    ensures memory { length (parts_filled parts.old.value) < 2 ^ 63 → IsDoneUnless result Status.Memory }
+    ensures nothing { length (parts_filled parts.old.value) ≡ 0 → result ≡ 0 }
 {
-    let Some(parts) = mem::replace(parts.get(), None) else {
-        *out.get() = None;
-        return Status::Done.code();
-    };
-    hand_part(parts.coalesce(alloc), out)
+    hand_part(mem::replace(parts.get(), empty(alloc)).coalesce(alloc), out)
 }

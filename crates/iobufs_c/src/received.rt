@@ -1,37 +1,34 @@
 // Receive blocks, reached by their handles.
-ghost use Rattle.std.specs.Prelude.{◌≡◌, ◌⊎◌, ◌≤◌, ◌<◌, ◌==◌, if◌then◌else◌, length, nat_le, Option, Some, None, false, IfNone, IfSome};
+ghost use Rattle.std.specs.Prelude.{◌≡◌, ◌⊎◌, ◌≤◌, ◌<◌, ◌==◌, if◌then◌else◌, length, nat_le, false, IfNone, IfSome};
 ghost use Rattle.std.specs.Borrow.{sem, Lends, full_share};
 ghost use Rattle.std.specs.Ptr.{lies_at, room_at};
-ghost use Rattle.iobufs_core.specs.View.{view_of_bytes};
-ghost use Rattle.iobufs_frames.specs.Frames.{MatchTaken, TakesFirst, TakesWhole};
 ghost use Rattle.iobufs_frames.specs.Prefixes.{bare};
-ghost use Rattle.iobufs_frames.specs.Receiving.{HasReceived, KeepsSpace, ReceivedBytes, none_received};
+ghost use Rattle.iobufs_frames.specs.Receiving.{HasReceived, ReceivedBytes, none_received};
+ghost use Rattle.iobufs_frames.specs.contracts.block.Received.{the_row as received_row};
 ghost use Rattle.iobufs_c.specs.Codes.{IsDoneUnless, code_of};
-ghost use Rattle.iobufs_c.specs.FrameRows.{AreBoth, TakesReceived, TakesWholeReceived, layout_from_c, prefix_from_c, received_or_none, received_row};
+ghost use Rattle.iobufs_c.specs.FrameRows.{TakesReceived, TakesWholeReceived, layout_from_c, prefix_from_c};
 
 use crate::frames::{tell, tell_whole};
 use crate::layouts::{LayoutInC, layout_of, prefix_of};
-use crate::part::fits;
 use crate::status::Status;
 use crate::view::ViewAt;
-use iobufs_core::buf::IoBuf;
-use iobufs_core::codec::{Error, RangeCfg};
-use iobufs_frames::Received;
+use iobufs_core::codec::RangeCfg;
+use iobufs_frames::{Prefix, Received};
 use std::alloc::Global;
 use std::marker::{Model, Send};
 use std::mem;
 
-/// The handle of a receive block, or of none, which reads as one that holds nothing.
+/// The handle of a receive block in the caller's memory.
 #[repr(C)]
 pub struct ReceivedAt {
     at: *mut u8,
-    ghost value: { Option ReceivedBytes },
+    ghost value: { ReceivedBytes },
 }
 
 impl Model for ReceivedAt {
     ghost use Rattle.std.specs.Borrow.{full_share};
     ghost use Rattle.std.specs.Ptr.{lies_at};
-    ghost use Rattle.iobufs_c.specs.FrameRows.{received_row};
+    ghost use Rattle.iobufs_frames.specs.contracts.block.Received.{the_row as received_row};
 
     ghost also_owns = { λ h. lies_at received_row full_share h.at h.value };
 }
@@ -42,46 +39,46 @@ unsafe impl Send for ReceivedAt {}
 impl ReceivedAt {
     ghost use Rattle.iobufs_c.specs.contracts.received.ReceivedAt.{the_row};
 
-    /// Borrows the contents of the handle.
-    pub(crate) fn get(&mut self) -> &mut Option<Received>
+    /// Borrows the receive block of the handle.
+    pub(crate) fn get(&mut self) -> &mut Received
         ensures* writes_back { sem 𝓛 (Lends the_row received_row self.entry result
             (λ v. record { at = self.old.at; value = v })) }
         ensures value { result.now ≡ self.old.value }
     {
-        unsafe { &mut *(self.at as *mut Option<Received>) }
+        unsafe { &mut *(self.at as *mut Received) }
     }
 }
 
-fn none() -> Option<Received>
-    ensures { result ≡ None }
+fn empty(alloc: Global) -> Received
+    ensures { result ≡ none_received (bare Prefix.Spelled) }
 {
-    None
+    Received::new(alloc, Prefix::Spelled)
 }
 
 /// Returns how many bytes of memory a `Received` takes.
 #[unsafe(no_mangle)]
 pub extern "C" fn iobufs_received_size() -> usize
-    ensures value { result ≡ 120 }
+    ensures value { result ≡ 112 }
 {
-    mem::size_of::<Option<Received>>()
+    mem::size_of::<Received>()
 }
 
-/// Makes a handle of memory, with no receive block.
+/// Makes an empty receive block of memory, of frames whose headers are varint lengths.
 #[unsafe(no_mangle)]
-pub unsafe extern "C" fn iobufs_received_init(at: *mut u8)
+pub unsafe extern "C" fn iobufs_received_init(alloc: Global, at: *mut u8)
     requires* { sem 𝓛 (room_at received_row at) }
-    ensures* { sem 𝓛 (lies_at received_row full_share at None) }
+    ensures* { sem 𝓛 (lies_at received_row full_share at (none_received (bare Prefix.Spelled))) }
 {
-    (at as *mut Option<Received>).write(none());
+    (at as *mut Received).write(empty(alloc));
 }
 
-/// Drops the receive block; none is left.
+/// Drops the receive block; the one that `iobufs_received_init` makes is left.
 #[unsafe(no_mangle)]
-pub extern "C" fn iobufs_received_drop(received: &mut ReceivedAt)
+pub extern "C" fn iobufs_received_drop(alloc: Global, received: &mut ReceivedAt)
     ensures at { received.new.at ≡ received.old.at }
-    ensures value { received.new.value ≡ None }
+    ensures value { received.new.value ≡ none_received (bare Prefix.Spelled) }
 {
-    *received.get() = None;
+    *received.get() = empty(alloc);
 }
 
 /// Makes an empty receive block of frames whose lengths are written as `prefix`. Allocates nothing. Returns
@@ -91,14 +88,14 @@ pub extern "C" fn iobufs_received_new(alloc: Global, prefix: u8, out: &mut Recei
     ensures at { out.new.at ≡ out.old.at }
     ensures status { (result ≡ 0) ⊎ (result ≡ code_of Status.BadKind) }
     ensures known { IfSome (prefix_from_c prefix) (λ known. (result ≡ 0)
-        × (out.new.value ≡ Some (none_received (bare known)))) }
+        × (out.new.value ≡ none_received (bare known))) }
     ensures unknown { IfNone (prefix_from_c prefix) ((result ≡ code_of Status.BadKind)
         × (out.new.value ≡ out.old.value)) }
 {
     let Some(prefix) = prefix_of(prefix) else {
         return Status::BadKind.code();
     };
-    *out.get() = Some(Received::new(alloc, prefix));
+    *out.get() = Received::new(alloc, prefix);
     Status::Done.code()
 }
 
@@ -112,57 +109,46 @@ pub extern "C" fn iobufs_received_with_layout(
     ensures at { out.new.at ≡ out.old.at }
     ensures status { (result ≡ 0) ⊎ (result ≡ code_of Status.BadKind) }
     ensures known { IfSome (layout_from_c layout.now) (λ known. (result ≡ 0)
-        × (out.new.value ≡ Some (none_received known))) }
+        × (out.new.value ≡ none_received known)) }
     ensures unknown { IfNone (layout_from_c layout.now) ((result ≡ code_of Status.BadKind)
         × (out.new.value ≡ out.old.value)) }
 {
     let Some(layout) = layout_of(layout) else {
         return Status::BadKind.code();
     };
-    *out.get() = Some(Received::with_layout(alloc, layout));
+    *out.get() = Received::with_layout(alloc, layout);
     Status::Done.code()
 }
 
 /// Sets the layout of the headers, from the next frame on. Returns `Status::BadKind` if the kind of the prefix is
-/// unknown, else `Status::Declined` if there is no receive block.
+/// unknown.
 #[unsafe(no_mangle)]
 pub extern "C" fn iobufs_received_set_layout(received: &mut ReceivedAt, layout: &LayoutInC) -> u8
     ensures at { received.new.at ≡ received.old.at }
-    ensures known { IfSome (layout_from_c layout.now) (λ known. AreBoth (λ old new. (result ≡ 0)
-        × (new ≡ record old { layout = known })) received.old.value received.new.value) }
-    ensures none { IfSome (layout_from_c layout.now) (λ known. received.old.value ≡ None
-        → result ≡ code_of Status.Declined) }
+    ensures status { (result ≡ 0) ⊎ (result ≡ code_of Status.BadKind) }
+    ensures known { IfSome (layout_from_c layout.now) (λ known. (result ≡ 0)
+        × (received.new.value ≡ record received.old.value { layout = known })) }
     ensures unknown { IfNone (layout_from_c layout.now) ((result ≡ code_of Status.BadKind)
         × (received.new.value ≡ received.old.value)) }
-    ensures status { (result ≡ 0) ⊎ (result ≡ code_of Status.BadKind) ⊎ (result ≡ code_of Status.Declined) }
 {
     let Some(layout) = layout_of(layout) else {
         return Status::BadKind.code();
     };
-    match received.get() {
-        Some(received) => {
-            received.set_layout(layout);
-            Status::Done.code()
-        }
-        None => Status::Declined.code(),
-    }
+    received.get().set_layout(layout);
+    Status::Done.code()
 }
 
 /// Returns how many bytes came and were not taken.
 #[unsafe(no_mangle)]
 pub extern "C" fn iobufs_received_len(received: &mut ReceivedAt) -> usize
     ensures same { (received.new.at ≡ received.old.at) × (received.new.value ≡ received.old.value) }
-    ensures value { result ≡ length (received_or_none received.old.value).bytes }
+    ensures value { result ≡ length received.old.value.bytes }
 {
-    match received.get() {
-        Some(received) => received.len(),
-        None => 0,
-    }
+    received.get().len()
 }
 
 /// Makes space for a read, of at least one byte, and writes its address and how many bytes it has: zeros, or bytes that
-/// the block held before. Returns `Status::Memory` if an allocation fails, or `Status::Declined` if there is no receive
-/// block; then `n` is unchanged.
+/// the block held before. Returns `Status::Memory` if an allocation fails; then `n` is unchanged.
 #[unsafe(no_mangle)]
 pub extern "C" fn iobufs_frames_space(
     received: &mut ReceivedAt,
@@ -170,18 +156,14 @@ pub extern "C" fn iobufs_frames_space(
     n: &mut usize,
 ) -> u8
     ensures at { received.new.at ≡ received.old.at }
-    ensures kept { AreBoth (λ old new. (new.layout ≡ old.layout)
-        × (new.bytes ≡ old.bytes)) received.old.value received.new.value }
-    ensures space { result ≡ 0 → IfSome received.new.value (λ new. (0 < new.space) × (n.new ≡ new.space)) }
-    ensures unchanged { (result == 0) ≡ false → n.new ≡ n.old }
-    ensures failed { AreBoth (λ old new. (result == 0) ≡ false
-        → old.space ≤ new.space) received.old.value received.new.value }
-    ensures none { received.old.value ≡ None → result ≡ code_of Status.Declined }
-    ensures memory { (old : ReceivedBytes) → received.old.value ≡ Some old → IsDoneUnless result Status.Memory }
+    ensures kept { (received.new.value.layout ≡ received.old.value.layout)
+        × (received.new.value.bytes ≡ received.old.value.bytes) }
+    ensures space { result ≡ 0 → (0 < received.new.value.space) × (n.new ≡ received.new.value.space) }
+    ensures failed { (result == 0) ≡ false → (n.new ≡ n.old)
+        × (received.old.value.space ≤ received.new.value.space) }
+    ensures memory { IsDoneUnless result Status.Memory }
 {
-    let Some(received) = received.get() else {
-        return Status::Declined.code();
-    };
+    let received = received.get();
     match received.make_space() {
         Ok(()) => {
             *n = received.lend_space(out);
@@ -196,32 +178,16 @@ pub extern "C" fn iobufs_frames_space(
 #[unsafe(no_mangle)]
 pub extern "C" fn iobufs_frames_filled(received: &mut ReceivedAt, n: usize) -> u8
     ensures at { received.new.at ≡ received.old.at }
-    ensures came { result ≡ 0 → AreBoth (HasReceived n) received.old.value received.new.value }
+    ensures came { result ≡ 0 → HasReceived n received.old.value received.new.value }
     ensures unchanged { (result == 0) ≡ false → received.new.value ≡ received.old.value }
-    ensures result { result
-        ≡ (if nat_le n (received_or_none received.old.value).space then 0 else code_of Status.OutOfRange) }
+    ensures result { result ≡ (if nat_le n received.old.value.space then 0 else code_of Status.OutOfRange) }
 {
-    let Some(received) = received.get() else {
-        return fits(n, 0);
-    };
+    let received = received.get();
     if n > received.space() {
         return Status::OutOfRange.code();
     }
     received.fill(n);
     Status::Done.code()
-}
-
-// Takes the first frame, if there is a receive block.
-fn next_of(received: &mut Option<Received>, range: &RangeCfg) -> Result<Option<IoBuf>, Error>
-    ensures next { TakesFirst (received_or_none received.old).layout range.now (received_or_none received.old).bytes
-        result (received_or_none received.new).bytes }
-    ensures left { MatchTaken result (λ body. AreBoth (λ had has. (has.layout ≡ had.layout) × KeepsSpace had has)
-        received.old received.new × (body ≡ view_of_bytes body.bytes)) (received.new ≡ received.old) }
-{
-    match received {
-        Some(received) => received.next(range),
-        None => Ok(None),
-    }
 }
 
 /// Takes the first frame, whose body has `lo` to `hi` bytes. Returns `Status::EndOfBuffer` if it is not whole yet,
@@ -241,24 +207,8 @@ pub extern "C" fn iobufs_received_next(
         (record { lo = lo; hi = hi }) received.old.value received.new.value
         result out.old.value out.new.value wrong.old wrong.new }
 {
-    let found = next_of(received.get(), &RangeCfg { lo, hi });
+    let found = received.get().next(&RangeCfg { lo, hi });
     tell(found, out, wrong)
-}
-
-// Takes the first frame with its header, if there is a receive block.
-fn next_whole_of(
-    received: &mut Option<Received>,
-    range: &RangeCfg,
-) -> Result<Option<(usize, IoBuf)>, Error>
-    ensures next { TakesWhole (λ view. view.bytes) (received_or_none received.old).layout range.now
-        (received_or_none received.old).bytes result (received_or_none received.new).bytes }
-    ensures left { MatchTaken result (λ whole. AreBoth (λ had has. (has.layout ≡ had.layout) × KeepsSpace had has)
-        received.old received.new × (whole.1 ≡ view_of_bytes whole.1.bytes)) (received.new ≡ received.old) }
-{
-    match received {
-        Some(received) => received.next_whole(range),
-        None => Ok(None),
-    }
 }
 
 /// Takes the first frame with its header, as `iobufs_received_next` takes its body, and writes how many bytes the
@@ -277,6 +227,6 @@ pub extern "C" fn iobufs_received_next_whole(
         (record { lo = lo; hi = hi }) received.old.value received.new.value
         result (header.old, out.old.value) (header.new, out.new.value) wrong.old wrong.new }
 {
-    let found = next_whole_of(received.get(), &RangeCfg { lo, hi });
+    let found = received.get().next_whole(&RangeCfg { lo, hi });
     tell_whole(found, out, header, wrong)
 }

@@ -23,7 +23,7 @@ pub enum Status {
     InvalidVarint,
     /// The length is outside the range, or the number in a header is below what it counts.
     InvalidLength,
-    /// The buffer can't be converted, and stays; or there is no builder or receive block.
+    /// The buffer can't be converted, and stays.
     Declined,
     /// The kind of a bound, or a prefix, is unknown.
     BadKind,

@@ -65,7 +65,7 @@ pub(crate) fn hand_text(made: Result<IoBufs, BufError>, out: &mut TextAt) -> u8
     }
 }
 
-fn empty() -> IoBufs
+fn empty(_alloc: Global) -> IoBufs
     ensures { result ≡ default_text }
 {
     IoBufs::default()
@@ -81,11 +81,11 @@ pub extern "C" fn iobufs_size() -> usize
 
 /// Makes an empty `IoBufs` of memory.
 #[unsafe(no_mangle)]
-pub unsafe extern "C" fn iobufs_init(at: *mut u8)
+pub unsafe extern "C" fn iobufs_init(alloc: Global, at: *mut u8)
     requires* { sem 𝓛 (room_at text_row at) }
     ensures* { sem 𝓛 (lies_at text_row full_share at default_text) }
 {
-    (at as *mut IoBufs).write(empty());
+    (at as *mut IoBufs).write(empty(alloc));
 }
 
 /// Drops the bytes; the empty `IoBufs` is left.

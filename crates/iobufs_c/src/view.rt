@@ -68,7 +68,7 @@ pub(crate) fn hand(made: Result<IoBuf, BufError>, out: &mut ViewAt) -> u8
     }
 }
 
-fn empty() -> IoBuf
+fn empty(_alloc: Global) -> IoBuf
     ensures { result ≡ default_view }
 {
     IoBuf::default()
@@ -84,11 +84,11 @@ pub extern "C" fn iobuf_size() -> usize
 
 /// Makes an empty view of memory.
 #[unsafe(no_mangle)]
-pub unsafe extern "C" fn iobuf_init(at: *mut u8)
+pub unsafe extern "C" fn iobuf_init(alloc: Global, at: *mut u8)
     requires* { sem 𝓛 (room_at view_row at) }
     ensures* { sem 𝓛 (lies_at view_row full_share at default_view) }
 {
-    (at as *mut IoBuf).write(empty());
+    (at as *mut IoBuf).write(empty(alloc));
 }
 
 /// Drops the bytes; the empty view is left.

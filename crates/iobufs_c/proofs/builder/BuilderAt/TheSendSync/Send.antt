@@ -1,9 +1,7 @@
 -- A place of a builder may go to another thread, as the builder may.
 use Rattle.std.proofs.Common.{refl}
 use denote.Param.Send.{IsSend}
-use Rattle.iobufs_c.specs.Rows.{builder_row as V}
-use Rattle.std.proofs.option.Option.TheSendSync.{the_send as option_send}
-use Rattle.iobufs.specs.contracts.builder.Builder.{the_row as row}
+use Rattle.iobufs.specs.contracts.builder.Builder.{the_row as V}
 use Rattle.iobufs.proofs.builder.Builder.TheSendSync.{the_send}
 use Rattle.iobufs_c.specs.declared.builder.BuilderAt.{BuilderAt}
 use Rattle.iobufs_c.specs.contracts.builder.BuilderAt.{struct, the_codes, the_row}
@@ -12,4 +10,4 @@ use Rattle.iobufs_c.proofs.Places.{sends}
 pub send : IsSend the_row
 send =
     sends V struct.name BuilderAt (λ d. d.at) (λ d. d.value) (λ p v. record { at = p; value = v }) (λ d. refl) (λ p v. refl)
-    (λ p v. refl) the_codes tt (option_send row the_send)
+    (λ p v. refl) the_codes tt the_send

@@ -1,6 +1,6 @@
 -- `get` lends the builder at the place, and the place follows it.
 use Rattle.std.proofs.Common.{refl}
-use Rattle.iobufs_c.specs.Rows.{builder_row as V}
+use Rattle.iobufs.specs.contracts.builder.Builder.{the_row as V}
 use Rattle.iobufs_c.specs.declared.builder.BuilderAt.{BuilderAt}
 use Rattle.iobufs_c.specs.contracts.builder.BuilderAt.{struct, the_codes}
 use Rattle.iobufs_c.specs.contracts.builder.BuilderAt.get.Key.{name}

@@ -1,6 +1,6 @@
 -- `get` lends the buffer at the place, and the place follows it.
 use Rattle.std.proofs.Common.{refl}
-use Rattle.iobufs_c.specs.Rows.{part_row as V}
+use Rattle.iobufs_core.specs.contracts.buf.part.IoBufMut.{the_row as V}
 use Rattle.iobufs_c.specs.declared.part.PartAt.{PartAt}
 use Rattle.iobufs_c.specs.contracts.part.PartAt.{struct, the_codes}
 use Rattle.iobufs_c.specs.contracts.part.PartAt.get.Key.{name}

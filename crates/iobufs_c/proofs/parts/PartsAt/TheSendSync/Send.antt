@@ -1,9 +1,7 @@
 -- A place of parts may go to another thread, as parts may.
 use Rattle.std.proofs.Common.{refl}
 use denote.Param.Send.{IsSend}
-use Rattle.iobufs_c.specs.Rows.{parts_row as V}
-use Rattle.std.proofs.option.Option.TheSendSync.{the_send as option_send}
-use Rattle.iobufs.specs.contracts.bufs_mut.IoBufsMut.{the_row as row}
+use Rattle.iobufs.specs.contracts.bufs_mut.IoBufsMut.{the_row as V}
 use Rattle.iobufs.proofs.bufs_mut.IoBufsMut.TheSendSync.{the_send}
 use Rattle.iobufs_c.specs.declared.parts.PartsAt.{PartsAt}
 use Rattle.iobufs_c.specs.contracts.parts.PartsAt.{struct, the_codes, the_row}
@@ -12,4 +10,4 @@ use Rattle.iobufs_c.proofs.Places.{sends}
 pub send : IsSend the_row
 send =
     sends V struct.name PartsAt (λ d. d.at) (λ d. d.value) (λ p v. record { at = p; value = v }) (λ d. refl) (λ p v. refl)
-    (λ p v. refl) the_codes tt (option_send row the_send)
+    (λ p v. refl) the_codes tt the_send

@@ -1,6 +1,6 @@
 -- `get` lends parts at the place, and the place follows it.
 use Rattle.std.proofs.Common.{refl}
-use Rattle.iobufs_c.specs.Rows.{parts_row as V}
+use Rattle.iobufs.specs.contracts.bufs_mut.IoBufsMut.{the_row as V}
 use Rattle.iobufs_c.specs.declared.parts.PartsAt.{PartsAt}
 use Rattle.iobufs_c.specs.contracts.parts.PartsAt.{struct, the_codes}
 use Rattle.iobufs_c.specs.contracts.parts.PartsAt.get.Key.{name}

@@ -1,6 +1,6 @@
 -- `get` lends the receive block of the handle, and the handle follows it.
 use Rattle.std.proofs.Common.{refl}
-use Rattle.iobufs_c.specs.FrameRows.{received_row as V}
+use Rattle.iobufs_frames.specs.contracts.block.Received.{the_row as V}
 use Rattle.iobufs_c.specs.declared.received.ReceivedAt.{ReceivedAt}
 use Rattle.iobufs_c.specs.contracts.received.ReceivedAt.{struct, the_codes}
 use Rattle.iobufs_c.specs.contracts.received.ReceivedAt.get.Key.{name}
