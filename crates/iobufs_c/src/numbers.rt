@@ -1,259 +1,147 @@
-// Big-endian numbers of a fixed size.
-ghost use Rattle.std.specs.Prelude.{◌≡◌, ◌<◌, ◌==◌, ◌∷◌, [], if◌then◌else◌, length, nat_le, false, Ok};
-ghost use Rattle.std.specs.Int.{to_be_bytes, w16, w32, w64};
+// Numbers of one, two, four or eight bytes, in either order.
+ghost use Rattle.std.specs.Prelude.{◌≡◌, ◌≤◌, ◌==◌, ◌++◌, if◌then◌else◌, length, take, replicate, nat_le, true, false, IsTrue};
 ghost use Rattle.iobufs.specs.Building.{building_put, building_room};
 ghost use Rattle.iobufs.specs.Parts.{parts_fill, parts_spare};
 ghost use Rattle.iobufs_core.specs.MarkedText.{text_advanced};
 ghost use Rattle.iobufs_core.specs.Part.{part_put};
 ghost use Rattle.iobufs_core.specs.View.{view_advanced};
-ghost use Rattle.iobufs_core.specs.Wire.{IsNumberRead};
-ghost use Rattle.iobufs_c.specs.Codes.{IsDoneUnless, code_of};
+ghost use Rattle.iobufs_c.specs.Codes.{code_of, number_status};
+ghost use Rattle.iobufs_c.specs.Rows.{is_number, number_bytes, number_eight, number_padded, number_start};
 
 use crate::builder::{BuilderAt, iobufs_builder_put_slice};
 use crate::part::{PartAt, iobufmut_put_slice};
 use crate::parts::{PartsAt, iobufsmut_put_slice};
 use crate::status::Status;
-use crate::text::TextAt;
-use crate::view::ViewAt;
-use iobufs_core::codec::Read;
-use std::alloc::Global;
+use crate::text::{TextAt, iobufs_copy_to_slice};
+use crate::view::{ViewAt, iobuf_copy_to_slice};
 
-/// Writes a big-endian `u16` into an `IoBufMut`. Returns `Status::OutOfRange` if it doesn't fit; then nothing changes.
+// Whether a number may have this size, and its bytes this order, by the header's `enum iobufs_order`.
+fn is_known(size: u8, order: u8) -> bool
+    ensures { result ≡ is_number size order }
+{
+    order <= 1 && (size == 1 || size == 2 || size == 4 || size == 8)
+}
+
+// The eight bytes of a number in this order.
+fn eight_of(n: u64, order: u8) -> [u8; 8]
+    ensures { result ≡ number_eight order n }
+{
+    if order == 0 {
+        u64::to_be_bytes(n)
+    } else {
+        u64::to_le_bytes(n)
+    }
+}
+
+// The number with these eight bytes.
+fn number_of(bytes: [u8; 8], order: u8) -> u64
+    ensures { number_eight order result ≡ bytes }
+{
+    if order == 0 {
+        u64::from_be_bytes(bytes)
+    } else {
+        u64::from_le_bytes(bytes)
+    }
+}
+
+// Where the `size` lowest of eight bytes in this order begin.
+fn start_of(size: usize, order: u8) -> usize
+    requires { size ≤ 8 }
+    ensures { result ≡ number_start size order }
+{
+    if order == 0 { 8 - size } else { 0 }
+}
+
+/// Writes the lowest `size` bytes of a number into an `IoBufMut`. Returns `Status::BadKind` if the size isn't 1, 2, 4 or
+/// 8, or the order unknown, or `Status::OutOfRange` if they don't fit; then nothing changes.
 #[unsafe(no_mangle)]
-pub extern "C" fn iobufmut_put_u16(part: &mut PartAt, n: u16) -> u8
+pub extern "C" fn iobufmut_put_number(part: &mut PartAt, n: u64, size: u8, order: u8) -> u8
     ensures at { part.new.at ≡ part.old.at }
-    ensures value { part.new.value ≡ (if result == 0 then part_put part.old.value (to_be_bytes w16 n) else part.old.value) }
-    ensures result { result ≡ (if nat_le 2 part.old.value.spare then 0 else code_of Status.OutOfRange) }
+    ensures value { part.new.value ≡ (if result == 0 then part_put part.old.value (number_bytes size order n)
+        else part.old.value) }
+    ensures result { result ≡ number_status size order part.old.value.spare Status.OutOfRange }
 {
-    iobufmut_put_slice(part, &u16::to_be_bytes(n))
+    if !is_known(size, order) {
+        return Status::BadKind.code();
+    }
+    let at = start_of(size as usize, order);
+    iobufmut_put_slice(part, &eight_of(n, order)[at..at + size as usize])
 }
 
-/// Writes a big-endian `u32` into an `IoBufMut`. Returns `Status::OutOfRange` if it doesn't fit; then nothing changes.
+/// Writes a number into an `IoBufsMut`, with the statuses of `iobufmut_put_number`.
 #[unsafe(no_mangle)]
-pub extern "C" fn iobufmut_put_u32(part: &mut PartAt, n: u32) -> u8
-    ensures at { part.new.at ≡ part.old.at }
-    ensures value { part.new.value ≡ (if result == 0 then part_put part.old.value (to_be_bytes w32 n) else part.old.value) }
-    ensures result { result ≡ (if nat_le 4 part.old.value.spare then 0 else code_of Status.OutOfRange) }
-{
-    iobufmut_put_slice(part, &u32::to_be_bytes(n))
-}
-
-/// Writes a big-endian `u64` into an `IoBufMut`. Returns `Status::OutOfRange` if it doesn't fit; then nothing changes.
-#[unsafe(no_mangle)]
-pub extern "C" fn iobufmut_put_u64(part: &mut PartAt, n: u64) -> u8
-    ensures at { part.new.at ≡ part.old.at }
-    ensures value { part.new.value ≡ (if result == 0 then part_put part.old.value (to_be_bytes w64 n) else part.old.value) }
-    ensures result { result ≡ (if nat_le 8 part.old.value.spare then 0 else code_of Status.OutOfRange) }
-{
-    iobufmut_put_slice(part, &u64::to_be_bytes(n))
-}
-
-/// Writes a big-endian `u16` into an `IoBufsMut`. Returns `Status::OutOfRange` if it doesn't fit; then nothing changes.
-#[unsafe(no_mangle)]
-pub extern "C" fn iobufsmut_put_u16(parts: &mut PartsAt, n: u16) -> u8
+pub extern "C" fn iobufsmut_put_number(parts: &mut PartsAt, n: u64, size: u8, order: u8) -> u8
     ensures at { parts.new.at ≡ parts.old.at }
-    ensures value { parts.new.value ≡ (if result == 0 then parts_fill parts.old.value (to_be_bytes w16 n) else parts.old.value) }
-    ensures result { result ≡ (if nat_le 2 (parts_spare
-        parts.old.value) then 0 else code_of Status.OutOfRange) }
+    ensures value { parts.new.value ≡ (if result == 0 then parts_fill parts.old.value (number_bytes size order n)
+        else parts.old.value) }
+    ensures result { result ≡ number_status size order (parts_spare parts.old.value) Status.OutOfRange }
 {
-    iobufsmut_put_slice(parts, &u16::to_be_bytes(n))
+    if !is_known(size, order) {
+        return Status::BadKind.code();
+    }
+    let at = start_of(size as usize, order);
+    iobufsmut_put_slice(parts, &eight_of(n, order)[at..at + size as usize])
 }
 
-/// Writes a big-endian `u32` into an `IoBufsMut`. Returns `Status::OutOfRange` if it doesn't fit; then nothing changes.
+/// Writes a number into a builder, with the statuses of `iobufmut_put_number`.
 #[unsafe(no_mangle)]
-pub extern "C" fn iobufsmut_put_u32(parts: &mut PartsAt, n: u32) -> u8
-    ensures at { parts.new.at ≡ parts.old.at }
-    ensures value { parts.new.value ≡ (if result == 0 then parts_fill parts.old.value (to_be_bytes w32 n) else parts.old.value) }
-    ensures result { result ≡ (if nat_le 4 (parts_spare
-        parts.old.value) then 0 else code_of Status.OutOfRange) }
-{
-    iobufsmut_put_slice(parts, &u32::to_be_bytes(n))
-}
-
-/// Writes a big-endian `u64` into an `IoBufsMut`. Returns `Status::OutOfRange` if it doesn't fit; then nothing changes.
-#[unsafe(no_mangle)]
-pub extern "C" fn iobufsmut_put_u64(parts: &mut PartsAt, n: u64) -> u8
-    ensures at { parts.new.at ≡ parts.old.at }
-    ensures value { parts.new.value ≡ (if result == 0 then parts_fill parts.old.value (to_be_bytes w64 n) else parts.old.value) }
-    ensures result { result ≡ (if nat_le 8 (parts_spare
-        parts.old.value) then 0 else code_of Status.OutOfRange) }
-{
-    iobufsmut_put_slice(parts, &u64::to_be_bytes(n))
-}
-
-/// Writes a big-endian `u16` into a builder. Returns `Status::OutOfRange` if it doesn't fit; then nothing changes.
-#[unsafe(no_mangle)]
-pub extern "C" fn iobufs_builder_put_u16(builder: &mut BuilderAt, n: u16) -> u8
+pub extern "C" fn iobufs_builder_put_number(
+    builder: &mut BuilderAt,
+    n: u64,
+    size: u8,
+    order: u8,
+) -> u8
     ensures at { builder.new.at ≡ builder.old.at }
-    ensures value { builder.new.value ≡ (if result == 0 then building_put builder.old.value (to_be_bytes w16 n) else builder.old.value) }
-    ensures result { result ≡ (if nat_le 2 (building_room
-        builder.old.value) then 0 else code_of Status.OutOfRange) }
+    ensures value { builder.new.value ≡ (if result == 0 then building_put builder.old.value
+        (number_bytes size order n) else builder.old.value) }
+    ensures result { result ≡ number_status size order (building_room builder.old.value) Status.OutOfRange }
 {
-    iobufs_builder_put_slice(builder, &u16::to_be_bytes(n))
+    if !is_known(size, order) {
+        return Status::BadKind.code();
+    }
+    let at = start_of(size as usize, order);
+    iobufs_builder_put_slice(builder, &eight_of(n, order)[at..at + size as usize])
 }
 
-/// Writes a big-endian `u32` into a builder. Returns `Status::OutOfRange` if it doesn't fit; then nothing changes.
+/// Reads a number of `size` bytes off a view. Returns `Status::BadKind` if the size isn't 1, 2, 4 or 8, or the order
+/// unknown, or `Status::EndOfBuffer` if the view is shorter; then nothing changes.
 #[unsafe(no_mangle)]
-pub extern "C" fn iobufs_builder_put_u32(builder: &mut BuilderAt, n: u32) -> u8
-    ensures at { builder.new.at ≡ builder.old.at }
-    ensures value { builder.new.value ≡ (if result == 0 then building_put builder.old.value (to_be_bytes w32 n) else builder.old.value) }
-    ensures result { result ≡ (if nat_le 4 (building_room
-        builder.old.value) then 0 else code_of Status.OutOfRange) }
-{
-    iobufs_builder_put_slice(builder, &u32::to_be_bytes(n))
-}
-
-/// Writes a big-endian `u64` into a builder. Returns `Status::OutOfRange` if it doesn't fit; then nothing changes.
-#[unsafe(no_mangle)]
-pub extern "C" fn iobufs_builder_put_u64(builder: &mut BuilderAt, n: u64) -> u8
-    ensures at { builder.new.at ≡ builder.old.at }
-    ensures value { builder.new.value ≡ (if result == 0 then building_put builder.old.value (to_be_bytes w64 n) else builder.old.value) }
-    ensures result { result ≡ (if nat_le 8 (building_room
-        builder.old.value) then 0 else code_of Status.OutOfRange) }
-{
-    iobufs_builder_put_slice(builder, &u64::to_be_bytes(n))
-}
-
-/// Reads a `u8` off a view. Returns `Status::EndOfBuffer` if it is shorter; then nothing changes.
-#[unsafe(no_mangle)]
-#[tactic(auto, using(iobufs_core::proofs::CallerFacts::reading))]
-pub extern "C" fn iobuf_get_u8(alloc: Global, src: &mut ViewAt, out: &mut u8) -> u8
+pub extern "C" fn iobuf_get_number(src: &mut ViewAt, size: u8, order: u8, out: &mut u64) -> u8
     ensures at { src.new.at ≡ src.old.at }
-    ensures read { result ≡ 0 → IsNumberRead (λ n. n ∷ []) 1 src.old.value.bytes (Ok out.new) }
-    ensures rest { result ≡ 0 → src.new.value ≡ view_advanced src.old.value 1 }
-    ensures unchanged { (result == 0) ≡ false → (src.new.value ≡ src.old.value) × (out.new ≡ out.old) }
-    ensures short { (result == 0) ≡ false → length src.old.value.bytes < 1 }
-    ensures causes { IsDoneUnless result Status.EndOfBuffer }
+    ensures value { src.new.value ≡ (if result == 0 then view_advanced src.old.value size else src.old.value) }
+    ensures read { result ≡ 0 → number_eight order out.new ≡ number_padded size order (take size src.old.value.bytes) }
+    ensures unread { (result == 0) ≡ false → out.new ≡ out.old }
+    ensures result { result ≡ number_status size order (length src.old.value.bytes) Status.EndOfBuffer }
 {
-    let Ok(n) = u8::read_cfg(alloc, src.get(), &()) else {
-        return Status::EndOfBuffer.code();
-    };
-    *out = n;
-    Status::Done.code()
+    if !is_known(size, order) {
+        return Status::BadKind.code();
+    }
+    let mut bytes = [0; 8];
+    let at = start_of(size as usize, order);
+    let status = iobuf_copy_to_slice(src, &mut bytes[at..at + size as usize]);
+    if status == 0 {
+        *out = number_of(bytes, order);
+    }
+    status
 }
 
-/// Reads a big-endian `u16` off a view. Returns `Status::EndOfBuffer` if it is shorter; then nothing changes.
+/// Reads a number of `size` bytes off an `IoBufs`, with the statuses of `iobuf_get_number`.
 #[unsafe(no_mangle)]
-#[tactic(auto, using(iobufs_core::proofs::CallerFacts::reading))]
-pub extern "C" fn iobuf_get_u16(alloc: Global, src: &mut ViewAt, out: &mut u16) -> u8
-    ensures at { src.new.at ≡ src.old.at }
-    ensures read { result ≡ 0 → IsNumberRead (to_be_bytes w16) 2 src.old.value.bytes (Ok out.new) }
-    ensures rest { result ≡ 0 → src.new.value ≡ view_advanced src.old.value 2 }
-    ensures unchanged { (result == 0) ≡ false → (src.new.value ≡ src.old.value) × (out.new ≡ out.old) }
-    ensures short { (result == 0) ≡ false → length src.old.value.bytes < 2 }
-    ensures causes { IsDoneUnless result Status.EndOfBuffer }
-{
-    let Ok(n) = u16::read_cfg(alloc, src.get(), &()) else {
-        return Status::EndOfBuffer.code();
-    };
-    *out = n;
-    Status::Done.code()
-}
-
-/// Reads a big-endian `u32` off a view. Returns `Status::EndOfBuffer` if it is shorter; then nothing changes.
-#[unsafe(no_mangle)]
-#[tactic(auto, using(iobufs_core::proofs::CallerFacts::reading))]
-pub extern "C" fn iobuf_get_u32(alloc: Global, src: &mut ViewAt, out: &mut u32) -> u8
-    ensures at { src.new.at ≡ src.old.at }
-    ensures read { result ≡ 0 → IsNumberRead (to_be_bytes w32) 4 src.old.value.bytes (Ok out.new) }
-    ensures rest { result ≡ 0 → src.new.value ≡ view_advanced src.old.value 4 }
-    ensures unchanged { (result == 0) ≡ false → (src.new.value ≡ src.old.value) × (out.new ≡ out.old) }
-    ensures short { (result == 0) ≡ false → length src.old.value.bytes < 4 }
-    ensures causes { IsDoneUnless result Status.EndOfBuffer }
-{
-    let Ok(n) = u32::read_cfg(alloc, src.get(), &()) else {
-        return Status::EndOfBuffer.code();
-    };
-    *out = n;
-    Status::Done.code()
-}
-
-/// Reads a big-endian `u64` off a view. Returns `Status::EndOfBuffer` if it is shorter; then nothing changes.
-#[unsafe(no_mangle)]
-#[tactic(auto, using(iobufs_core::proofs::CallerFacts::reading))]
-pub extern "C" fn iobuf_get_u64(alloc: Global, src: &mut ViewAt, out: &mut u64) -> u8
-    ensures at { src.new.at ≡ src.old.at }
-    ensures read { result ≡ 0 → IsNumberRead (to_be_bytes w64) 8 src.old.value.bytes (Ok out.new) }
-    ensures rest { result ≡ 0 → src.new.value ≡ view_advanced src.old.value 8 }
-    ensures unchanged { (result == 0) ≡ false → (src.new.value ≡ src.old.value) × (out.new ≡ out.old) }
-    ensures short { (result == 0) ≡ false → length src.old.value.bytes < 8 }
-    ensures causes { IsDoneUnless result Status.EndOfBuffer }
-{
-    let Ok(n) = u64::read_cfg(alloc, src.get(), &()) else {
-        return Status::EndOfBuffer.code();
-    };
-    *out = n;
-    Status::Done.code()
-}
-
-/// Reads a `u8` off an `IoBufs`. Returns `Status::EndOfBuffer` if it is shorter; then nothing changes.
-#[unsafe(no_mangle)]
-#[tactic(auto, using(iobufs_core::proofs::CallerFacts::reading))]
-pub extern "C" fn iobufs_get_u8(alloc: Global, text: &mut TextAt, out: &mut u8) -> u8
+pub extern "C" fn iobufs_get_number(text: &mut TextAt, size: u8, order: u8, out: &mut u64) -> u8
     ensures at { text.new.at ≡ text.old.at }
-    ensures read { result ≡ 0 → IsNumberRead (λ n. n ∷ []) 1 text.old.value.bytes (Ok out.new) }
-    ensures rest { result ≡ 0 → text.new.value ≡ text_advanced text.old.value 1 }
-    ensures unchanged { (result == 0) ≡ false → (text.new.value ≡ text.old.value) × (out.new ≡ out.old) }
-    ensures short { (result == 0) ≡ false → length text.old.value.bytes < 1 }
-    ensures causes { IsDoneUnless result Status.EndOfBuffer }
+    ensures value { text.new.value ≡ (if result == 0 then text_advanced text.old.value size else text.old.value) }
+    ensures read { result ≡ 0 → number_eight order out.new ≡ number_padded size order (take size text.old.value.bytes) }
+    ensures unread { (result == 0) ≡ false → out.new ≡ out.old }
+    ensures result { result ≡ number_status size order (length text.old.value.bytes) Status.EndOfBuffer }
 {
-    let Ok(n) = u8::read_cfg(alloc, text.get(), &()) else {
-        return Status::EndOfBuffer.code();
-    };
-    *out = n;
-    Status::Done.code()
-}
-
-/// Reads a big-endian `u16` off an `IoBufs`. Returns `Status::EndOfBuffer` if it is shorter; then nothing changes.
-#[unsafe(no_mangle)]
-#[tactic(auto, using(iobufs_core::proofs::CallerFacts::reading))]
-pub extern "C" fn iobufs_get_u16(alloc: Global, text: &mut TextAt, out: &mut u16) -> u8
-    ensures at { text.new.at ≡ text.old.at }
-    ensures read { result ≡ 0 → IsNumberRead (to_be_bytes w16) 2 text.old.value.bytes (Ok out.new) }
-    ensures rest { result ≡ 0 → text.new.value ≡ text_advanced text.old.value 2 }
-    ensures unchanged { (result == 0) ≡ false → (text.new.value ≡ text.old.value) × (out.new ≡ out.old) }
-    ensures short { (result == 0) ≡ false → length text.old.value.bytes < 2 }
-    ensures causes { IsDoneUnless result Status.EndOfBuffer }
-{
-    let Ok(n) = u16::read_cfg(alloc, text.get(), &()) else {
-        return Status::EndOfBuffer.code();
-    };
-    *out = n;
-    Status::Done.code()
-}
-
-/// Reads a big-endian `u32` off an `IoBufs`. Returns `Status::EndOfBuffer` if it is shorter; then nothing changes.
-#[unsafe(no_mangle)]
-#[tactic(auto, using(iobufs_core::proofs::CallerFacts::reading))]
-pub extern "C" fn iobufs_get_u32(alloc: Global, text: &mut TextAt, out: &mut u32) -> u8
-    ensures at { text.new.at ≡ text.old.at }
-    ensures read { result ≡ 0 → IsNumberRead (to_be_bytes w32) 4 text.old.value.bytes (Ok out.new) }
-    ensures rest { result ≡ 0 → text.new.value ≡ text_advanced text.old.value 4 }
-    ensures unchanged { (result == 0) ≡ false → (text.new.value ≡ text.old.value) × (out.new ≡ out.old) }
-    ensures short { (result == 0) ≡ false → length text.old.value.bytes < 4 }
-    ensures causes { IsDoneUnless result Status.EndOfBuffer }
-{
-    let Ok(n) = u32::read_cfg(alloc, text.get(), &()) else {
-        return Status::EndOfBuffer.code();
-    };
-    *out = n;
-    Status::Done.code()
-}
-
-/// Reads a big-endian `u64` off an `IoBufs`. Returns `Status::EndOfBuffer` if it is shorter; then nothing changes.
-#[unsafe(no_mangle)]
-#[tactic(auto, using(iobufs_core::proofs::CallerFacts::reading))]
-pub extern "C" fn iobufs_get_u64(alloc: Global, text: &mut TextAt, out: &mut u64) -> u8
-    ensures at { text.new.at ≡ text.old.at }
-    ensures read { result ≡ 0 → IsNumberRead (to_be_bytes w64) 8 text.old.value.bytes (Ok out.new) }
-    ensures rest { result ≡ 0 → text.new.value ≡ text_advanced text.old.value 8 }
-    ensures unchanged { (result == 0) ≡ false → (text.new.value ≡ text.old.value) × (out.new ≡ out.old) }
-    ensures short { (result == 0) ≡ false → length text.old.value.bytes < 8 }
-    ensures causes { IsDoneUnless result Status.EndOfBuffer }
-{
-    let Ok(n) = u64::read_cfg(alloc, text.get(), &()) else {
-        return Status::EndOfBuffer.code();
-    };
-    *out = n;
-    Status::Done.code()
+    if !is_known(size, order) {
+        return Status::BadKind.code();
+    }
+    let mut bytes = [0; 8];
+    let at = start_of(size as usize, order);
+    let status = iobufs_copy_to_slice(text, &mut bytes[at..at + size as usize]);
+    if status == 0 {
+        *out = number_of(bytes, order);
+    }
+    status
 }
