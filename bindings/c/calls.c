@@ -859,6 +859,135 @@ static void builder_numbers(void) {
     iobufs_drop(&text);
 }
 
+/* COUNTED are the bytes of these numbers, of which the highest is the first. */
+static const uint8_t counted[] = { 1, 2, 3, 4, 5, 6, 7, 8 };
+#define COUNTED_8 0x01
+#define COUNTED_16 0x0102
+#define COUNTED_32 0x01020304
+#define COUNTED_64 0x0102030405060708
+
+/* Buffers with space for n bytes, and those that hold n of the counted ones. */
+static void part_for(struct iobufmut_at *part, size_t n) { OK(iobufmut_with_capacity(n, part)); }
+static void parts_for(struct iobufsmut_at *parts, size_t n) {
+    PART(part);
+    part_for(&part, n);
+    iobufsmut_from_mut(&part, parts);
+}
+static void builder_for(struct iobufs_builder_at *builder, size_t n) { OK(iobufs_builder_new(n, builder)); }
+static void view_with(struct iobuf_at *view, size_t n) { OK(iobuf_copy_from_slice(counted, n, view)); }
+static void text_with(struct iobufs_at *text, size_t n) {
+    VIEW(first); VIEW(second);
+    OK(iobuf_copy_from_slice(counted, n / 2, &first));
+    OK(iobuf_copy_from_slice(counted + n / 2, n - n / 2, &second));
+    iobufs_from_view(&first, text);
+    OK(iobufs_append(text, &second));
+}
+/* Whether a buffer held just n of the counted bytes. It is dropped. */
+static int part_counts(struct iobufmut_at *part, size_t n) {
+    uint8_t *at;
+    int is = iobufmut_chunk(part, &at) == n && !memcmp(at, counted, n);
+    iobufmut_drop(part);
+    return is;
+}
+static int parts_count(struct iobufsmut_at *parts, size_t n) {
+    PART(part);
+    OK(iobufsmut_coalesce(parts, &part));
+    return part_counts(&part, n);
+}
+static int builder_counts(struct iobufs_builder_at *builder, size_t n) {
+    TEXT(text); VIEW(view); PART(part);
+    OK(iobufs_builder_finish(builder, &text));
+    OK(iobufs_try_into_single(&text, &view));
+    OK(iobufmut_from_view(&view, &part));
+    return part_counts(&part, n);
+}
+
+/* A call puts a number if there is space for all its bytes. */
+#define PUTS(put, HANDLE, space_for, counts, bits) do { \
+    HANDLE(it); \
+    CHECK(put##bits(&it, COUNTED_##bits) == IOBUFS_OUT_OF_RANGE); \
+    space_for(&it, bits / 8 - 1); \
+    CHECK(put##bits(&it, COUNTED_##bits) == IOBUFS_OUT_OF_RANGE); \
+    CHECK(counts(&it, 0)); \
+    space_for(&it, bits / 8); \
+    OK(put##bits(&it, COUNTED_##bits)); \
+    CHECK(counts(&it, bits / 8)); \
+} while (0)
+/* A call reads a number if all its bytes are there, and leaves the others. */
+#define GETS(get, HANDLE, with, len, drop, bits) do { \
+    HANDLE(it); \
+    uint##bits##_t n = 99; \
+    CHECK(get##bits(&it, &n) == IOBUFS_END_OF_BUFFER); \
+    with(&it, bits / 8 - 1); \
+    CHECK(get##bits(&it, &n) == IOBUFS_END_OF_BUFFER); \
+    CHECK(n == 99); \
+    CHECK(len(&it) == bits / 8 - 1); \
+    with(&it, bits / 8); \
+    OK(get##bits(&it, &n)); \
+    CHECK(n == COUNTED_##bits); \
+    CHECK(len(&it) == 0); \
+    drop(&it); \
+} while (0)
+
+static void inline_numbers(void) {
+    PUTS(iobufmut_put_u, PART, part_for, part_counts, 16);
+    PUTS(iobufmut_put_u, PART, part_for, part_counts, 32);
+    PUTS(iobufmut_put_u, PART, part_for, part_counts, 64);
+    PUTS(iobufsmut_put_u, PARTS, parts_for, parts_count, 16);
+    PUTS(iobufsmut_put_u, PARTS, parts_for, parts_count, 32);
+    PUTS(iobufsmut_put_u, PARTS, parts_for, parts_count, 64);
+    PUTS(iobufs_builder_put_u, BUILDER, builder_for, builder_counts, 16);
+    PUTS(iobufs_builder_put_u, BUILDER, builder_for, builder_counts, 32);
+    PUTS(iobufs_builder_put_u, BUILDER, builder_for, builder_counts, 64);
+    GETS(iobuf_get_u, VIEW, view_with, iobuf_len, iobuf_drop, 8);
+    GETS(iobuf_get_u, VIEW, view_with, iobuf_len, iobuf_drop, 16);
+    GETS(iobuf_get_u, VIEW, view_with, iobuf_len, iobuf_drop, 32);
+    GETS(iobuf_get_u, VIEW, view_with, iobuf_len, iobuf_drop, 64);
+    GETS(iobufs_get_u, TEXT, text_with, iobufs_len, iobufs_drop, 8);
+    GETS(iobufs_get_u, TEXT, text_with, iobufs_len, iobufs_drop, 16);
+    GETS(iobufs_get_u, TEXT, text_with, iobufs_len, iobufs_drop, 32);
+    GETS(iobufs_get_u, TEXT, text_with, iobufs_len, iobufs_drop, 64);
+}
+
+/* Each size with each order; of those that are known, the lowest bytes are put, and read back. */
+static void number_of_size(uint8_t size, uint8_t order) {
+    static const uint64_t number = 0xf1f2f3f4f5f6f7f8;
+    PART(part); PARTS(parts); BUILDER(builder); VIEW(view); VIEW(view_of_parts); TEXT(text); TEXT(built);
+    const int known = order <= IOBUFS_LE && (size == 1 || size == 2 || size == 4 || size == 8);
+    const iobufs_status wanted = known ? IOBUFS_OK : IOBUFS_BAD_KIND;
+    const uint64_t lowest = size < 8 ? number & ((UINT64_C(1) << (8 * size)) - 1) : number;
+    uint64_t read = 99, read_of_text = 99;
+    const uint8_t *at;
+    part_for(&part, 8); parts_for(&parts, 8); builder_for(&builder, 8);
+    CHECK(iobufmut_put_number(&part, number, size, order) == wanted);
+    CHECK(iobufsmut_put_number(&parts, number, size, order) == wanted);
+    CHECK(iobufs_builder_put_number(&builder, number, size, order) == wanted);
+    OK(iobufmut_freeze(&part, &view));
+    OK(iobufsmut_freeze(&parts, &text));
+    OK(iobufs_builder_finish(&builder, &built));
+    CHECK(iobuf_chunk(&view, &at) == (known ? size : 0));
+    for (uint8_t i = 0; known && i < size; i++) CHECK(at[order == IOBUFS_LE ? i : size - 1 - i] == 0xf8 - i);
+    CHECK(iobufs_eq(&text, &built));
+    OK(iobufs_take(&text, iobufs_len(&text), &view_of_parts));
+    CHECK(iobuf_eq(&view, &view_of_parts));
+    CHECK(iobuf_get_number(&view, size, order, &read) == wanted);
+    CHECK(iobufs_get_number(&built, size, order, &read_of_text) == wanted);
+    CHECK(read == (known ? lowest : 99));
+    CHECK(read_of_text == (known ? lowest : 99));
+    CHECK(iobuf_get_number(&view, size, order, &read) == (known ? IOBUFS_END_OF_BUFFER : IOBUFS_BAD_KIND));
+    CHECK(iobufs_get_number(&built, size, order, &read) == (known ? IOBUFS_END_OF_BUFFER : IOBUFS_BAD_KIND));
+    CHECK(iobufmut_put_number(&part, number, size, order) == (known ? IOBUFS_OUT_OF_RANGE : IOBUFS_BAD_KIND));
+    CHECK(iobufsmut_put_number(&parts, number, size, order) == (known ? IOBUFS_OUT_OF_RANGE : IOBUFS_BAD_KIND));
+    CHECK(iobufs_builder_put_number(&builder, number, size, order) == (known ? IOBUFS_OUT_OF_RANGE : IOBUFS_BAD_KIND));
+    iobuf_drop(&view); iobuf_drop(&view_of_parts); iobufs_drop(&built);
+}
+
+static void numbers_of_sizes(void) {
+    for (unsigned size = 0; size <= UINT8_MAX; size++)
+        for (unsigned order = 0; order <= 3; order++) number_of_size((uint8_t)size, (uint8_t)order);
+    number_of_size(4, UINT8_MAX);
+}
+
 /* ---- iobufs_frames and iobufs_received ---- */
 
 static void frames(void) {
@@ -891,12 +1020,12 @@ static void received_of_none(void) {
     uint8_t *at = NULL;
     size_t space = 7, wrong = 0;
     CHECK(iobufs_received_len(&none) == 0);
-    CHECK(iobufs_frames_filled(&none, 1) == IOBUFS_OUT_OF_RANGE);
+    CHECK(iobufs_received_filled(&none, 1) == IOBUFS_OUT_OF_RANGE);
     CHECK(iobufs_received_next(&none, 0, 9, &body, &wrong) == IOBUFS_END_OF_BUFFER);
-    OK(iobufs_frames_filled(&none, 0));
+    OK(iobufs_received_filled(&none, 0));
     CHECK(iobufs_received_new(10, &none) == IOBUFS_BAD_KIND);
     CHECK(iobufs_received_new(255, &none) == IOBUFS_BAD_KIND);
-    OK(iobufs_frames_space(&none, &at, &space));
+    OK(iobufs_received_space(&none, &at, &space));
     CHECK(space != 7 && space > 0);
     receive(&none, "\2hi", 3); /* its lengths are varints */
     OK(iobufs_received_next(&none, 0, 9, &body, &wrong));
@@ -911,26 +1040,26 @@ static void received_space(void) {
     const uint8_t *taken = NULL;
     size_t space = 0, more = 0, wrong = 0;
     OK(iobufs_received_new(IOBUFS_VARINT, &block));
-    CHECK(iobufs_frames_filled(&block, 1) == IOBUFS_OUT_OF_RANGE); /* none was lent */
-    OK(iobufs_frames_space(&block, &at, &space));
+    CHECK(iobufs_received_filled(&block, 1) == IOBUFS_OUT_OF_RANGE); /* none was lent */
+    OK(iobufs_received_space(&block, &at, &space));
     CHECK(space >= 12);
     CHECK(at[0] == 0);
     CHECK(at[space - 1] == 0);
     CHECK(iobufs_received_len(&block) == 0);
     memcpy(at, "\5helloX", 7);
-    CHECK(iobufs_frames_filled(&block, space + 1) == IOBUFS_OUT_OF_RANGE);
-    CHECK(iobufs_frames_filled(&block, SIZE_MAX) == IOBUFS_OUT_OF_RANGE);
+    CHECK(iobufs_received_filled(&block, space + 1) == IOBUFS_OUT_OF_RANGE);
+    CHECK(iobufs_received_filled(&block, SIZE_MAX) == IOBUFS_OUT_OF_RANGE);
     CHECK(iobufs_received_len(&block) == 0);
-    OK(iobufs_frames_filled(&block, 4));
+    OK(iobufs_received_filled(&block, 4));
     CHECK(iobufs_received_len(&block) == 4);
     CHECK(iobufs_received_next(&block, 0, 9, &body, &wrong) == IOBUFS_END_OF_BUFFER);
     CHECK(iobufs_received_next(&block, 0, 4, &body, &wrong) == IOBUFS_INVALID_LENGTH);
     CHECK(wrong == 5);
     CHECK(iobufs_received_len(&block) == 4);
-    OK(iobufs_frames_space(&block, &again, &more));
+    OK(iobufs_received_space(&block, &again, &more));
     CHECK(again == at + 4);
     CHECK(more == space - 4);
-    OK(iobufs_frames_filled(&block, 2));
+    OK(iobufs_received_filled(&block, 2));
     OK(iobufs_received_next(&block, 5, 5, &body, &wrong));
     CHECK(view_is(&body, "hello"));
     CHECK(iobuf_chunk(&body, &taken) == 5);
@@ -969,10 +1098,10 @@ struct prefix_case { uint8_t prefix; const char *bytes; size_t n; };
 static void check_head(const struct prefix_case *frame) {
     uint8_t head[10];
     size_t n = 99, other = 99;
-    OK(iobufs_frames_head(frame->prefix, 3, head, sizeof head, &n));
+    OK(iobufs_frames_length(frame->prefix, 3, head, sizeof head, &n));
     CHECK(n == frame->n - 3);
     CHECK(!memcmp(head, frame->bytes, n));
-    CHECK(iobufs_frames_head(frame->prefix, 4, head, n - 1, &other) == IOBUFS_OUT_OF_RANGE);
+    CHECK(iobufs_frames_length(frame->prefix, 4, head, n - 1, &other) == IOBUFS_OUT_OF_RANGE);
     CHECK(!memcmp(head, frame->bytes, n));
     CHECK(other == 99);
 }
@@ -1025,20 +1154,31 @@ static void prefixes(void) {
 static void long_heads(void) {
     uint8_t head[10];
     size_t n = 99;
-    CHECK(iobufs_frames_head(10, 0, head, sizeof head, &n) == IOBUFS_BAD_KIND);
-    CHECK(iobufs_frames_head(IOBUFS_U8, 256, head, sizeof head, &n) == IOBUFS_TOO_LONG);
-    CHECK(iobufs_frames_head(IOBUFS_U24_LE, 1 << 24, head, sizeof head, &n) == IOBUFS_TOO_LONG);
+    CHECK(iobufs_frames_length(10, 0, head, sizeof head, &n) == IOBUFS_BAD_KIND);
+    CHECK(iobufs_frames_length(IOBUFS_U8, 256, head, sizeof head, &n) == IOBUFS_TOO_LONG);
+    CHECK(iobufs_frames_length(IOBUFS_U24_LE, 1 << 24, head, sizeof head, &n) == IOBUFS_TOO_LONG);
     CHECK(n == 99);
-    OK(iobufs_frames_head(IOBUFS_VARINT, SIZE_MAX, head, sizeof head, &n));
+    OK(iobufs_frames_length(IOBUFS_VARINT, SIZE_MAX, head, sizeof head, &n));
     CHECK(n == 10);
     CHECK(head[9] == 1);
 }
 
 static void statuses(void) {
-    CHECK(!strcmp(iobufs_strerror(IOBUFS_OK), "done"));
-    CHECK(!strcmp(iobufs_strerror(IOBUFS_BAD_KIND), "unknown kind"));
-    CHECK(!strcmp(iobufs_strerror(10), "no status"));
-    CHECK(!strcmp(iobufs_strerror(255), "no status"));
+    static const struct { iobufs_status status; const char *text; } told[] = {
+        { IOBUFS_OK, "done" },
+        { IOBUFS_MEMORY, "an allocation failed" },
+        { IOBUFS_BAD_LAYOUT, "capacity too large" },
+        { IOBUFS_TOO_LONG, "lengths or capacities add up to too much" },
+        { IOBUFS_OUT_OF_RANGE, "outside the bytes or the space" },
+        { IOBUFS_END_OF_BUFFER, "fewer bytes remain" },
+        { IOBUFS_INVALID_VARINT, "invalid varint" },
+        { IOBUFS_INVALID_LENGTH, "length outside the range" },
+        { IOBUFS_DECLINED, "the buffer can't be converted" },
+        { IOBUFS_BAD_KIND, "unknown kind, size or order" },
+        { 10, "no status" },
+        { 255, "no status" },
+    };
+    for (size_t i = 0; i < sizeof told / sizeof *told; i++) CHECK(!strcmp(iobufs_strerror(told[i].status), told[i].text));
 }
 
 int main(void) {
@@ -1051,7 +1191,7 @@ int main(void) {
     parts_of_few(); parts_put(); parts_read(); parts_drain(); parts_coalesce();
     builders();
     text_lengths(); view_lengths();
-    buffer_numbers(); parts_numbers(); builder_numbers();
+    buffer_numbers(); parts_numbers(); builder_numbers(); inline_numbers(); numbers_of_sizes();
     frames(); received_of_none(); received_space(); received_frames();
     prefixes(); long_heads(); statuses();
     return 0;

@@ -1031,13 +1031,13 @@ static void same_kept(int i) {
 static void received_fill(void) {
     size_t space = 0;
     uint8_t *to = NULL;
-    OK(iobufs_frames_space(&received_at, &to, &space));
+    OK(iobufs_received_space(&received_at, &to, &space));
     CHECK(space > 0);
     size_t n = any_front();
     if (n > space) n = space;
-    CHECK(iobufs_frames_filled(&received_at, space + 1 + below(9)) == IOBUFS_OUT_OF_RANGE);
+    CHECK(iobufs_received_filled(&received_at, space + 1 + below(9)) == IOBUFS_OUT_OF_RANGE);
     memcpy(to, some, n);
-    OK(iobufs_frames_filled(&received_at, n));
+    OK(iobufs_received_filled(&received_at, n));
     memcpy(came + came_len, some, n);
     came_len += n;
 }

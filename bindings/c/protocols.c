@@ -72,10 +72,10 @@ static void written(const struct frame *frame) {
     CHECK(!memcmp(head, frame->whole, size));
     for (size_t i = size; i < sizeof head; i++) CHECK(head[i] == 7);
     len = 99;
-    CHECK(iobufs_frames_header(&frame->layout, around, frame->count, frame->n, some, size - 1, &len) == IOBUFS_OUT_OF_RANGE);
-    CHECK(iobufs_frames_header(&frame->layout, some, frame->count + 1, frame->n, some + 8, 24, &len) == IOBUFS_TOO_LONG);
+    CHECK(iobufs_layout_header(&frame->layout, around, frame->count, frame->n, some, size - 1, &len) == IOBUFS_OUT_OF_RANGE);
+    CHECK(iobufs_layout_header(&frame->layout, some, frame->count + 1, frame->n, some + 8, 24, &len) == IOBUFS_TOO_LONG);
     if (frame->count > 0)
-        CHECK(iobufs_frames_header(&frame->layout, around, frame->count - 1, frame->n, some, 32, &len) == IOBUFS_TOO_LONG);
+        CHECK(iobufs_layout_header(&frame->layout, around, frame->count - 1, frame->n, some, 32, &len) == IOBUFS_TOO_LONG);
     CHECK(len == 99);
     for (size_t i = 0; i < sizeof some; i++) CHECK(some[i] == 0);
 }
@@ -236,14 +236,20 @@ static const struct { struct iobufs_layout layout; size_t count, n; iobufs_statu
 };
 
 static void statuses(void) {
-    static const struct iobufs_layout unknown = { 0, 255, 0, 0 }, typed = POSTGRES;
+    static const struct iobufs_layout unknown = { 0, 255, 0, 0 }, typed = POSTGRES, bare = { 0, IOBUFS_U16_LE, 0, 0 };
     static const uint8_t around[510] = {0};
     RECEIVED(block); VIEW(whole);
     uint8_t head[32];
     size_t len, wrong = 99, header = 99;
     for (size_t i = 0; i < sizeof unwritten / sizeof *unwritten; i++)
-        CHECK(iobufs_frames_header(&unwritten[i].layout, around, unwritten[i].count, unwritten[i].n, head, sizeof head, &len)
+        CHECK(iobufs_layout_header(&unwritten[i].layout, around, unwritten[i].count, unwritten[i].n, head, sizeof head, &len)
               == unwritten[i].status);
+    OK(iobufs_layout_header(&bare, around, 0, 3, head, sizeof head, &len));
+    OK(iobufs_frames_header(&bare, NULL, 0, 3, head, sizeof head, &len)); /* NULL for no bytes, and for no space */
+    CHECK(len == 2 && head[0] == 3 && head[1] == 0);
+    CHECK(iobufs_frames_header(&bare, NULL, 0, 3, NULL, 0, &len) == IOBUFS_OUT_OF_RANGE);
+    CHECK(iobufs_frames_header(&typed, NULL, 0, 3, NULL, 0, &len) == IOBUFS_TOO_LONG);
+    CHECK(len == 2);
     CHECK(iobufs_received_with_layout(&unknown, &block) == IOBUFS_BAD_KIND);
     CHECK(iobufs_received_set_layout(&block, &unknown) == IOBUFS_BAD_KIND);
     OK(iobufs_received_set_layout(&block, &typed));

@@ -104,7 +104,7 @@ static iobufs_status next_whole(struct made *m) {
     return iobufs_frames_next_whole(&m->frames, 0, 99, &m->out_text, &header, &wrong);
 }
 static iobufs_status rest(struct made *m) { return iobufs_frames_rest(&m->frames, &m->out_text); }
-static iobufs_status space(struct made *m) { uint8_t *at; size_t n; return iobufs_frames_space(&m->fresh, &at, &n); }
+static iobufs_status space(struct made *m) { uint8_t *at; size_t n; return iobufs_received_space(&m->fresh, &at, &n); }
 static iobufs_status received(struct made *m) {
     size_t wrong;
     return iobufs_received_next(&m->received, 0, 99, &m->out_view, &wrong);

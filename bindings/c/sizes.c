@@ -125,7 +125,7 @@ static void received(size_t n, size_t step) {
     receive(&block, "\3\0\0\0abc", 7);
     OK(iobufs_received_next(&block, 0, 3, &first, &wrong));
     for (int twice = 0; twice < 2; twice++) {
-        OK(iobufs_frames_head(IOBUFS_U32_LE, n, head, sizeof head, &len));
+        OK(iobufs_frames_length(IOBUFS_U32_LE, n, head, sizeof head, &len));
         receive(&block, (const char *)head, len);
         for (size_t at = 0; at < n; at += step) {
             CHECK(iobufs_received_next(&block, 0, n, &body, &wrong) == IOBUFS_END_OF_BUFFER);

@@ -22,11 +22,11 @@ static inline void receive(struct iobufs_received_at *received, const char *src,
     for (size_t done = 0; done < n;) {
         uint8_t *at = NULL;
         size_t space = 0;
-        OK(iobufs_frames_space(received, &at, &space));
+        OK(iobufs_received_space(received, &at, &space));
         if (space > n - done) space = n - done;
         CHECK(space > 0);
         memcpy(at, src + done, space);
-        OK(iobufs_frames_filled(received, space));
+        OK(iobufs_received_filled(received, space));
         done += space;
     }
 }

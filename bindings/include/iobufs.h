@@ -24,18 +24,18 @@
  *     join, a SEQ_CST atomic). Several threads may use buffers that share a block at once, and one buffer by calls
  *     that only look (at a const handle, and `.._chunk` of a writable buffer): both are tested with eight threads
  *     (bindings/c/threads.c), and neither is proved.
- *  4. No pointer is NULL, also for 0 bytes; those to bytes outlive the call. The bytes of `iobuf_from_static` live, unchanged,
- *     until the last buffer made of them is dropped.
+ *  4. No pointer is NULL, also for 0 bytes, except two of `iobufs_frames_header`; those to bytes outlive the call. The
+ *     bytes of `iobuf_from_static` live, unchanged, until the last buffer made of them is dropped.
  *  5. The pointer of `.._chunk` and its like may be read until the next call that changes or drops that buffer. Only the
  *     bytes of a writable buffer (`iobufmut`, `iobufsmut`) may be overwritten there, and the space that
- *     `iobufs_frames_space` lends.
+ *     `iobufs_received_space` lends.
  *  6. malloc, realloc and free are one allocator's; no call comes from a signal handler, or from the forked child of a
  *     process with threads.
  *
  * The comment of a call that returns a status ends with one line or two:
  *   Fails: the statuses other than IOBUFS_OK, with their causes. A call that has IOBUFS_MEMORY there may allocate,
- *     and returns it if that fails; no other call allocates. "(reserved)": for a later version. The call doesn't
- *     allocate as it is. Its contract promises that only for bytes of `iobuf_from_static`, for no bytes (except that
+ *     and returns it if that fails; no other call allocates. "(reserved)": this can't happen now, and may in a later
+ *     version. The contract promises that it can't only for bytes of `iobuf_from_static`, for no bytes (except that
  *     `iobuf_clone` keeps the storage of an emptied view), for a split or a take of all bytes, and for a builder in
  *     which no bytes were put.
  *   Keeps: what is unchanged after a failure.
@@ -66,7 +66,7 @@ enum iobufs_code {
     IOBUFS_INVALID_VARINT = 6, /* the bytes are an invalid varint */
     IOBUFS_INVALID_LENGTH = 7, /* the length is outside the range, or below `counts` */
     IOBUFS_DECLINED = 8,       /* the buffer can't be converted, or both are one; all stays */
-    IOBUFS_BAD_KIND = 9       /* the kind of a bound, or a prefix, is unknown */
+    IOBUFS_BAD_KIND = 9       /* the kind of a bound, a prefix, or a number's size or order, is unknown */
 };
 typedef uint8_t iobufs_status;
 
@@ -75,7 +75,7 @@ static inline const char *iobufs_strerror(iobufs_status status) {
     static const char *const texts[] = {
         "done", "an allocation failed", "capacity too large", "lengths or capacities add up to too much",
         "outside the bytes or the space", "fewer bytes remain", "invalid varint", "length outside the range",
-        "the buffer can't be converted", "unknown kind",
+        "the buffer can't be converted", "unknown kind, size or order",
     };
     return status < sizeof texts / sizeof *texts ? texts[status] : "no status";
 }
@@ -136,6 +136,9 @@ uint32_t iobufs_build(void);
 
 /* As `struct iovec` of <sys/uio.h>, which may be cast to it. */
 struct iobufs_iovec { const uint8_t *base; size_t len; };
+
+/* The order of a number's bytes: the highest is the first (BE), or the last (LE). */
+enum iobufs_order { IOBUFS_BE = 0, IOBUFS_LE = 1 };
 
 /* The bounds of a range. */
 enum iobufs_bound { IOBUFS_INCLUDED = 0, IOBUFS_EXCLUDED = 1, IOBUFS_UNBOUNDED = 2 };
@@ -237,15 +240,6 @@ IOBUFS_CHECKED iobufs_status iobufmut_put_bytes(struct iobufmut_at *part, uint8_
 /* Puts one byte. (BufMut::put_u8)
  * Fails: IOBUFS_OUT_OF_RANGE if it doesn't fit. */
 IOBUFS_CHECKED iobufs_status iobufmut_put_u8(struct iobufmut_at *part, uint8_t n);
-/* Appends a big-endian number of two bytes. (BufMut::put_u16)
- * Fails: IOBUFS_OUT_OF_RANGE if it doesn't fit. */
-IOBUFS_CHECKED iobufs_status iobufmut_put_u16(struct iobufmut_at *part, uint16_t n);
-/* Appends a big-endian number of four bytes. (BufMut::put_u32)
- * Fails: IOBUFS_OUT_OF_RANGE if it doesn't fit. */
-IOBUFS_CHECKED iobufs_status iobufmut_put_u32(struct iobufmut_at *part, uint32_t n);
-/* Appends a big-endian number of eight bytes. (BufMut::put_u64)
- * Fails: IOBUFS_OUT_OF_RANGE if it doesn't fit. */
-IOBUFS_CHECKED iobufs_status iobufmut_put_u64(struct iobufmut_at *part, uint64_t n);
 /* Appends a varint length (see iobufs_length_size). (usize::write)
  * Fails: IOBUFS_OUT_OF_RANGE if it doesn't fit. */
 IOBUFS_CHECKED iobufs_status iobufmut_put_length(struct iobufmut_at *part, size_t n);
@@ -377,15 +371,6 @@ IOBUFS_CHECKED iobufs_status iobufsmut_put_bytes(struct iobufsmut_at *parts, uin
 /* Puts one byte. (BufMut::put_u8)
  * Fails: IOBUFS_OUT_OF_RANGE if it doesn't fit. */
 IOBUFS_CHECKED iobufs_status iobufsmut_put_u8(struct iobufsmut_at *parts, uint8_t n);
-/* Puts a big-endian number of two bytes, part after part. (BufMut::put_u16)
- * Fails: IOBUFS_OUT_OF_RANGE if it doesn't fit. */
-IOBUFS_CHECKED iobufs_status iobufsmut_put_u16(struct iobufsmut_at *parts, uint16_t n);
-/* Puts a big-endian number of four bytes, part after part. (BufMut::put_u32)
- * Fails: IOBUFS_OUT_OF_RANGE if it doesn't fit. */
-IOBUFS_CHECKED iobufs_status iobufsmut_put_u32(struct iobufsmut_at *parts, uint32_t n);
-/* Puts a big-endian number of eight bytes, part after part. (BufMut::put_u64)
- * Fails: IOBUFS_OUT_OF_RANGE if it doesn't fit. */
-IOBUFS_CHECKED iobufs_status iobufsmut_put_u64(struct iobufsmut_at *parts, uint64_t n);
 /* Puts a varint length, part after part. (usize::write)
  * Fails: IOBUFS_OUT_OF_RANGE if it doesn't fit. */
 IOBUFS_CHECKED iobufs_status iobufsmut_put_length(struct iobufsmut_at *parts, size_t n);
@@ -430,15 +415,6 @@ IOBUFS_CHECKED iobufs_status iobufs_builder_put_bytes(struct iobufs_builder_at *
 /* Puts one byte. (BufMut::put_u8)
  * Fails: IOBUFS_OUT_OF_RANGE if it doesn't fit. */
 IOBUFS_CHECKED iobufs_status iobufs_builder_put_u8(struct iobufs_builder_at *builder, uint8_t n);
-/* Appends a big-endian number of two bytes. (BufMut::put_u16)
- * Fails: IOBUFS_OUT_OF_RANGE if it doesn't fit. */
-IOBUFS_CHECKED iobufs_status iobufs_builder_put_u16(struct iobufs_builder_at *builder, uint16_t n);
-/* Appends a big-endian number of four bytes. (BufMut::put_u32)
- * Fails: IOBUFS_OUT_OF_RANGE if it doesn't fit. */
-IOBUFS_CHECKED iobufs_status iobufs_builder_put_u32(struct iobufs_builder_at *builder, uint32_t n);
-/* Appends a big-endian number of eight bytes. (BufMut::put_u64)
- * Fails: IOBUFS_OUT_OF_RANGE if it doesn't fit. */
-IOBUFS_CHECKED iobufs_status iobufs_builder_put_u64(struct iobufs_builder_at *builder, uint64_t n);
 /* Appends a varint length. (usize::write)
  * Fails: IOBUFS_OUT_OF_RANGE if it doesn't fit. */
 IOBUFS_CHECKED iobufs_status iobufs_builder_put_length(struct iobufs_builder_at *builder, size_t n);
@@ -476,40 +452,30 @@ IOBUFS_CHECKED iobufs_status iobufs_read_view(struct iobufs_at *bufs, size_t lo,
  * Keeps: both. */
 IOBUFS_CHECKED iobufs_status iobuf_read_view(struct iobuf_at *src, size_t lo, size_t hi, struct iobuf_at *out);
 
-/* ---- big-endian numbers of a fixed size ---- */
+/* ---- numbers of one, two, four or eight bytes ---- */
 
-/* Reads the byte at the front, and drops it. (u8::read_cfg, Buf::get_u8)
- * Fails: IOBUFS_END_OF_BUFFER if there is none.
+/* Puts the lowest `size` bytes of a number, in an `enum iobufs_order`. (own)
+ * Fails: IOBUFS_BAD_KIND if `size` isn't 1, 2, 4 or 8, or the order is unknown; IOBUFS_OUT_OF_RANGE if the bytes don't
+ *   fit. */
+IOBUFS_CHECKED iobufs_status iobufmut_put_number(struct iobufmut_at *part, uint64_t n, uint8_t size, uint8_t order);
+/* Puts a number as iobufmut_put_number does, part after part. (own)
+ * Fails: IOBUFS_BAD_KIND if `size` isn't 1, 2, 4 or 8, or the order is unknown; IOBUFS_OUT_OF_RANGE if the bytes don't
+ *   fit. */
+IOBUFS_CHECKED iobufs_status iobufsmut_put_number(struct iobufsmut_at *parts, uint64_t n, uint8_t size, uint8_t order);
+/* Puts a number as iobufmut_put_number does. (own)
+ * Fails: IOBUFS_BAD_KIND if `size` isn't 1, 2, 4 or 8, or the order is unknown; IOBUFS_OUT_OF_RANGE if the bytes don't
+ *   fit. */
+IOBUFS_CHECKED iobufs_status iobufs_builder_put_number(struct iobufs_builder_at *builder, uint64_t n, uint8_t size, uint8_t order);
+/* Reads the number of `size` bytes at the front, and drops it. (own)
+ * Fails: IOBUFS_BAD_KIND if `size` isn't 1, 2, 4 or 8, or the order is unknown; IOBUFS_END_OF_BUFFER if there are
+ *   fewer bytes.
  * Keeps: both. */
-IOBUFS_CHECKED iobufs_status iobuf_get_u8(struct iobuf_at *src, uint8_t *out);
-/* Reads a big-endian number of two bytes, as iobuf_get_u8 reads a byte. (u16::read_cfg, Buf::get_u16)
- * Fails: IOBUFS_END_OF_BUFFER if there are fewer.
+IOBUFS_CHECKED iobufs_status iobuf_get_number(struct iobuf_at *src, uint8_t size, uint8_t order, uint64_t *out);
+/* Reads the number of `size` bytes at the front, as iobuf_get_number does. (own)
+ * Fails: IOBUFS_BAD_KIND if `size` isn't 1, 2, 4 or 8, or the order is unknown; IOBUFS_END_OF_BUFFER if there are
+ *   fewer bytes.
  * Keeps: both. */
-IOBUFS_CHECKED iobufs_status iobuf_get_u16(struct iobuf_at *src, uint16_t *out);
-/* Reads a big-endian number of four bytes, as iobuf_get_u8 reads a byte. (u32::read_cfg, Buf::get_u32)
- * Fails: IOBUFS_END_OF_BUFFER if there are fewer.
- * Keeps: both. */
-IOBUFS_CHECKED iobufs_status iobuf_get_u32(struct iobuf_at *src, uint32_t *out);
-/* Reads a big-endian number of eight bytes, as iobuf_get_u8 reads a byte. (u64::read_cfg, Buf::get_u64)
- * Fails: IOBUFS_END_OF_BUFFER if there are fewer.
- * Keeps: both. */
-IOBUFS_CHECKED iobufs_status iobuf_get_u64(struct iobuf_at *src, uint64_t *out);
-/* Reads the byte at the front, and drops it. (u8::read_cfg, Buf::get_u8)
- * Fails: IOBUFS_END_OF_BUFFER if there is none.
- * Keeps: both. */
-IOBUFS_CHECKED iobufs_status iobufs_get_u8(struct iobufs_at *bufs, uint8_t *out);
-/* Reads a big-endian number of two bytes, as iobufs_get_u8 reads a byte. (u16::read_cfg, Buf::get_u16)
- * Fails: IOBUFS_END_OF_BUFFER if there are fewer.
- * Keeps: both. */
-IOBUFS_CHECKED iobufs_status iobufs_get_u16(struct iobufs_at *bufs, uint16_t *out);
-/* Reads a big-endian number of four bytes, as iobufs_get_u8 reads a byte. (u32::read_cfg, Buf::get_u32)
- * Fails: IOBUFS_END_OF_BUFFER if there are fewer.
- * Keeps: both. */
-IOBUFS_CHECKED iobufs_status iobufs_get_u32(struct iobufs_at *bufs, uint32_t *out);
-/* Reads a big-endian number of eight bytes, as iobufs_get_u8 reads a byte. (u64::read_cfg, Buf::get_u64)
- * Fails: IOBUFS_END_OF_BUFFER if there are fewer.
- * Keeps: both. */
-IOBUFS_CHECKED iobufs_status iobufs_get_u64(struct iobufs_at *bufs, uint64_t *out);
+IOBUFS_CHECKED iobufs_status iobufs_get_number(struct iobufs_at *bufs, uint8_t size, uint8_t order, uint64_t *out);
 
 /* ---- iobufs_frames (Frames): frames, each a header and a body, of bytes that come in chunks. The header is a length,
  * unless iobufs_frames_set_layout says otherwise ---- */
@@ -558,14 +524,14 @@ IOBUFS_CHECKED iobufs_status iobufs_frames_next_whole(struct iobufs_frames_at *f
  * Fails: IOBUFS_BAD_KIND if the prefix is unknown; IOBUFS_TOO_LONG if no length of this form is n;
  *   IOBUFS_OUT_OF_RANGE if the length doesn't fit into `room` bytes.
  * Keeps: `out` and `len`. */
-IOBUFS_CHECKED iobufs_status iobufs_frames_head(uint8_t prefix, size_t n, uint8_t *out, size_t room, size_t *len);
+IOBUFS_CHECKED iobufs_status iobufs_frames_length(uint8_t prefix, size_t n, uint8_t *out, size_t room, size_t *len);
 /* Writes the header of a body of n bytes, which is sent before it, to `out`, and its size to `len`: at most 32 bytes. The
  * `count` bytes of `around` are those around its length: the first `layout->before` come before it, the others after. (own)
  * Fails: IOBUFS_BAD_KIND if `layout->prefix` is unknown; IOBUFS_TOO_LONG if `count` isn't `before` and `after` together, or is
  *   above 22, if no length of this form is n with `counts`, or if header and body would pass SIZE_MAX; IOBUFS_OUT_OF_RANGE if the header
  *   doesn't fit into `room` bytes.
  * Keeps: `out` and `len`. */
-IOBUFS_CHECKED iobufs_status iobufs_frames_header(const struct iobufs_layout *layout, const uint8_t *around, size_t count, size_t n,
+IOBUFS_CHECKED iobufs_status iobufs_layout_header(const struct iobufs_layout *layout, const uint8_t *around, size_t count, size_t n,
     uint8_t *out, size_t room, size_t *len);
 
 /* ---- iobufs_received (Received): frames of bytes that are read into one block ---- */
@@ -592,12 +558,12 @@ size_t iobufs_received_len(const struct iobufs_received_at *received);
  * zeros, or what the block held before. If there is no space, it uses the block again if no body shares it, and else
  * allocates. It also allocates after a frame above 64 KiB, which has a block of its own. (own)
  * Fails: IOBUFS_MEMORY if it allocates. */
-IOBUFS_CHECKED iobufs_status iobufs_frames_space(struct iobufs_received_at *received, uint8_t **out, size_t *n);
+IOBUFS_CHECKED iobufs_status iobufs_received_space(struct iobufs_received_at *received, uint8_t **out, size_t *n);
 /* Counts the first n bytes of the space as received, after they were written there; the space is what is after them.
  * (own)
  * Fails: IOBUFS_OUT_OF_RANGE if it has fewer.
  * Keeps: the block. */
-IOBUFS_CHECKED iobufs_status iobufs_frames_filled(struct iobufs_received_at *received, size_t n);
+IOBUFS_CHECKED iobufs_status iobufs_received_filled(struct iobufs_received_at *received, size_t n);
 /* Takes the body of the first frame, which has from lo to hi bytes. It shares the block, and keeps at most its own frame
  * or 64 KiB, whichever is more. It is copied only out of a block above 64 KiB of another size than its frame: read only
  * after IOBUFS_END_OF_BUFFER, and none is copied. Writes to `wrong` what iobufs_frames_next does. (own)
@@ -614,8 +580,95 @@ IOBUFS_CHECKED iobufs_status iobufs_received_next(struct iobufs_received_at *rec
 IOBUFS_CHECKED iobufs_status iobufs_received_next_whole(struct iobufs_received_at *received, size_t lo, size_t hi,
     struct iobuf_at *out, size_t *header, size_t *wrong);
 
-/* ---- little-endian numbers: put swapped, as in iobufmut_put_u32(&part, iobufs_swap32(n)), and swapped after a read ---- */
+/* ---- big-endian numbers of a fixed size, by the calls above. These are inline: a library has no symbols for them. For
+ * little-endian ones pass IOBUFS_LE to the calls above, or put what iobufs_swap32 returns, and swap what was read ---- */
 
+/* Puts a big-endian number of two bytes. (BufMut::put_u16) */
+static inline IOBUFS_CHECKED iobufs_status iobufmut_put_u16(struct iobufmut_at *part, uint16_t n) {
+    return iobufmut_put_number(part, n, 2, IOBUFS_BE);
+}
+/* Puts a big-endian number of four bytes. (BufMut::put_u32) */
+static inline IOBUFS_CHECKED iobufs_status iobufmut_put_u32(struct iobufmut_at *part, uint32_t n) {
+    return iobufmut_put_number(part, n, 4, IOBUFS_BE);
+}
+/* Puts a big-endian number of eight bytes. (BufMut::put_u64) */
+static inline IOBUFS_CHECKED iobufs_status iobufmut_put_u64(struct iobufmut_at *part, uint64_t n) {
+    return iobufmut_put_number(part, n, 8, IOBUFS_BE);
+}
+/* Puts a big-endian number of two bytes. (BufMut::put_u16) */
+static inline IOBUFS_CHECKED iobufs_status iobufsmut_put_u16(struct iobufsmut_at *parts, uint16_t n) {
+    return iobufsmut_put_number(parts, n, 2, IOBUFS_BE);
+}
+/* Puts a big-endian number of four bytes. (BufMut::put_u32) */
+static inline IOBUFS_CHECKED iobufs_status iobufsmut_put_u32(struct iobufsmut_at *parts, uint32_t n) {
+    return iobufsmut_put_number(parts, n, 4, IOBUFS_BE);
+}
+/* Puts a big-endian number of eight bytes. (BufMut::put_u64) */
+static inline IOBUFS_CHECKED iobufs_status iobufsmut_put_u64(struct iobufsmut_at *parts, uint64_t n) {
+    return iobufsmut_put_number(parts, n, 8, IOBUFS_BE);
+}
+/* Puts a big-endian number of two bytes. (BufMut::put_u16) */
+static inline IOBUFS_CHECKED iobufs_status iobufs_builder_put_u16(struct iobufs_builder_at *builder, uint16_t n) {
+    return iobufs_builder_put_number(builder, n, 2, IOBUFS_BE);
+}
+/* Puts a big-endian number of four bytes. (BufMut::put_u32) */
+static inline IOBUFS_CHECKED iobufs_status iobufs_builder_put_u32(struct iobufs_builder_at *builder, uint32_t n) {
+    return iobufs_builder_put_number(builder, n, 4, IOBUFS_BE);
+}
+/* Puts a big-endian number of eight bytes. (BufMut::put_u64) */
+static inline IOBUFS_CHECKED iobufs_status iobufs_builder_put_u64(struct iobufs_builder_at *builder, uint64_t n) {
+    return iobufs_builder_put_number(builder, n, 8, IOBUFS_BE);
+}
+/* Reads the byte at the front, and drops it. (u8::read_cfg, Buf::get_u8) */
+static inline IOBUFS_CHECKED iobufs_status iobuf_get_u8(struct iobuf_at *src, uint8_t *out) {
+    uint64_t n = 0;
+    iobufs_status status = iobuf_get_number(src, 1, IOBUFS_BE, &n);
+    if (status == IOBUFS_OK) *out = n & UINT8_MAX;
+    return status;
+}
+/* Reads a big-endian number of two bytes, and drops it. (u16::read_cfg, Buf::get_u16) */
+static inline IOBUFS_CHECKED iobufs_status iobuf_get_u16(struct iobuf_at *src, uint16_t *out) {
+    uint64_t n = 0;
+    iobufs_status status = iobuf_get_number(src, 2, IOBUFS_BE, &n);
+    if (status == IOBUFS_OK) *out = n & UINT16_MAX;
+    return status;
+}
+/* Reads a big-endian number of four bytes, and drops it. (u32::read_cfg, Buf::get_u32) */
+static inline IOBUFS_CHECKED iobufs_status iobuf_get_u32(struct iobuf_at *src, uint32_t *out) {
+    uint64_t n = 0;
+    iobufs_status status = iobuf_get_number(src, 4, IOBUFS_BE, &n);
+    if (status == IOBUFS_OK) *out = n & UINT32_MAX;
+    return status;
+}
+/* Reads a big-endian number of eight bytes, and drops it. (u64::read_cfg, Buf::get_u64) */
+static inline IOBUFS_CHECKED iobufs_status iobuf_get_u64(struct iobuf_at *src, uint64_t *out) {
+    return iobuf_get_number(src, 8, IOBUFS_BE, out);
+}
+/* Reads the byte at the front, and drops it. (u8::read_cfg, Buf::get_u8) */
+static inline IOBUFS_CHECKED iobufs_status iobufs_get_u8(struct iobufs_at *bufs, uint8_t *out) {
+    uint64_t n = 0;
+    iobufs_status status = iobufs_get_number(bufs, 1, IOBUFS_BE, &n);
+    if (status == IOBUFS_OK) *out = n & UINT8_MAX;
+    return status;
+}
+/* Reads a big-endian number of two bytes, and drops it. (u16::read_cfg, Buf::get_u16) */
+static inline IOBUFS_CHECKED iobufs_status iobufs_get_u16(struct iobufs_at *bufs, uint16_t *out) {
+    uint64_t n = 0;
+    iobufs_status status = iobufs_get_number(bufs, 2, IOBUFS_BE, &n);
+    if (status == IOBUFS_OK) *out = n & UINT16_MAX;
+    return status;
+}
+/* Reads a big-endian number of four bytes, and drops it. (u32::read_cfg, Buf::get_u32) */
+static inline IOBUFS_CHECKED iobufs_status iobufs_get_u32(struct iobufs_at *bufs, uint32_t *out) {
+    uint64_t n = 0;
+    iobufs_status status = iobufs_get_number(bufs, 4, IOBUFS_BE, &n);
+    if (status == IOBUFS_OK) *out = n & UINT32_MAX;
+    return status;
+}
+/* Reads a big-endian number of eight bytes, and drops it. (u64::read_cfg, Buf::get_u64) */
+static inline IOBUFS_CHECKED iobufs_status iobufs_get_u64(struct iobufs_at *bufs, uint64_t *out) {
+    return iobufs_get_number(bufs, 8, IOBUFS_BE, out);
+}
 static inline uint16_t iobufs_swap16(uint16_t n) {
     return __builtin_bswap16(n);
 }
@@ -624,6 +677,15 @@ static inline uint32_t iobufs_swap32(uint32_t n) {
 }
 static inline uint64_t iobufs_swap64(uint64_t n) {
     return __builtin_bswap64(n);
+}
+
+/* ---- a frame's header, by iobufs_layout_header ---- */
+
+/* Writes a frame's header, as iobufs_layout_header does. `around` may be NULL if `count` is 0, and `out` if `room` is. (own) */
+static inline IOBUFS_CHECKED iobufs_status iobufs_frames_header(const struct iobufs_layout *layout, const uint8_t *around, size_t count,
+    size_t n, uint8_t *out, size_t room, size_t *len) {
+    uint8_t none = 0;
+    return iobufs_layout_header(layout, count ? around : &none, count, n, room ? out : &none, room, len);
 }
 
 /* ---- one iobufs at the end of another ---- */

@@ -12,6 +12,7 @@ pub fn write(here: &Path, to: &Path) -> Result<(), String> {
 fn main() -> Result<(), String> {
     let [here, to] = strip::folders();
     println!("cargo:rerun-if-changed=src/built.rs");
-    println!("cargo:rustc-cdylib-link-arg=-Wl,-soname,libiobufs.so.0");
+    let (major, minor) = (env!("CARGO_PKG_VERSION_MAJOR"), env!("CARGO_PKG_VERSION_MINOR"));
+    println!("cargo:rustc-cdylib-link-arg=-Wl,-soname,libiobufs.so.{major}.{minor}");
     write(&here, &to)
 }

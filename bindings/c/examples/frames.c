@@ -16,13 +16,13 @@ static iobufs_status read_frame(int fd, struct iobufs_received_at *block, struct
     size_t wrong, space;
     uint8_t *at;
     while ((status = iobufs_received_next(block, 0, MOST, body, &wrong)) == IOBUFS_END_OF_BUFFER) {
-        status = iobufs_frames_space(block, &at, &space);
+        status = iobufs_received_space(block, &at, &space);
         if (status != IOBUFS_OK) return status;
         errno = 0;
         ssize_t n = read(fd, at, space);
         if (n < 0 && errno == EINTR) continue;
         if (n <= 0) return IOBUFS_END_OF_BUFFER;
-        status = iobufs_frames_filled(block, (size_t)n);
+        status = iobufs_received_filled(block, (size_t)n);
         if (status != IOBUFS_OK) return status;
     }
     return status;

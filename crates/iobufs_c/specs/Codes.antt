@@ -2,11 +2,9 @@
 --     code_of                  a status as the header numbers it
 --     of_buf_error, of_error   the status of a refusal, and of an error of reading
 --     IsDoneUnless             done, unless there is this cause
---     number_status            what a call on a number of a size returns, if there is space, or bytes, for `most`
 --     IsReadCode               what reading a length answers
 --     IsViewReadCode           what reading a view answers
-use Rattle.std.specs.Prelude.{◌≡◌, ◌⊎◌, ℕ, nat_le, if◌then◌else◌}
-use Rattle.iobufs_c.specs.Rows.{is_number}
+use Rattle.std.specs.Prelude.{◌≡◌, ◌⊎◌, ℕ}
 use Rattle.iobufs_c.specs.declared.status.Status.{Status}
 use Rattle.iobufs_c.specs.declared.status.Status.TheVariants.{Done, Memory, BadLayout, TooLong, OutOfRange, EndOfBuffer, InvalidVarint, InvalidLength, Declined, BadKind}
 use Rattle.iobufs_core.specs.declared.codec.base.BufError.{BufError}
@@ -45,11 +43,6 @@ of_error error.TooLong = TooLong
 -- done, unless there is this cause
 abbrev pub IsDoneUnless : ℕ → Status → Type 0
 IsDoneUnless code status = (code ≡ 0) ⊎ (code ≡ code_of status)
-
--- done if there is room for `size` of `most` bytes, else this cause; BadKind of another size or order
-abbrev pub number_status : ℕ → ℕ → ℕ → Status → ℕ
-number_status size order most cause =
-    if is_number size order then (if nat_le size most then 0 else code_of cause) else code_of BadKind
 
 -- the status of reading a length, which doesn't allocate
 abbrev pub IsReadCode : ℕ → Type 0

@@ -182,7 +182,7 @@ pub extern "C" fn iobufs_frames_set_layout(frames: &mut FramesAt, layout: &Layou
 /// Returns `Status::BadKind` if the prefix is unknown, `Status::TooLong` if the length doesn't fit the prefix, or
 /// `Status::OutOfRange` if the encoded length doesn't fit into `out`. If it fails, nothing is written.
 #[unsafe(no_mangle)]
-pub extern "C" fn iobufs_frames_head(prefix: u8, n: usize, out: &mut [u8], len: &mut usize) -> u8
+pub extern "C" fn iobufs_frames_length(prefix: u8, n: usize, out: &mut [u8], len: &mut usize) -> u8
     ensures unknown { IfNone (prefix_from_c prefix) (result ≡ code_of Status.BadKind) }
     ensures too_long { IfSome (prefix_from_c prefix) (λ known. prefix_limit known ≤ n
         → result ≡ code_of Status.TooLong) }

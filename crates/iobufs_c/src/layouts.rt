@@ -59,7 +59,7 @@ pub(crate) fn layout_of(said: &LayoutInC) -> Option<Layout>
 /// 22, if the length doesn't fit the prefix, or if header and body are longer than `usize::MAX`, and
 /// `Status::OutOfRange` if the header doesn't fit into `out`. If it fails, nothing is written.
 #[unsafe(no_mangle)]
-pub extern "C" fn iobufs_frames_header(
+pub extern "C" fn iobufs_layout_header(
     layout: &LayoutInC,
     around: &[u8],
     n: usize,

@@ -1,11 +1,11 @@
 // Numbers of one, two, four or eight bytes, in either order.
-ghost use Rattle.std.specs.Prelude.{◌≡◌, ◌≤◌, ◌==◌, ◌++◌, if◌then◌else◌, length, take, replicate, nat_le, true, false, IsTrue};
+ghost use Rattle.std.specs.Prelude.{◌≡◌, ◌≤◌, ◌==◌, if◌then◌else◌, length, take, nat_le, false};
 ghost use Rattle.iobufs.specs.Building.{building_put, building_room};
 ghost use Rattle.iobufs.specs.Parts.{parts_fill, parts_spare};
 ghost use Rattle.iobufs_core.specs.MarkedText.{text_advanced};
 ghost use Rattle.iobufs_core.specs.Part.{part_put};
 ghost use Rattle.iobufs_core.specs.View.{view_advanced};
-ghost use Rattle.iobufs_c.specs.Codes.{code_of, number_status};
+ghost use Rattle.iobufs_c.specs.Codes.{code_of};
 ghost use Rattle.iobufs_c.specs.Rows.{is_number, number_bytes, number_eight, number_padded, number_start};
 
 use crate::builder::{BuilderAt, iobufs_builder_put_slice};
@@ -59,7 +59,8 @@ pub extern "C" fn iobufmut_put_number(part: &mut PartAt, n: u64, size: u8, order
     ensures at { part.new.at ≡ part.old.at }
     ensures value { part.new.value ≡ (if result == 0 then part_put part.old.value (number_bytes size order n)
         else part.old.value) }
-    ensures result { result ≡ number_status size order part.old.value.spare Status.OutOfRange }
+    ensures result { result ≡ (if is_number size order then (if nat_le size part.old.value.spare then 0 else
+        code_of Status.OutOfRange) else code_of Status.BadKind) }
 {
     if !is_known(size, order) {
         return Status::BadKind.code();
@@ -74,7 +75,8 @@ pub extern "C" fn iobufsmut_put_number(parts: &mut PartsAt, n: u64, size: u8, or
     ensures at { parts.new.at ≡ parts.old.at }
     ensures value { parts.new.value ≡ (if result == 0 then parts_fill parts.old.value (number_bytes size order n)
         else parts.old.value) }
-    ensures result { result ≡ number_status size order (parts_spare parts.old.value) Status.OutOfRange }
+    ensures result { result ≡ (if is_number size order then (if nat_le size (parts_spare parts.old.value) then 0 else
+        code_of Status.OutOfRange) else code_of Status.BadKind) }
 {
     if !is_known(size, order) {
         return Status::BadKind.code();
@@ -94,7 +96,8 @@ pub extern "C" fn iobufs_builder_put_number(
     ensures at { builder.new.at ≡ builder.old.at }
     ensures value { builder.new.value ≡ (if result == 0 then building_put builder.old.value
         (number_bytes size order n) else builder.old.value) }
-    ensures result { result ≡ number_status size order (building_room builder.old.value) Status.OutOfRange }
+    ensures result { result ≡ (if is_number size order then (if nat_le size (building_room builder.old.value) then 0 else
+        code_of Status.OutOfRange) else code_of Status.BadKind) }
 {
     if !is_known(size, order) {
         return Status::BadKind.code();
@@ -111,7 +114,8 @@ pub extern "C" fn iobuf_get_number(src: &mut ViewAt, size: u8, order: u8, out: &
     ensures value { src.new.value ≡ (if result == 0 then view_advanced src.old.value size else src.old.value) }
     ensures read { result ≡ 0 → number_eight order out.new ≡ number_padded size order (take size src.old.value.bytes) }
     ensures unread { (result == 0) ≡ false → out.new ≡ out.old }
-    ensures result { result ≡ number_status size order (length src.old.value.bytes) Status.EndOfBuffer }
+    ensures result { result ≡ (if is_number size order then (if nat_le size (length src.old.value.bytes) then 0 else
+        code_of Status.EndOfBuffer) else code_of Status.BadKind) }
 {
     if !is_known(size, order) {
         return Status::BadKind.code();
@@ -132,7 +136,8 @@ pub extern "C" fn iobufs_get_number(text: &mut TextAt, size: u8, order: u8, out:
     ensures value { text.new.value ≡ (if result == 0 then text_advanced text.old.value size else text.old.value) }
     ensures read { result ≡ 0 → number_eight order out.new ≡ number_padded size order (take size text.old.value.bytes) }
     ensures unread { (result == 0) ≡ false → out.new ≡ out.old }
-    ensures result { result ≡ number_status size order (length text.old.value.bytes) Status.EndOfBuffer }
+    ensures result { result ≡ (if is_number size order then (if nat_le size (length text.old.value.bytes) then 0 else
+        code_of Status.EndOfBuffer) else code_of Status.BadKind) }
 {
     if !is_known(size, order) {
         return Status::BadKind.code();

@@ -150,7 +150,7 @@ pub extern "C" fn iobufs_received_len(received: &mut ReceivedAt) -> usize
 /// Makes space for a read, of at least one byte, and writes its address and how many bytes it has: zeros, or bytes that
 /// the block held before. Returns `Status::Memory` if an allocation fails; then `n` is unchanged.
 #[unsafe(no_mangle)]
-pub extern "C" fn iobufs_frames_space(
+pub extern "C" fn iobufs_received_space(
     received: &mut ReceivedAt,
     out: &mut *mut u8,
     n: &mut usize,
@@ -176,7 +176,7 @@ pub extern "C" fn iobufs_frames_space(
 /// Counts the first `n` bytes of the space as received. Returns `Status::OutOfRange` if the space has fewer; then all
 /// is unchanged.
 #[unsafe(no_mangle)]
-pub extern "C" fn iobufs_frames_filled(received: &mut ReceivedAt, n: usize) -> u8
+pub extern "C" fn iobufs_received_filled(received: &mut ReceivedAt, n: usize) -> u8
     ensures at { received.new.at ≡ received.old.at }
     ensures came { result ≡ 0 → HasReceived n received.old.value received.new.value }
     ensures unchanged { (result == 0) ≡ false → received.new.value ≡ received.old.value }
