@@ -3,7 +3,7 @@
 //! builds. Inputs are longer if `IOBUFS_LARGE` is set.
 use std::ffi::{OsStr, OsString};
 use std::fs::{self, File};
-use std::io::{Read, Seek, Write};
+use std::io::{BufReader, Read, Seek, Write};
 use std::path::{Path, PathBuf};
 use std::process::{Child, Command, Stdio};
 use std::sync::mpsc;
@@ -312,7 +312,7 @@ fn assert_flushed(half: &str, pieces: &[(&str, &str)]) {
     let mut child = start_half(half).spawn().expect("it starts");
     let (mut stdin, stdout) = (child.stdin.take().expect("a pipe"), child.stdout.take().expect("a pipe"));
     let (to, replies) = mpsc::channel();
-    thread::spawn(move || stdout.bytes().map_while(Result::ok).for_each(|byte| drop(to.send(byte))));
+    thread::spawn(move || BufReader::new(stdout).bytes().map_while(Result::ok).try_for_each(|byte| to.send(byte)));
     for (piece, wanted) in pieces {
         stdin.write_all(piece.as_bytes()).expect("it is read");
         let next = |_| replies.recv_timeout(Duration::from_secs(10)).ok();

@@ -254,7 +254,7 @@ impl Block {
 
     /// Returns whether this is the only handle. If so, all that others did happened before.
     #[inline]
-    pub fn is_only(&self) -> bool {
+    pub(crate) fn is_only(&self) -> bool {
         self.head().handles.is_one()
     }
 

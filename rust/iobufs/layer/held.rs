@@ -138,9 +138,11 @@ impl Held {
         matches!(self.0, Storage::Shared(_))
     }
 
-    /// Returns whether nothing else has a share of the storage, unless that is a `Bytes`. Static bytes are shared.
+    /// Returns whether nothing else has a share of the storage, unless that is a `Bytes`. Static bytes are shared. For the
+    /// Rust crate: `held.rt` has no such call, and `rust/kit` no use of it.
+    #[allow(dead_code)]
     #[inline]
-    pub fn is_only(&self) -> Result<bool, &Bytes> {
+    pub(crate) fn is_only(&self) -> Result<bool, &Bytes> {
         match &self.0 {
             Storage::Own(own) => Ok(own.block.as_ref().is_some_and(Block::is_only)),
             Storage::Shared(bytes) => Err(bytes),

@@ -13,7 +13,7 @@ mod kit {
 }
 
 /// Tests that have to fail, through the same generator and runner.
-#[allow(unused_variables)]
+#[allow(unused_variables, clippy::all)]
 #[forbid(unsafe_code)]
 mod failing {
     include!(concat!(env!("OUT_DIR"), "/failing.rs"));
