@@ -70,9 +70,9 @@ pub swaps-none : {X : Type 0} (xs : List (Option X)) → Swaps xs xs None None
 swaps-none xs p e = refl
 
 -- another entry under a number
-pub swaps-set : {X : Type 0} (xs : List (Option X)) (i : ℕ) (o n : Option X) → get_or xs i None ≡ o → i < length xs
+pub swaps-set : {X : Type 0} (xs : List (Option X)) {o : Option X} (i : ℕ) (n : Option X) → get_or xs i None ≡ o → i < length xs
     → Swaps xs (set xs i n) o n
-swaps-set xs i o n at l p e = rw (← at) (count-set p xs i n None l)
+swaps-set xs i n at l p e = rw (← at) (count-set p xs i n None l)
 
 -- an entry more
 pub swaps-push : {X : Type 0} (xs : List (Option X)) (n : Option X) → Swaps xs (xs ++ n ∷ []) None n
@@ -94,9 +94,9 @@ pub record Swapped (s t : State) (o o' : Option Handle) (c c' : Option Pending) 
   pub longer : length s.tables.blocks ≤ length t.tables.blocks
 
 -- so it is from a sound machine, where t's tables keep what handles and calls speak of, and each drop has let go as before
-pub counts-swapped : {s t : State} {o o' : Option Handle} {c c' : Option Pending} → IsSound s → Keeps s.tables t.tables
+pub swapped : {s t : State} {o o' : Option Handle} {c c' : Option Pending} → IsSound s → Keeps s.tables t.tables
     → All (KeepsLetGo s.tables t.tables) s.calls → Swaps s.handles t.handles o o' → Swaps s.calls t.calls c c' → Swapped s t o o' c c'
-counts-swapped {s} {t} {o} {o'} {c} {c'} k e gone hs cs =
+swapped {s} {t} {o} {o'} {c} {c'} k e gone hs cs =
     let g : Tables = s.tables in
     let u : Tables = t.tables in
     let handles : (p q : Option Handle → Bool) → ((o : Option Handle) → Fits g s.calls o → p o ≡ q o) → p None ≡ false

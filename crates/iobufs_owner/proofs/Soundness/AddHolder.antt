@@ -1,5 +1,5 @@
 -- One holder more of a counted block keeps the machine sound.
-use Rattle.iobufs_owner.proofs.Base.{Share, Shares, part, lies-as, ◌≡◌, ◌≢◌, ℕ, ◌+◌, ◌^◌, ◌<◌, ◌≤◌, false, List, length, get_or, set, sym, ◌∙◌, ap, refl, arith, All, Some, None, nat_eq, length-append, length-set, All-push, get_or-set_same, get_or-set_other, nat_tests, State, Tables, owner_of, record_at, block_at, handle_at, holders, users, tally, reading, has_let_go, IsSound, Fits, alone, counted, with_count, with_handle, Record, Handle, View, Counted, count-some, count-less, Keeps, KeepsLetGo, calls-fit-kept, at-some, append-at, owner-counted, ne_eqb, eq-eqb, counted-at, live-inside, alone-shared, describes-counted, alone-holds, held_by, held-at, holders-as, record-log-counted, sized, all-fit-on, get_or-read, map-set_same, keeps-records, no_record, still_by, Swapped, counts-swapped, holders-le-users, swaps-none, swaps-push, call_at, count-set, release-alone, releases, true}
+use Rattle.iobufs_owner.proofs.Base.{Share, Shares, part, lies-as, ◌≡◌, ◌≢◌, ℕ, ◌+◌, ◌^◌, ◌<◌, ◌≤◌, List, length, get_or, set, sym, ◌∙◌, ap, refl, arith, All, Some, None, nat_eq, length-append, length-set, All-push, get_or-set_same, get_or-set_other, nat_tests, State, Tables, owner_of, record_at, block_at, handle_at, holders, users, reading, has_let_go, IsSound, Fits, alone, counted, with_count, with_handle, Record, Handle, View, Counted, count-some, count-less, Keeps, KeepsLetGo, calls-fit-kept, at-some, append-at, owner-counted, ne_eqb, eq-eqb, counted-at, live-inside, alone-shared, describes-counted, alone-holds, held_by, held-at, holders-as, record-log-counted, sized, all-fit-on, get_or-read, map-set_same, keeps-records, no_record, still_by, Swapped, swapped, holders-le-users, swaps-none, swaps-push, call_at, count-set, release-alone, releases, true}
 use Rattle.iobufs_owner.proofs.Soundness.Frame.{block-log-still, sound-framed}
 
 -- a write that keeps a field keeps it everywhere
@@ -25,17 +25,6 @@ counted-keeps g r n = keeps-records g (counted g r n).records (λ q e. counted-b
 -- where the count of that record stays 0, or stays another, each drop has let go as before
 pub counted-let_go : (g : Tables) (r n q : ℕ) → nat_eq n 0 ≡ has_let_go g r → has_let_go (counted g r n) q ≡ has_let_go g q
 counted-let_go g r n q e = field-set (λ (v : Record). nat_eq v.count 0) g.records r q _ _ e
-
--- a shared view beside those that must be alone
-alone-less : (s : State) (h : ℕ) (x : Handle) (b : ℕ) → handle_at s h ≡ Some x → owner_of s.tables x ≡ Some b
-    → alone s.tables b (Some x) ≡ false
-    → tally (alone s.tables b) s.handles < holders (reading s) b
-alone-less s h x b at o f = omega (
-  arith,
-  holders-as s b,
-  count-less (held_by s.tables b) (alone s.tables b) s.handles h None (alone-holds s.tables b)
-      (at-some s.handles h x at) (held-at s h x b at o) (rw at f),
-)
 
 -- a handle holds the block, so a drop that releases is one of another block
 pub release-elsewhere : (s : State) (h b i : ℕ) (x : Handle) → IsSound s → handle_at s h ≡ Some x → owner_of s.tables x ≡ Some b
@@ -85,7 +74,7 @@ sound-added s r m x k sh xw on few =
     let ox : owner_of g x ≡ Some b = owner-counted g x r xw in
     let o : owner_of g' y ≡ Some b = owner-counted g' y r refl ∙ ap Some bb in
     let gone : All (KeepsLetGo g g') s.calls = λ i d l q j t. counted-let_go g r n q (counted-more s h x r k sh.at xw) in
-    let w : Swapped s next None (Some y) None None = counts-swapped k e gone (swaps-push s.handles (Some y)) (swaps-none s.calls) in
+    let w : Swapped s next None (Some y) None None = swapped k e gone (swaps-push _ (Some y)) (swaps-none _) in
     let more : holders (reading next) b ≡ n = (let z = rw (o, eq-eqb b b refl) at (w.holders b) in omega (arith, z, me.counts fx.shown)) in
     let some : 0 < users (reading next) b = omega (arith, more, holders-le-users (reading next) b) in
     let inside = live-inside g.records r fx.live in
@@ -114,7 +103,9 @@ sound-added s r m x k sh xw on few =
       known = fx.known;
       one_release = omega (arith, w.releases b, k.one_release b);
       sole = λ p. absurd (let z = rw (alone-shared g' b y r refl refl) at (w.alone b) in
-          omega (arith, p, z, alone-less s h x b sh.at ox (alone-shared g b x r xw sh.view), k.sole b (omega (arith, z, p))));
+          let less = count-less (held_by g b) (alone g b) s.handles h None (alone-holds g b) (at-some s.handles h x sh.at)
+          (held-at s h x b sh.at ox) (rw sh.at (alone-shared g b x r xw sh.view)) in
+          omega (arith, p, z, less, holders-as s b, k.sole b (omega (arith, z, p))));
       capped = omega (arith, more, on);
       block_log = block-log-still b me.used some k.block_log;
       record_log = record-log-counted r _ inside refl k.record_log;

@@ -1,5 +1,5 @@
 -- A handle lets its block go, which it holds alone: that is freed at once.
-use Rattle.iobufs_owner.proofs.Base.{◌≡◌, ◌≢◌, inl, inr, ℕ, ◌<◌, ◌≤◌, true, false, List, length, set, sym, ◌∙◌, ap, subst, refl, arith, Option, Some, None, length-set, All-set, State, Tables, owner_of, record_at, block_at, handle_at, recovered, triple, holds, holders, users, tally, reading, read_handle, IsSound, Fits, alone, describes, detached_handle, replaced, block_freed, both_freed, tables_without, is_lent, IsLoose, Handle, Mut, Pending, Empty, Descriptor, Counted, count-set, count-some, keeps-self, owner-kept, handles-fit-set, at-some, owner-empty, owner-counted, ne_eqb, eq-eqb, fits-at, alone-at, described-at, counted-at, live-inside, alone-described, describes-described, alone-written, alone-few, block-log-freed, record-log-dead, block-log-room, record-log-room, sound-handles, held_by, calls-fit-kept, Keeps, KeepsLetGo, All, LogsRecords, Record, names, call_at, ◌∷◌, ◌++◌, [], ◌^◌, sized, lent-stays, vec_len, vec_capacity, IsReady, Seen, seen_of, state_of, Swapped, counts-swapped, holders-le-users, swaps-none, swaps-set}
+use Rattle.iobufs_owner.proofs.Base.{◌≡◌, ◌≢◌, inl, inr, ℕ, ◌<◌, ◌≤◌, true, false, List, length, set, sym, ◌∙◌, ap, refl, arith, Option, Some, None, length-set, All-set, State, Tables, owner_of, record_at, block_at, handle_at, recovered, triple, holds, holders, users, tally, reading, read_handle, IsSound, Fits, alone, describes, detached_handle, replaced, block_freed, both_freed, tables_without, is_lent, IsLoose, Handle, Mut, Pending, Empty, Descriptor, Counted, count-set, count-some, keeps-self, owner-kept, handles-fit-set, at-some, owner-empty, owner-counted, ne_eqb, eq-eqb, fits-at, alone-at, described-at, counted-at, live-inside, alone-described, describes-described, alone-written, alone-few, block-log-freed, record-log-dead, block-log-room, record-log-room, sound-handles, held_by, calls-fit-kept, Keeps, KeepsLetGo, All, LogsRecords, Record, names, call_at, ◌∷◌, ◌++◌, [], ◌^◌, sized, lent-stays, vec_len, vec_capacity, IsReady, Seen, seen_of, state_of, Swapped, swapped, holders-le-users, swaps-none, swaps-set}
 use Rattle.iobufs_owner.proofs.Soundness.RecordFreed.{dead-at, dead-keeps, dead-let_go, dead-live}
 use Rattle.iobufs_owner.proofs.Soundness.Alone.{only, unready, undropped, named-once, calls-live, fit-dead}
 use Rattle.iobufs_owner.proofs.Soundness.Recovered.{recovered-is}
@@ -8,16 +8,14 @@ use Rattle.iobufs_owner.specs.declared.owner.Machine.TheInside.{Inside}
 
 -- ---- handles and calls that hold nothing
 
-pub record Loose (g : Tables) (calls : List (Option Pending)) (o : Option Handle) : Type 0 where
-  pub holds : (c : ℕ) → holds c (read_handle g o) ≡ false
-  pub fits : Fits g calls o
-
-pub loose : (g : Tables) (calls : List (Option Pending)) (o : Option Handle) → IsLoose o → Loose g calls o
-loose g calls o (inl e) = subst (λ (o : Option Handle). Loose g calls o) (sym e) (record { holds = λ c. refl; fits = tt })
-loose g calls o (inr e) = subst (λ (o : Option Handle). Loose g calls o) (sym e) (record {
-  holds = λ c. rw (owner-empty g (detached_handle 0) refl) refl;
-  fits = record { no_room = refl; ends = omega arith; no_bytes = λ m. refl };
-})
+-- such a handle, or none, holds no block and fits
+loose : (g : Tables) (calls : List (Option Pending)) (o : Option Handle) → IsLoose o
+    → ((c : ℕ) → holds c (read_handle g o) ≡ false) × Fits g calls o
+loose g calls o (inl e) = rw e ((λ c. refl), tt)
+loose g calls o (inr e) = rw e (
+  (λ c. rw (owner-empty g (detached_handle 0) refl) refl),
+  record { no_room = refl; ends = omega arith; no_bytes = λ m. refl },
+)
 
 -- ---- a handle that holds its block alone
 
@@ -46,17 +44,17 @@ sound-let-go s h b r x o rs fr k at free ox known one is few e gone live fits ke
     let g : Tables = s.tables in
     let g' : Tables = record s.tables { records = rs } in
     let l = at-some s.handles h x at in
-    let n = loose g' s.calls o is in
+    let (none-held, fits-loose) = loose g' s.calls o is in
     let me = only s h b x k at ox one in
     let next : State = let_go s rs fr h b o in
     let ox' : owner_of g' x ≡ Some b = owner-kept g g' s.calls x e (fits-at s h x k at) ∙ ox in
-    let w : Swapped s next (Some x) o None None = counts-swapped k e gone (swaps-set s.handles h (Some x) o at l) (swaps-none s.calls) in
-    let none : users (reading next) b ≡ 0 = (let z = rw (ox', n.holds b, eq-eqb b b refl) at (w.users b) in omega (arith, z, me.users)) in
+    let w : Swapped s next (Some x) o None None = swapped k e gone (swaps-set _ h o at l) (swaps-none _) in
+    let none : users (reading next) b ≡ 0 = (let z = rw (ox', none-held b, eq-eqb b b refl) at (w.users b) in omega (arith, z, me.users)) in
     let bare : holders (reading next) b ≡ 0 = omega (arith, none, holders-le-users (reading next) b) in
-    sound-framed r k refl w (λ d ne. (rw ox' (ne_eqb d b ne), n.holds d, refl, refl)) (record {
+    sound-framed r k refl w (λ d ne. (rw ox' (ne_eqb d b ne), none-held d, refl, refl)) (record {
       size = sized k.size k.size.few_blocks few (rw length-set k.size.few_handles) k.size.few_calls;
       blocks = k.blocks;
-      fit = handles-fit-set g' s.calls s.handles h o l n.fits fits;
+      fit = handles-fit-set g' s.calls s.handles h o l fits-loose fits;
       calls_fit = λ others. calls-fit-kept next k refl e live (lent-stays s h o free) gone (λ i q li e.
           others (record_at g q).block (λ j. undropped s h b i me li (rw e (eq-eqb b (record_at g q).block (sym j)))));
       kept = λ q _ ne. (kept q ne, refl);
@@ -120,7 +118,7 @@ sound-freed_counted s h x r o k at free xm xw is =
     let me = only s h b x k at ox one in
     let once = named-once s h r x k at xw one in
     sound-let-go s h b r x o (tables_without g r).records _ k at free ox f.known one is (rw length-set k.size.few_records) (dead-keeps g r)
-    (λ i d l q j t. dead-let_go g r q) (λ i q li m t. calls-live s h r q i once li m t) (λ i ne li. fit-dead s h r i k once ne li)
+    (dead-let_go g r _) (λ i q li m t. calls-live s h r q i once li m t) (λ i ne li. fit-dead s h r i k once ne li)
     (dead-at g r) (λ live. (dead-live g r r inside live).1 refl)
     (λ q l n i. n (k.one_record q r l f.live (unready s h b q k me free i) f.shown i)) (record-log-dead r _ inside refl f.live k.record_log)
 

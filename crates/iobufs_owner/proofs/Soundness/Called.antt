@@ -1,5 +1,5 @@
 -- A thread's call becomes another one; neither is a drop, and neither has made a record.
-use Rattle.iobufs_owner.proofs.Base.{◌≡◌, ℕ, ◌<◌, false, length, set, sym, ◌∙◌, refl, arith, Option, Some, None, length-set, State, Tables, record_at, call_at, holders, still_holds, drops, reading, read_call, IsSound, FitsCall, hidden, readies, releases, called, Share, Pending, Loaded, Add, keeps-self, call-kept, calls-fit-set, all-fit-on, sound-same, Swapped, counts-swapped, swaps-none, swaps-set}
+use Rattle.iobufs_owner.proofs.Base.{◌≡◌, ℕ, ◌<◌, false, length, set, sym, ◌∙◌, refl, arith, Option, Some, None, length-set, State, Tables, record_at, call_at, holders, still_holds, drops, reading, read_call, IsSound, FitsCall, hidden, readies, releases, called, Share, Pending, Loaded, Add, keeps-self, call-kept, calls-fit-set, all-fit-on, sound-same, Swapped, swapped, swaps-none, swaps-set}
 
 -- calls that count for nothing
 pub record IsQuiet (s : State) (c : Option Pending) : Type 0 where
@@ -28,7 +28,7 @@ sound-called s p c k l q r f =
     let g : Tables = s.tables in
     let next : State = called s p c in
     let w : Swapped s next None None (call_at s p) c =
-    counts-swapped k (keeps-self g) (λ i d l q j t. refl) (swaps-none s.handles) (swaps-set s.calls p (call_at s p) c refl l) in
+    swapped k (keeps-self g) (λ i d l q j t. refl) (swaps-none _) (swaps-set _ p c refl l) in
     let hm : (b : ℕ) → holders (reading next) b ≡ holders (reading s) b =
     λ b. let z = rw (q.still b, r.still b) at (w.holders b) in omega (arith, z) in
     let hid : (n : ℕ) → hidden (set s.calls p c) n ≡ hidden s.calls n =

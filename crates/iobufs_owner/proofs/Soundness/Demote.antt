@@ -1,5 +1,5 @@
 -- A descriptor in the place of a record that counts one view keeps the machine sound.
-use Rattle.iobufs_owner.proofs.Base.{◌≡◌, ℕ, ◌+◌, ◌^◌, ◌<◌, ◌≤◌, true, false, length, sym, ◌∙◌, ap, refl, arith, Some, None, length-set, IsPowerOfTwo, HasRoom, word_of, State, Tables, owner_of, record_at, block_at, base_by, block_with, holders, reading, IsSound, IsDescribed, edited, tables_without, record_freed, Lends, fits_in, tail_of, may_demote, described, demote_counted, Block, Handle, View, Counted, Declined, Done, word-size, word-tail, fits-room, fits-true, owner-kept, handles-fit-set, at-some, owner-counted, ne_eqb, fits-at, counted-at, lies-as, live-inside, no_block, owner-described, bases, record-log-dead, and_parts, eqb-true, false_from_ne_true, not-true, log-is, log_of, calls-fit-kept, lent-stays, Swapped, counts-swapped, holders-le-users, swaps-none, swaps-set}
+use Rattle.iobufs_owner.proofs.Base.{◌≡◌, ℕ, ◌+◌, ◌^◌, ◌<◌, ◌≤◌, true, false, length, sym, ◌∙◌, ap, refl, arith, Some, None, length-set, IsPowerOfTwo, HasRoom, word_of, State, Tables, owner_of, record_at, block_at, base_by, block_with, holders, reading, IsSound, IsDescribed, edited, tables_without, record_freed, Lends, fits_in, tail_of, may_demote, described, demote_counted, Block, Handle, View, Counted, Declined, Done, word-size, word-tail, fits-room, fits-true, owner-kept, handles-fit-set, at-some, owner-counted, ne_eqb, fits-at, counted-at, lies-as, live-inside, no_block, owner-described, bases, record-log-dead, and_parts, eqb-true, false_from_ne_true, not-true, log-is, log_of, calls-fit-kept, lent-stays, Swapped, swapped, holders-le-users, swaps-none, swaps-set}
 use Rattle.iobufs_owner.proofs.Soundness.RecordFreed.{dead-at, dead-keeps, dead-let_go, dead-live}
 use Rattle.iobufs_owner.proofs.Soundness.Alone.{only, unready, named-once, calls-live, fit-dead}
 use Rattle.iobufs_owner.proofs.Soundness.BlockFreed.{counted-ends}
@@ -91,8 +91,7 @@ sound-demoted s h r x k t xw may =
     let e = dead-keeps g r in
     let ox' : owner_of g' x ≡ Some b = owner-kept g g' s.calls x e (fits-at s h x k t.at) ∙ ox in
     let oy : owner_of g' y ≡ Some b = owner-demoted s h r x k t xw may in
-    let v : Swapped s next (Some x) (Some y) None None =
-    counts-swapped k e (λ i d l q j t. dead-let_go g r q) (swaps-set s.handles h (Some x) (Some y) t.at l) (swaps-none s.calls) in
+    let v : Swapped s next (Some x) (Some y) None None = swapped k e (dead-let_go g r _) (swaps-set _ h (Some y) t.at l) (swaps-none _) in
     let hm : (c : ℕ) → holders (reading next) c ≡ holders (reading s) c = λ c. let z = rw (ox', oy) at (v.holders c) in omega (arith, z) in
     let one' : holders (reading next) b ≡ 1 = hm b ∙ one in
     sound-framed r k refl v (λ d ne. (rw ox' (ne_eqb d b ne), rw oy (ne_eqb d b ne), refl, refl)) (record {
@@ -105,7 +104,7 @@ sound-demoted s h r x k t xw may =
         says = described-demoted s h r x k t xw may;
       }) (λ i ne li. fit-dead s h r i k once ne li);
       calls_fit = λ _. calls-fit-kept next k refl e (λ i q li m t. calls-live s h r q i once li m t) (lent-stays s h (Some y) t.free)
-          (λ i d l q j t. dead-let_go g r q) (λ i q li e. hm (record_at g q).block);
+          (dead-let_go g r _) (λ i q li e. hm (record_at g q).block);
       kept = λ q _ ne. (dead-at g r q ne, refl);
       apart = λ q live ne i. absurd (ne (k.one_record q r live f.live (unready s h b q k me t.free i) f.shown i));
       mine = λ live. absurd ((dead-live g r r inside live).1 refl);

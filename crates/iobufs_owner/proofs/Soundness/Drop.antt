@@ -1,5 +1,5 @@
 -- A drop begins: the handle of a counted block is gone, and its call holds in its place.
-use Rattle.iobufs_owner.proofs.Base.{◌≡◌, inl, inr, ℕ, ◌+◌, ◌<◌, ◌≤◌, true, false, cond, length, get_or, set, sym, ◌∙◌, ap, refl, arith, Bool, nat_eq, Some, None, length-set, nat_tests, eqb_tells, State, Tables, record_at, handle_at, call_at, Dropping, holders, tally, reading, read_call, has_let_go, state_without, called, is_lent, IsSound, FitsCall, hidden, readies, releases, Handle, View, Pending, Subtract, Release, Counted, keeps-self, calls-fit-set, handles-fit-set, at-some, owner-counted, ne_eqb, eq-eqb, fits-fewer, count-none, fit-on, sound-same, list_any_at, borrows_it, call-kept, lent-stays, Swapped, counts-swapped, swaps-set}
+use Rattle.iobufs_owner.proofs.Base.{◌≡◌, inl, inr, ℕ, ◌+◌, ◌<◌, ◌≤◌, true, false, cond, length, get_or, set, sym, ◌∙◌, ap, refl, arith, Bool, nat_eq, Some, None, length-set, nat_tests, eqb_tells, State, Tables, record_at, handle_at, call_at, Dropping, holders, tally, reading, read_call, has_let_go, state_without, called, is_lent, IsSound, FitsCall, hidden, readies, releases, Handle, View, Pending, Subtract, Release, Counted, keeps-self, calls-fit-set, handles-fit-set, at-some, owner-counted, ne_eqb, eq-eqb, fits-fewer, count-none, fit-on, sound-same, list_any_at, borrows_it, call-kept, lent-stays, Swapped, swapped, swaps-set}
 use Rattle.iobufs_owner.proofs.Soundness.AddHolder.{release-elsewhere}
 
 abbrev pub dropping : State → ℕ → ℕ → Pending → State
@@ -24,8 +24,8 @@ sound-dropping s p h r x c k at word view free none lp d =
     let next : State = dropping s p h c in
     let l = at-some s.handles h x at in
     let o = owner-counted g x r word in
-    let w : Swapped s next (Some x) None None (Some c) = counts-swapped k (keeps-self g) (λ i d l q j t. refl)
-    (swaps-set s.handles h (Some x) None at l) (swaps-set s.calls p None (Some c) none lp) in
+    let w : Swapped s next (Some x) None None (Some c) = swapped k (keeps-self g) (λ i d l q j t. refl)
+    (swaps-set _ h None at l) (swaps-set _ p (Some c) none lp) in
     let hm : (b : ℕ) → holders (reading next) b ≡ holders (reading s) b =
     λ b. let z = rw (o, d.reads) at (w.holders b) in omega (arith, z) in
     let hid : (q : ℕ) → hidden next.calls q ≡ hidden s.calls q = λ q. let z = rw (d.hides q) at (w.hidden q) in omega (arith, z) in

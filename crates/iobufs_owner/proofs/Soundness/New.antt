@@ -1,5 +1,5 @@
 -- A new block with its first handle keeps the machine sound.
-use Rattle.iobufs_owner.proofs.Base.{◌≡◌, ◌≢◌, ℕ, ◌+◌, ◌^◌, ◌<◌, inl, inr, true, false, List, [], ◌∷◌, ◌++◌, length, refl, arith, All, Some, length-append, All-push, get_or-append_seam, HasRoom, word_of, State, Tables, owner_of, base_by, record_at, block_at, holders, users, reading, IsSound, ArePlaced, Fits, describes, with_block, with_handle, first_handle, IsPlace, IsGoodPlace, Apart, ApartFrom, Block, Handle, Descriptor, unpack-size, calls-kept, append-at, holders-le-users, grown, grown-keeps, with-fresh, ne_eqb, eq-eqb, no_block, below-or, block-log-more, sized, all-fit-on, Keeps, KeepsLetGo, FitsWord, Record, hidden, LogsRecords, ◌≤◌, describes-few, sym, None, Swapped, ap, counts-swapped, live-inside, swaps-none, swaps-push, ◌∙◌}
+use Rattle.iobufs_owner.proofs.Base.{◌≡◌, ◌≢◌, ℕ, ◌+◌, ◌^◌, ◌<◌, inl, inr, true, false, List, [], ◌∷◌, ◌++◌, length, refl, arith, All, Some, length-append, All-push, get_or-append_seam, HasRoom, word_of, State, Tables, owner_of, base_by, record_at, block_at, holders, users, reading, IsSound, ArePlaced, Fits, describes, with_block, with_handle, first_handle, IsPlace, IsGoodPlace, Apart, ApartFrom, Block, Handle, Descriptor, unpack-size, calls-kept, append-at, holders-le-users, grown, grown-keeps, with-fresh, ne_eqb, eq-eqb, no_block, below-or, block-log-more, sized, all-fit-on, Keeps, KeepsLetGo, FitsWord, Record, hidden, LogsRecords, ◌≤◌, describes-few, sym, None, Swapped, ap, swapped, live-inside, swaps-none, swaps-push, ◌∙◌}
 use Rattle.iobufs_owner.proofs.Soundness.Frame.{sound-framed}
 
 -- no earlier block has the base of a good place
@@ -68,7 +68,7 @@ sound-block s b x rs k good few few' fewer e gone live o fits kept new log =
     let n : ℕ = length s.tables.blocks in
     let g' : Tables = more s.tables b rs in
     let next : State = record s { tables = more s.tables b rs; handles = s.handles ++ Some x ∷ [] } in
-    let w : Swapped s next None (Some x) None None = counts-swapped k e gone (swaps-push s.handles (Some x)) (swaps-none s.calls) in
+    let w : Swapped s next None (Some x) None None = swapped k e gone (swaps-push _ (Some x)) (swaps-none _) in
     let unused : users (reading s) n ≡ 0 = grind (arith, k.known_users n) in
     let unheld : holders (reading s) n ≡ 0 = omega (arith, unused, holders-le-users (reading s) n) in
     let one : users (reading next) n ≡ 1 = (let z = rw (o, eq-eqb n n refl) at (w.users n) in omega (arith, z, unused)) in

@@ -1,5 +1,5 @@
 -- A new record keeps the machine sound: for a new block, and in the place of a descriptor.
-use Rattle.iobufs_owner.proofs.Base.{frozen-lies, ◌≡◌, ℕ, ◌^◌, ◌<◌, ◌⊎◌, inl, inr, true, false, [], ◌∷◌, ◌++◌, length, sym, ◌∙◌, ap, subst, refl, arith, Option, Some, None, nat_eq, length-append, length-set, All-set, get_or_append_left, get_or-append_seam, nat_tests, State, Tables, owner_of, record_at, block_at, holders, users, is_block, reading, has_let_go, IsSound, Fits, FitsWord, FitsCall, LiesIn, hidden, readies, with_block, with_record, with_handle, edited, next_record, Lends, frozen, IsGoodPlace, Block, Record, Handle, Kind, Mut, Pending, Ready, Word, Descriptor, Counted, Keeps, calls-kept, owner-kept, at-some, owner-counted, holders-le-users, grown, grown-keeps, eq-eqb, fits-at, live-inside, described-at, alone-at, alone-described, describes-counted, describes-few, no_record, below-or, record-log-more, sized, call_at, count-none, all-fit-on, keeps-records, lent-stays, Swapped, counts-swapped, ne_eqb, part, swaps-none, swaps-set}
+use Rattle.iobufs_owner.proofs.Base.{frozen-lies, ◌≡◌, ℕ, ◌^◌, ◌<◌, ◌⊎◌, inl, inr, true, false, [], ◌∷◌, ◌++◌, length, sym, ◌∙◌, ap, subst, refl, arith, Option, Some, None, nat_eq, length-append, length-set, All-set, get_or_append_left, get_or-append_seam, nat_tests, State, Tables, owner_of, record_at, block_at, holders, users, is_block, reading, IsSound, Fits, FitsWord, FitsCall, LiesIn, hidden, readies, with_block, with_record, with_handle, edited, next_record, Lends, frozen, IsGoodPlace, Block, Record, Handle, Kind, Mut, Pending, Ready, Word, Descriptor, Counted, Keeps, calls-kept, owner-kept, at-some, owner-counted, holders-le-users, grown, grown-keeps, eq-eqb, fits-at, live-inside, described-at, alone-at, alone-described, describes-counted, describes-few, no_record, below-or, record-log-more, sized, call_at, count-none, all-fit-on, keeps-records, lent-stays, Swapped, swapped, ne_eqb, part, swaps-none, swaps-set, All, KeepsLetGo, List}
 use Rattle.iobufs_owner.proofs.Soundness.New.{sound-block}
 use Rattle.iobufs_owner.proofs.Soundness.Frame.{block-log-still, sound-framed}
 
@@ -21,8 +21,8 @@ recorded-keeps g n b = keeps-records g (recorded g n b).records
     (λ r e. ap (λ (v : Record). v.block) (recorded-old g n b r (live-inside g.records r e)))
 
 -- with a record more the drop of a live one has let go as before
-pub recorded-let_go : (g : Tables) (n b r : ℕ) → (record_at g r).live ≡ true → has_let_go (recorded g n b) r ≡ has_let_go g r
-recorded-let_go g n b r e = ap (λ (v : Record). nat_eq v.count 0) (recorded-old g n b r (live-inside g.records r e))
+pub recorded-let_go : (g : Tables) (n b : ℕ) (cs : List (Option Pending)) → All (KeepsLetGo g (recorded g n b)) cs
+recorded-let_go g n b cs i d l r j e = ap (λ (v : Record). nat_eq v.count 0) (recorded-old g n b r (live-inside g.records r e))
 
 -- with a record more each live one is live
 pub recorded-live : (g : Tables) (n b r : ℕ) → (record_at g r).live ≡ true → (record_at (recorded g n b) r).live ≡ true
@@ -85,8 +85,7 @@ sound-recorded s b x k good xw lies native few few' fewer =
     let at : block_at g' n ≡ b = get_or-append_seam g.blocks b [] _ in
     let shown = unhidden-next s k in
     sound-block s b x g'.records k good few (rw length-append (omega arith)) fewer (both-keeps g b)
-    (λ i d l q j t. recorded-let_go (grown g b) 1 n q t)
-    (λ q t. recorded-live (grown s.tables b) 1 n q t) (owner-counted g' x r xw ∙ ap Some new-block)
+    (recorded-let_go (grown g b) 1 n _) (recorded-live (grown s.tables b) 1 n) (owner-counted g' x r xw ∙ ap Some new-block)
     (subst (λ (v : Word). FitsWord g' s.calls x v) (sym xw) (record {
       live = ap (λ (v : Record). v.live) new;
       known = rw new-block (rw length-append (omega arith));
@@ -116,18 +115,16 @@ sound-promoted s h x w b kind k t xw ox few =
     let new : record_at g' r ≡ record { count = 1; block = b; live = true } = recorded-new s.tables 1 b in
     let new-block : (record_at g' r).block ≡ b = ap (λ (v : Record). v.block) new in
     let e = recorded-keeps g 1 b in
-    let live : (q : ℕ) → (record_at g q).live ≡ true → (record_at g' q).live ≡ true = λ q t. recorded-live g 1 b q t in
     let ox' : owner_of g' x ≡ Some b = owner-kept g g' s.calls x e (fits-at s h x k at) ∙ ox in
     let oy : owner_of g' y ≡ Some b = owner-counted g' y r refl ∙ ap Some new-block in
-    let w' : Swapped s next (Some x) (Some y) None None =
-    counts-swapped k e (λ i d l q j t. recorded-let_go g 1 b q t) (swaps-set s.handles h (Some x) (Some y) at l) (swaps-none s.calls) in
-    let hm : (c : ℕ) → holders (reading next) c ≡ holders (reading s) c = λ c. let z = rw (ox', oy) at (w'.holders c) in omega (arith, z) in
+    let v : Swapped s next (Some x) (Some y) None None = swapped k e (recorded-let_go g 1 b _) (swaps-set _ h _ at l) (swaps-none _) in
+    let hm : (c : ℕ) → holders (reading next) c ≡ holders (reading s) c = λ c. let z = rw (ox', oy) at (v.holders c) in omega (arith, z) in
     let one : holders (reading s) b ≡ 1 = alone-at s h x b k at (alone-described g b x w xw ∙ ap (is_block b) ox ∙ eq-eqb b b refl) in
     let one' : holders (reading next) b ≡ 1 = hm b ∙ one in
     let some : 0 < users (reading next) b = omega (arith, one', holders-le-users (reading next) b) in
-    let dm = rw (ox', oy, xw, eq-eqb b b refl) at (w'.describes b) in
+    let dm = rw (ox', oy, xw, eq-eqb b b refl) at (v.describes b) in
     let shown = unhidden-next s k in
-    sound-framed r k refl w' (λ d ne. (rw ox' (ne_eqb d b ne), rw oy (ne_eqb d b ne), refl, refl)) (record {
+    sound-framed r k refl v (λ d ne. (rw ox' (ne_eqb d b ne), rw oy (ne_eqb d b ne), refl, refl)) (record {
       size = sized k.size k.size.few_blocks (rw length-append (omega arith)) (rw length-set k.size.few_handles) k.size.few_calls;
       blocks = k.blocks;
       fit = All-set (Fits g' s.calls) s.handles h (Some y) (record {
@@ -136,8 +133,8 @@ sound-promoted s h x w b kind k t xw ox few =
         shown = shown;
         lies = rw (new-block, ← same) (frozen-lies (block_at g d.block) x (Counted r) x.kind d.says.lies);
         native = λ m. absurd (cc);
-      }) (all-fit-on s.calls s.handles e (λ _ q z _ _ c. (live q c.live, c.shown)) k.fit);
-      calls_fit = λ _. calls-kept next k refl e live (lent-stays s h (Some y) t.free) (λ i d l q j. recorded-let_go g 1 b q) (λ c _. hm c);
+      }) (all-fit-on s.calls s.handles e (λ _ q z _ _ c. (recorded-live g 1 b q c.live, c.shown)) k.fit);
+      calls_fit = λ _. calls-kept next k refl e (recorded-live g 1 b) (lent-stays s h _ t.free) (recorded-let_go g 1 b _) (λ c _. hm c);
       kept = λ q l ne. (elim (recorded-either g 1 b q l) [ inl v ↦ v.1 | inr i ↦ absurd (ne i) ], refl);
       apart = λ q l ne i. (λ z. let u = rw i at ((k.counted q l).undescribed z) in omega (arith, u, dm), some);
       mine = λ _. record {
@@ -148,7 +145,7 @@ sound-promoted s h x w b kind k t xw ox few =
         undescribed = omega (arith, dm, describes-few s b, one);
       };
       known = rw (← same) d.says.known;
-      one_release = omega (arith, w'.releases b, k.one_release b);
+      one_release = omega (arith, v.releases b, k.one_release b);
       sole = λ _. one';
       capped = omega (arith, one');
       block_log = block-log-still b (omega (arith, one, holders-le-users (reading s) b)) some k.block_log;

@@ -1,5 +1,5 @@
 -- A clone or slice has loaded a descriptor and makes a record, which nothing shows yet.
-use Rattle.iobufs_owner.proofs.Base.{◌≡◌, inl, inr, ℕ, ◌+◌, ◌^◌, ◌<◌, ◌==◌, true, cond, length, set, sym, ◌∙◌, ap, subst, refl, arith, Option, Some, None, length-append, length-set, State, Tables, record_at, call_at, holders, tally, reading, IsSound, IsLoading, SpeaksOf, hidden, called, with_record, part, Record, Share, Pending, Loaded, Ready, owner-kept, shares-kept, promised-kept, calls-fit-set, at-some, ne_eqb, eq-eqb, fits-at, live-inside, owner-used, record-log-more, sized, all-fit-on, sound-same, call-kept, Swapped, counts-swapped, describes, swaps-none, swaps-set}
+use Rattle.iobufs_owner.proofs.Base.{◌≡◌, inl, inr, ℕ, ◌+◌, ◌^◌, ◌<◌, ◌==◌, true, cond, length, set, sym, ◌∙◌, ap, subst, refl, arith, Option, Some, None, length-append, length-set, State, Tables, record_at, call_at, holders, reading, IsSound, IsLoading, SpeaksOf, hidden, called, with_record, part, Record, Share, Pending, Loaded, Ready, owner-kept, shares-kept, promised-kept, calls-fit-set, at-some, ne_eqb, eq-eqb, fits-at, live-inside, owner-used, record-log-more, sized, all-fit-on, sound-same, call-kept, Swapped, swapped, swaps-none, swaps-set, fits-fewer}
 use Rattle.iobufs_owner.proofs.Soundness.NewRecord.{recorded, recorded-new, recorded-keeps, recorded-let_go, recorded-live, recorded-either, unhidden-next}
 
 -- a clone or slice that has loaded a descriptor of a block makes a record of it that counts two, where there were fewer than 2^32: the
@@ -18,11 +18,9 @@ sound-readied s p part w b k at ld same few =
     let e = recorded-keeps g 2 b in
     let new = recorded-new g 2 b in
     let known : b < length g.blocks = promised.says.known in
-    let live : (q : ℕ) → (record_at g q).live ≡ true → (record_at g' q).live ≡ true = λ q t. recorded-live g 2 b q t in
     let v : Swapped s next None None (Some (Loaded part w)) c =
-    counts-swapped k e (λ i d l q j. recorded-let_go g 2 b q) (swaps-none s.handles) (swaps-set s.calls p (Some (Loaded part w)) c at l) in
+    swapped k e (recorded-let_go g 2 b _) (swaps-none _) (swaps-set _ p c at l) in
     let hm : (d : ℕ) → holders (reading next) d ≡ holders (reading s) d = λ d. omega (arith, v.holders d) in
-    let dm : (d : ℕ) → tally (describes g' d) s.handles ≡ tally (describes g d) s.handles = λ d. omega (arith, v.describes d) in
     let hid : (q : ℕ) → hidden (set s.calls p c) q ≡ hidden s.calls q + cond (q == r) 1 0 = λ q. omega (arith, v.hidden q) in
     let old : (q : ℕ) → q < length g.records → hidden (set s.calls p c) q ≡ hidden s.calls q =
     λ q m. (let n = rw (ne_eqb q (length s.tables.records) (omega arith)) at (hid q) in omega (arith, n)) in
@@ -35,7 +33,7 @@ sound-readied s p part w b k at ld same few =
     sound-same s _ _ _ _ k (sized k.size k.size.few_blocks (rw length-append (omega arith)) k.size.few_handles
     (rw length-set k.size.few_calls))
     (all-fit-on (set s.calls p c) s.handles e
-    (λ _ q x _ _ f. (live q f.live, old q (live-inside g.records q f.live) ∙ f.shown)) k.fit)
+    (λ _ q x _ _ f. (recorded-live g 2 b q f.live, old q (live-inside g.records q f.live) ∙ f.shown)) k.fit)
     (calls-fit-set s next p c l (record {
       view = ld.view;
       shares = shares-kept s next part ld.view (λ a. a) ld.shares;
@@ -44,12 +42,12 @@ sound-readied s p part w b k at ld same few =
           (fits-at s part.handle ld.view k ld.shares.at)) promised;
       live = ap (λ (v : Record). v.live) new;
       same = ap (λ (v : Record). v.block) new;
-    }) (λ i _ _. call-kept next (call_at s i) k e (λ q j t. recorded-let_go g 2 b q t) (λ n _ t. live n t)
+    }) (λ i _ lo. call-kept next (call_at s i) k e (recorded-let_go g 2 b _ i None lo) (λ n _. recorded-live g 2 b n)
     (λ n _ t. old n (live-inside g.records n t)) (λ _ _ _ a. a) (λ n _. hm (record_at g n).block)) k.calls_fit)
     (λ d. omega (arith, v.releases d, k.one_release d)) hm (λ d. omega (arith, v.users d))
     (λ q t. elim (recorded-either g 2 b q t) [
-      | inl u ↦ rw (u.1, old q u.0, dm (record_at g q).block)
-          (k.counted q (ap (λ (v : Record). v.live) (sym u.1) ∙ t))
+      | inl u ↦ rw (u.1, old q u.0) (fits-fewer (k.counted q (rw u.1 at t)) (omega arith)
+          (omega (arith, v.describes (record_at g q).block)))
       | inr i ↦ rw (i, new) (record {
         known = known;
         one_maker = omega (arith, one);

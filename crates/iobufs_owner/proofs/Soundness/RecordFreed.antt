@@ -1,5 +1,5 @@
 -- Freeing a record leaves the other records, the block of each record, and whether a drop has let go.
-use Rattle.iobufs_owner.proofs.Base.{◌≡◌, ◌≢◌, inl, inr, ℕ, ◌<◌, true, false, length, sym, ◌∙◌, ap, refl, nat_eq, get_or-set_same, get_or-set_other, eqb_tells, Tables, record_at, has_let_go, tables_without, Record, Keeps, keeps-records, no_record}
+use Rattle.iobufs_owner.proofs.Base.{◌≡◌, ◌≢◌, inl, inr, ℕ, ◌<◌, true, false, length, sym, ◌∙◌, ap, refl, nat_eq, get_or-set_same, get_or-set_other, eqb_tells, Tables, record_at, tables_without, Record, Keeps, keeps-records, no_record, All, KeepsLetGo, List, Option, Pending}
 use Rattle.iobufs_owner.proofs.Soundness.AddHolder.{field-set}
 
 -- a record that is freed leaves the block of each
@@ -19,8 +19,8 @@ pub dead-keeps : (g : Tables) (r : ℕ) → Keeps g (tables_without g r)
 dead-keeps g r = keeps-records g (tables_without g r).records (λ q e. dead-block g r q)
 
 -- where a record is freed, each drop has let go as before
-pub dead-let_go : (g : Tables) (r q : ℕ) → has_let_go (tables_without g r) q ≡ has_let_go g q
-dead-let_go g r q = ap (λ (n : ℕ). nat_eq n 0) (field-set (λ (v : Record). v.count) g.records r q _ _ refl)
+pub dead-let_go : (g : Tables) (r : ℕ) (cs : List (Option Pending)) → All (KeepsLetGo g (tables_without g r)) cs
+dead-let_go g r cs i d l q j t = ap (λ (n : ℕ). nat_eq n 0) (field-set (λ (v : Record). v.count) g.records r q _ _ refl)
 
 -- a record that is live after one is freed was live before, and is another record
 pub dead-live : (g : Tables) (r q : ℕ) → r < length g.records → (record_at (tables_without g r) q).live ≡ true

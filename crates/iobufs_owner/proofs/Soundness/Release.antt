@@ -1,5 +1,5 @@
 -- The last step of a drop: record and block are freed.
-use Rattle.iobufs_owner.proofs.Base.{◌≡◌, ◌≢◌, inl, inr, ℕ, ◌<◌, ◌==◌, true, false, length, set, sym, ◌∙◌, ap, refl, arith, Option, Some, None, length-set, eqb_tells, State, Tables, owner_of, record_at, handle_at, call_at, holds, holders, users, drops, tally, reading, read_handle, read_call, has_let_go, tables_without, both_freed, called, IsSound, hidden, readies, releases, Handle, Pending, Release, count-some, count-less, count-most, count-two, count-find, count-sum, holders-le-users, calls-fit-set, at-some, owner-counted, ne_eqb, eq-eqb, live-inside, held_by, still_by, drops_by, holders-as, users-as, lets_go, drops-split, go-releases, block-log-freed, record-log-dead, and_right, call-fits, all-fit-on, call-kept, cases_Bool, Swapped, alone-few, counts-swapped, swaps-none, swaps-set}
+use Rattle.iobufs_owner.proofs.Base.{◌≡◌, ◌≢◌, inl, inr, ℕ, ◌<◌, ◌==◌, true, false, length, set, sym, ◌∙◌, ap, refl, arith, Option, Some, None, length-set, eqb_tells, State, Tables, owner_of, record_at, handle_at, call_at, holds, holders, users, drops, tally, reading, read_handle, read_call, has_let_go, tables_without, both_freed, called, IsSound, hidden, readies, releases, Handle, Pending, Release, count-some, count-less, count-most, count-two, count-find, count-sum, holders-le-users, calls-fit-set, at-some, owner-counted, ne_eqb, eq-eqb, live-inside, held_by, still_by, drops_by, holders-as, users-as, lets_go, drops-split, go-releases, block-log-freed, record-log-dead, and_right, call-fits, all-fit-on, call-kept, cases_Bool, Swapped, alone-few, swapped, swaps-none, swaps-set}
 use Rattle.iobufs_owner.proofs.Soundness.RecordFreed.{dead-at, dead-block, dead-other, dead-keeps, dead-let_go, dead-live}
 use Rattle.iobufs_owner.proofs.Soundness.Alone.{named, ready-borrows}
 use Rattle.iobufs_owner.proofs.Soundness.Frame.{sound-framed}
@@ -76,8 +76,7 @@ sound-released s p r k at =
     let inside = live-inside g.records r f.live in
     let e = dead-keeps g r in
     let bb = dead-block g r r in
-    let w : Swapped s next None None (Some (Release r)) None =
-    counts-swapped k e (λ i d l q j t. dead-let_go g r q) (swaps-none s.handles) (swaps-set s.calls p (Some (Release r)) None at l) in
+    let w : Swapped s next None None (Some (Release r)) None = swapped k e (dead-let_go g r _) (swaps-none _) (swaps-set _ p None at l) in
     let hid : (q : ℕ) → hidden (set s.calls p None) q ≡ hidden s.calls q = λ q. omega (arith, w.hidden q) in
     let none : users (reading next) b ≡ 0 = (let z = rw (bb, eq-eqb b b refl) at (w.users b) in omega (arith, z, last.users)) in
     let bare : holders (reading next) b ≡ 0 = omega (arith, none, holders-le-users (reading next) b) in
@@ -89,7 +88,7 @@ sound-released s p r k at =
             (owner-counted g x q w ∙ ap (λ (n : ℕ). Some (record_at g n).block) y)) ∙ f.live,
         hid q ∙ f.shown,
       )) k.fit;
-      calls_fit = λ others. calls-fit-set s next p None l tt (λ i ne lo. call-kept next (call_at s i) k e (λ q j t. dead-let_go g r q)
+      calls_fit = λ others. calls-fit-set s next p None l tt (λ i ne lo. call-kept next (call_at s i) k e (dead-let_go g r _ i None lo)
           (λ q n t. dead-other g r q (λ y. elim (named s r (call_at s i) (k.calls_fit i None lo) (rw y at n)) [
             | inl z ↦ omega (arith, f.shown, count-some (readies r) s.calls i None lo z)
             | inr z ↦ other-drops s p r i b at refl last.one ne lo z.1

@@ -1,5 +1,5 @@
 -- A drop lets go: the count shrinks by one.
-use Rattle.iobufs_owner.proofs.Base.{◌≡◌, ◌≢◌, inl, inr, ℕ, ◌+◌, ◌-◌, ◌<◌, ◌==◌, true, false, cond, length, set, sym, ◌∙◌, ap, refl, arith, All, Option, Some, None, nat_eq, length-set, All-from_get_or, eqb_tells, State, Tables, record_at, call_at, holders, users, reading, has_let_go, IsSound, FitsCall, hidden, readies, releases, Pending, Subtract, Release, count-some, holders-le-users, KeepsLetGo, calls-fit-set, at-some, ne_eqb, eq-eqb, counted, with_count, called, live-inside, record-log-counted, holders-as, still_by, drops_by, call-fits, count-none, all-fit-on, call-kept, alone-few, Swapped, counts-swapped, swaps-none, swaps-set, Record, count-set, get_or-set_other, release-alone}
+use Rattle.iobufs_owner.proofs.Base.{◌≡◌, ◌≢◌, inl, inr, ℕ, ◌+◌, ◌-◌, ◌<◌, ◌==◌, true, false, cond, length, set, sym, ◌∙◌, ap, refl, arith, All, Option, Some, None, nat_eq, length-set, All-from_get_or, eqb_tells, State, Tables, record_at, call_at, holders, users, reading, has_let_go, IsSound, FitsCall, hidden, readies, releases, Pending, Subtract, Release, count-some, holders-le-users, KeepsLetGo, calls-fit-set, at-some, ne_eqb, eq-eqb, counted, with_count, called, live-inside, record-log-counted, holders-as, still_by, drops_by, call-fits, count-none, all-fit-on, call-kept, alone-few, Swapped, swapped, swaps-none, swaps-set, Record, count-set, get_or-set_other, release-alone}
 use Rattle.iobufs_owner.proofs.Soundness.AddHolder.{counted-keeps, counted-block, counted-live, counted-same, counted-rest}
 use Rattle.iobufs_owner.proofs.Soundness.Frame.{block-log-still, sound-framed}
 
@@ -57,8 +57,7 @@ sound-subtracted s p r k at =
     let gone = counted-drops s p r (n - 1) k at in
     let bb = counted-block g r (n - 1) r in
     let inside = live-inside g.records r f.0 in
-    let w : Swapped s next None None (Some (Subtract r)) y =
-    counts-swapped k e gone (swaps-none s.handles) (swaps-set s.calls p (Some (Subtract r)) y at l) in
+    let w : Swapped s next None None (Some (Subtract r)) y = swapped k e gone (swaps-none _) (swaps-set _ p y at l) in
     let still = afterwards-by (λ y. still_by g' b y ≡ false) r n (λ one. rw (gone-after g r inside one) refl) (λ _. refl) in
     let fewer : holders (reading next) b + 1 ≡ n = (let z = rw (bb, still, eq-eqb b b refl) at (w.holders b) in omega (arith, z, is)) in
     let some : 0 < users (reading next) b = elim (eqb_tells n 1) [

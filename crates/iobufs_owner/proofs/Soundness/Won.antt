@@ -1,5 +1,5 @@
 -- A clone or slice wins the race: its record takes the descriptor's place, and counts the handle and the new view.
-use Rattle.iobufs_owner.proofs.Base.{◌≡◌, inl, inr, ℕ, ◌+◌, ◌^◌, ◌<◌, ◌≤◌, ◌==◌, cond, List, length, get_or, set, sym, ◌∙◌, ap, subst, refl, arith, All, Option, Some, None, length-set, get_or-set_same, get_or-set_other, set-set, eqb_tells, State, Tables, owner_of, record_at, block_at, handle_at, call_at, holders, users, is_block, reading, IsSound, Fits, FitsCall, Shares, SpeaksOf, hidden, readies, counted, called, edited, with_handle, part, Handle, Share, View, Pending, Loaded, Ready, Add, Subtract, Release, Descriptor, Counted, count-some, owner-kept, shares-kept, promised-kept, handles-fit-set, at-some, owner-counted, ne_eqb, eq-eqb, fits-at, alone-at, live-inside, lies-still, alone-described, describes-few, no_record, record-log-counted, call-fits, fit-on, set-get_or, Swapped, calls-fit-set, counts-swapped, holders-le-users, swaps-set}
+use Rattle.iobufs_owner.proofs.Base.{◌≡◌, inl, inr, ℕ, ◌+◌, ◌^◌, ◌<◌, ◌≤◌, ◌==◌, cond, List, length, get_or, set, sym, ◌∙◌, ap, subst, refl, arith, All, Option, Some, None, length-set, get_or-set_same, get_or-set_other, set-set, eqb_tells, State, Tables, owner_of, record_at, block_at, handle_at, call_at, holders, users, is_block, reading, IsSound, Fits, FitsCall, Shares, SpeaksOf, hidden, readies, counted, called, edited, with_handle, part, Handle, Share, View, Pending, Loaded, Ready, Add, Subtract, Release, Descriptor, Counted, count-some, owner-kept, shares-kept, promised-kept, handles-fit-set, at-some, owner-counted, ne_eqb, eq-eqb, fits-at, alone-at, live-inside, lies-still, alone-described, describes-few, no_record, record-log-counted, call-fits, fit-on, set-get_or, Swapped, calls-fit-set, swapped, holders-le-users, swaps-set}
 use Rattle.iobufs_owner.proofs.Soundness.AddHolder.{sound-added, counted-keeps, counted-let_go, counted-block, counted-live, counted-same, counted-rest}
 use Rattle.iobufs_owner.proofs.Soundness.Frame.{block-log-still, sound-framed}
 
@@ -137,8 +137,7 @@ sound-shown s p r w part x k atp at word =
     let two = (racing s p r w part k atp).two in
     let c : Option Pending = Some (Ready part w r) in
     let v : Swapped s next (Some x) (Some y) c None =
-    counts-swapped k e (λ i d l q j t. counted-let_go g r 1 q (rw two refl)) (swaps-set s.handles h (Some x) (Some y) at l)
-    (swaps-set s.calls p c None atp lp) in
+    swapped k e (λ i d l q j t. counted-let_go g r 1 q (rw two refl)) (swaps-set _ h (Some y) at l) (swaps-set _ p None atp lp) in
     let hm : (d : ℕ) → holders (reading next) d ≡ holders (reading s) d = λ d. let n = rw (ox, oy) at (v.holders d) in omega (arith, n) in
     let hid : (q : ℕ) → hidden (set s.calls p None) q + cond (q == r) 1 0 ≡ hidden s.calls q = λ q. omega (arith, v.hidden q) in
     let less : (q : ℕ) → hidden (set s.calls p None) q ≤ hidden s.calls q = λ q. omega (arith, hid q) in

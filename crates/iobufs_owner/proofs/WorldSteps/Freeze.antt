@@ -12,7 +12,7 @@ pub both-in : (s : State) (r : ℕ) → IsSound s → (record_at s.tables r).liv
 both-in s r k live = rw (
   freed-more s.tables s.freed_blocks (record_at s.tables r).block k.blocks (k.counted r live).known,
   handles-kept s.tables (tables_without s.tables r) s.calls s.handles (dead-keeps s.tables r) k.fit,
-  calls-read-kept s (tables_without s.tables r) s.calls (dead-keeps s.tables r) (λ i d l q j t. dead-let_go s.tables r q) k.calls_fit,
+  calls-read-kept s (tables_without s.tables r) s.calls (dead-keeps s.tables r) (dead-let_go s.tables r _) k.calls_fit,
 ) refl
 
 -- users see the block of a handle that lets go, if any, as freed

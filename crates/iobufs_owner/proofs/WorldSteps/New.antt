@@ -27,7 +27,7 @@ recorded-made {s} b x k good w i =
     let o = owner-counted (both s.tables b) x (length s.tables.records) w
     ∙ ap (λ (v : Record). Some v.block) (recorded-new (grown s.tables b) 1 n) in
     made-taken (with_record (with_block s b) 1 n) x
-    (block-in b k good (both-keeps s.tables b) (λ i d l q j t. recorded-let_go (grown s.tables b) 1 n q t) refl) (rw o refl) i
+    (block-in b k good (both-keeps s.tables b) (recorded-let_go (grown s.tables b) 1 n _) refl) (rw o refl) i
 
 -- a new native block is placed where users see it
 pub new-placed : {s t : State} {reply : Reply} (base size align : ℕ) → IsSound s → IsGoodPlace s.tables.blocks base size align

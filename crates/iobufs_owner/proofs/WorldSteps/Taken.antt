@@ -22,7 +22,7 @@ kept-in {s} {g} k e a b = rw (handles-kept s.tables g s.calls s.handles e k.fit,
 
 -- users don't see a record more
 pub recorded-in : (s : State) (n b : ℕ) → IsSound s → reading (with_record s n b) ≡ reading s
-recorded-in s n b k = kept-in k (recorded-keeps s.tables n b) (λ i d l q j t. recorded-let_go s.tables n b q t) refl
+recorded-in s n b k = kept-in k (recorded-keeps s.tables n b) (recorded-let_go s.tables n b _) refl
 
 -- users don't see another count of a record, where each drop has let go as before
 pub counted-in : (s : State) (r n : ℕ) → IsSound s → All (KeepsLetGo s.tables (counted s.tables r n)) s.calls
@@ -31,7 +31,7 @@ counted-in s r n k a = kept-in k (counted-keeps s.tables r n) a refl
 
 -- users don't see that a record is dead
 pub dead-in : (s : State) (r : ℕ) → IsSound s → reading (record s { tables = tables_without s.tables r }) ≡ reading s
-dead-in s r k = kept-in k (dead-keeps s.tables r) (λ i d l q j t. dead-let_go s.tables r q) refl
+dead-in s r k = kept-in k (dead-keeps s.tables r) (dead-let_go s.tables r _) refl
 
 -- a view without block is read as one
 pub reads-detached : (g : Tables) (len : ℕ) → read_held g (change.detached_handle len) ≡ world.detached len
