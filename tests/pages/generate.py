@@ -190,7 +190,7 @@ def laws():
 
 
 def api():
-    """The tables of the public calls, by subject, and the one of those for layers."""
+    """The tables of the public calls, by subject, and the names of those for layers."""
     for title, files in API.items():
         rows, plain = calls(files)
         shown = [it for it in files.split() if any(calls(it)) or types(it)]
@@ -203,22 +203,11 @@ def api():
         if not rows and not plain:
             yield "\nIts calls are those of " + ", ".join(f"`{name}`" for name in traits(files)) + "."
     named = ", ".join(name for files in API.values() for name in types(files, are_for_layers=True))
-    yield "\n## For layers\n\nLayers above call most of these: other crates, C or the Rust crate. A user needs none."
-    yield f"\nTypes: {named}."
-    yield from table(row for files in API.values() for row in calls(files, are_for_layers=True)[0])
+    rows = [row[0].partition("(")[0] for files in API.values() for row in calls(files, are_for_layers=True)[0]]
+    yield "\n## For layers\n\nOther crates, C or the Rust crate call these; a user needs none."
+    yield f"\nTypes: {named}. Calls: " + ", ".join(f"`{name}`" for name in rows) + "."
     yield "\n## Laws\n\nThese calls do nothing; the contract of each is the law.\n"
     yield from (f"- {line}" for line in laws())
-
-
-def own():
-    """The calls and types whose comment says `(own)`: the original has none such."""
-    for title, files in API.items():
-        texts = [(CRATES / file).read_text() for file in files.split()]
-        found = [name for text in texts for comment, name in TYPE.findall(text) if original(comment) == "own"]
-        calls_found = [it for text in texts for it in declarations(text) if original(it[0]) == "own"]
-        found += [name if owner in title else f"{owner}::{name}" for _, owner, name, _ in calls_found]
-        if found:
-            yield f"- {title}: " + ", ".join(f"`{name}`" for name in dict.fromkeys(found))
 
 
 # ---- crates
@@ -322,19 +311,25 @@ def inherent():
 
 
 def speed():
-    """The means of bench/results.csv, its slowest workloads, and the calls that `bytes` has too."""
+    """The means of the Rust crate in bench/results.csv, its slowest workloads, and the calls that `bytes` has too."""
     rows = results.read()[1]
-    for table, build in reversed(results.BUILDS.items()):
-        sets = {said: results.means(some) for said, some in results.sets_of(table, rows)}
-        same, everyday = sets["with the same steps"], sets["everyday calls"]
-        yield (
-            f"In {build} {same.time:.2f} of the original's time and {same.instructions:.2f} of its instructions, over"
-            f" {same.count} workloads with the same steps; everyday calls {everyday.time:.2f} and"
-            f" {everyday.instructions:.2f}; the slowest by time {results.slowest(table, rows)}."
-        )
-    beside = ", ".join(f"{name} {ratio:.2f}" for name, ratio in results.beside(rows))
-    yield f"The Rust crate beside `bytes`, by instructions: {beside}."
-    yield "[All figures](bench/RESULTS.md), [causes](bench/README.md#causes)."
+    sets = {said: results.means(some) for said, some in results.sets_of("rust", rows)}
+    same, everyday = sets["with the same steps"], sets["everyday calls"]
+    yield (
+        f"The Rust crate takes {same.time:.2f} of the original's time over [{same.count} workloads](bench/RESULTS.md)"
+        f" with the same steps, and {everyday.time:.2f} over everyday calls; the slowest are"
+        f" {results.slowest('rust', rows)}."
+    )
+    if beside := ", ".join(f"{name} {ratio:.2f}" for name, ratio in results.beside(rows)):
+        yield f"Of the instructions of `bytes` it takes: {beside}."
+
+
+def beside():
+    """The calls that `bytes` has too, with the instructions of the Rust crate over those of `bytes`."""
+    found = list(results.beside(results.read()[1]))
+    head = "|call|instructions, over those of `bytes`|\n|---|--:|"
+    yield head if found else "The next measurement compares instructions with those of `bytes`."
+    yield from (f"|{name}|{ratio:.2f}|" for name, ratio in found)
 
 
 GATE = (ROOT / "docs/GATE.md").read_text()
@@ -342,9 +337,9 @@ UNSEEN = re.compile(r"^## A bug that no test sees\n\n(.*?)(?=\n## )", re.M | re.
 
 
 def of_gate(what):
-    """What a row of docs/GATE.md says."""
+    """What a row of docs/GATE.md says, if it is there."""
     found = re.search(rf"^\|{re.escape(what)}\|(.*)\|$", GATE, re.M)
-    return found[1] if found else "no number of"
+    return found and found[1]
 
 
 def believe():
@@ -352,11 +347,12 @@ def believe():
     number, lines = next((number, lines) for name, number, lines in contracts() if name == "`IoBufs::split_to`")
     yield (
         f"To believe `IoBufs::split_to`, read {number} definitions of {lines} lines, which `tests/trusted"
-        " iobufs/src/bufs.rt split_to` lists by Python alone. The [last recorded gate](docs/GATE.md) proved"
-        f" {of_gate('functions proved, without those of tests')} functions, and left"
-        f" {of_gate('goals left open')} goals open. Of mutants it tried, and the prover refused:"
-        f" {of_gate('mutants tried, and refused by the prover')}."
+        " iobufs/src/bufs.rt split_to` lists by Python alone."
     )
+    functions, goals = of_gate("functions proved, without those of tests"), of_gate("goals left open")
+    tried = of_gate("mutants tried, and refused by the prover")
+    said = f"proved {functions} functions, and left {goals} goals open. Mutants that it tried, and refused: {tried}"
+    yield f"The [last recorded gate](docs/GATE.md) {said if functions and goals and tried else 'says what it ran'}."
 
 
 def unseen():
@@ -441,9 +437,9 @@ def trusted():
 
 
 PARTS = {
-    "trusted": trusted, "api": api, "own calls": own, "matrix": matrix, "crates": crates, "graph": graph,
-    "promises": promises, "by hand": by_hand, "differences": differences, "inherent": inherent, "speed": speed,
-    "slowest": slowest, "believe": believe, "unseen bug": unseen,
+    "trusted": trusted, "api": api, "matrix": matrix, "crates": crates, "graph": graph, "promises": promises,
+    "by hand": by_hand, "differences": differences, "inherent": inherent, "speed": speed, "slowest": slowest,
+    "believe": believe, "unseen bug": unseen, "beside": beside,
 }
 
 

@@ -49,7 +49,6 @@ fn poll_batch<W: AsyncWrite>(
     }
 }
 
-// [docs: poll_send]
 /// Writes the first chunks, up to 64 of them in one call, and drops from the front what was taken.
 pub fn poll_send<W: AsyncWrite>(
     alloc: Global,
@@ -68,7 +67,6 @@ pub fn poll_send<W: AsyncWrite>(
     }
     polled
 }
-// [docs end]
 
 // [docs: poll_frame]
 /// Sends the rest of the first frame that isn't sent, chunk by chunk: the body isn't copied. If it is pending, or after

@@ -10,7 +10,6 @@ use iobufs_core::codec::BufMut;
 use std::alloc::Global;
 use std::io::{self, ErrorKind, Read};
 
-// [docs: fill_once]
 // Reads at most 512 bytes into the spare capacity of the buffers, if there is some, and returns how many came.
 #[tactic(auto, using(iobufs::proofs::CallerFacts::storing))]
 fn fill_once<R: Read>(from: &mut R, parts: &mut IoBufsMut) -> io::Result<usize>
@@ -29,7 +28,6 @@ fn fill_once<R: Read>(from: &mut R, parts: &mut IoBufsMut) -> io::Result<usize>
     parts.put_slice(&bytes[..n]);
     Ok(n)
 }
-// [docs end]
 
 /// Reads into the spare capacity of the buffers until it is full, or the reader has no more. The buffers hold all bytes
 /// that were read, whatever the result: it may be called again. An error is the reader's, and comes only while there is

@@ -12,14 +12,12 @@ use iobufs::bufs::IoBufs;
 use iobufs_core::codec::{Buf, BufError};
 use std::alloc::Global;
 
-// [docs: body]
 /// Makes a body of an `IoBufs`: one frame of all its chunks, which aren't copied.
 pub fn body(text: IoBufs) -> Full<IoBufs>
     ensures { result.buf ≡ (if length text.bytes == 0 then None else Some text) }
 {
     Full::new(text)
 }
-// [docs end]
 
 /// Returns how long the body of an `IoBufs` is.
 pub fn hint(text: IoBufs) -> SizeHint
