@@ -237,9 +237,6 @@ IOBUFS_CHECKED iobufs_status iobufmut_put_slice(struct iobufmut_at *part, const 
 /* Puts a byte n times. (BufMut::put_bytes)
  * Fails: IOBUFS_OUT_OF_RANGE if they don't fit. */
 IOBUFS_CHECKED iobufs_status iobufmut_put_bytes(struct iobufmut_at *part, uint8_t value, size_t n);
-/* Puts one byte. (BufMut::put_u8)
- * Fails: IOBUFS_OUT_OF_RANGE if it doesn't fit. */
-IOBUFS_CHECKED iobufs_status iobufmut_put_u8(struct iobufmut_at *part, uint8_t n);
 /* Appends a varint length (see iobufs_length_size). (usize::write)
  * Fails: IOBUFS_OUT_OF_RANGE if it doesn't fit. */
 IOBUFS_CHECKED iobufs_status iobufmut_put_length(struct iobufmut_at *part, size_t n);
@@ -282,9 +279,6 @@ bool iobufs_eq(const struct iobufs_at *bufs, const struct iobufs_at *other);
 size_t iobufs_chunk_count(const struct iobufs_at *bufs);
 /* Writes a pointer to the first chunk, as iobuf_chunk does, and returns its length. (Buf::chunk) */
 size_t iobufs_chunk(const struct iobufs_at *bufs, const uint8_t **out);
-/* Fills a list of n for writev with the first chunks, and returns how many it filled. iobufs_advance then takes the
- * count that writev returns. (Buf::chunks_vectored) */
-size_t iobufs_chunks(const struct iobufs_at *bufs, struct iobufs_iovec *out, size_t n);
 /* Fills a list of n with the chunks from chunk first on, counted from 0, and returns how many it filled; 0 if there
  * are none. So a loop takes many chunks at a time. (own) */
 size_t iobufs_chunks_from(const struct iobufs_at *bufs, size_t first, struct iobufs_iovec *out, size_t n);
@@ -368,9 +362,6 @@ IOBUFS_CHECKED iobufs_status iobufsmut_put_slice(struct iobufsmut_at *parts, con
 /* Puts a byte n times. (BufMut::put_bytes)
  * Fails: IOBUFS_OUT_OF_RANGE if they don't fit. */
 IOBUFS_CHECKED iobufs_status iobufsmut_put_bytes(struct iobufsmut_at *parts, uint8_t value, size_t n);
-/* Puts one byte. (BufMut::put_u8)
- * Fails: IOBUFS_OUT_OF_RANGE if it doesn't fit. */
-IOBUFS_CHECKED iobufs_status iobufsmut_put_u8(struct iobufsmut_at *parts, uint8_t n);
 /* Puts a varint length, part after part. (usize::write)
  * Fails: IOBUFS_OUT_OF_RANGE if it doesn't fit. */
 IOBUFS_CHECKED iobufs_status iobufsmut_put_length(struct iobufsmut_at *parts, size_t n);
@@ -412,9 +403,6 @@ IOBUFS_CHECKED iobufs_status iobufs_builder_put_slice(struct iobufs_builder_at *
 /* Puts a byte n times. (BufMut::put_bytes)
  * Fails: IOBUFS_OUT_OF_RANGE if they don't fit. */
 IOBUFS_CHECKED iobufs_status iobufs_builder_put_bytes(struct iobufs_builder_at *builder, uint8_t value, size_t n);
-/* Puts one byte. (BufMut::put_u8)
- * Fails: IOBUFS_OUT_OF_RANGE if it doesn't fit. */
-IOBUFS_CHECKED iobufs_status iobufs_builder_put_u8(struct iobufs_builder_at *builder, uint8_t n);
 /* Appends a varint length. (usize::write)
  * Fails: IOBUFS_OUT_OF_RANGE if it doesn't fit. */
 IOBUFS_CHECKED iobufs_status iobufs_builder_put_length(struct iobufs_builder_at *builder, size_t n);
@@ -486,9 +474,6 @@ size_t iobufs_frames_size(void);
 void iobufs_frames_init(struct iobufs_frames *at);
 /* Drops what was fed; nothing is left, and lengths are varints. (Drop) */
 void iobufs_frames_drop(struct iobufs_frames_at *frames);
-/* Says how lengths are written from the next frame on, by an `enum iobufs_prefix`. Headers have nothing else then. (own)
- * Fails: IOBUFS_BAD_KIND if it is none. */
-IOBUFS_CHECKED iobufs_status iobufs_frames_set_prefix(struct iobufs_frames_at *frames, uint8_t prefix);
 /* Sets the layout of the headers, from the next frame on. (own)
  * Fails: IOBUFS_BAD_KIND if `layout->prefix` is no `enum iobufs_prefix`. */
 IOBUFS_CHECKED iobufs_status iobufs_frames_set_layout(struct iobufs_frames_at *frames, const struct iobufs_layout *layout);
@@ -542,10 +527,6 @@ size_t iobufs_received_size(void);
 void iobufs_received_init(struct iobufs_received *at);
 /* Drops what came and was not taken; what iobufs_received_init makes is left. (Drop) */
 void iobufs_received_drop(struct iobufs_received_at *received);
-/* An empty receive block of frames whose lengths are written as an `enum iobufs_prefix`: of varints, what
- * iobufs_received_init makes. (own)
- * Fails: IOBUFS_BAD_KIND if it is none. */
-IOBUFS_CHECKED iobufs_status iobufs_received_new(uint8_t prefix, struct iobufs_received_at *out);
 /* An empty receive block of frames with this layout. (own)
  * Fails: IOBUFS_BAD_KIND if `layout->prefix` is no `enum iobufs_prefix`. */
 IOBUFS_CHECKED iobufs_status iobufs_received_with_layout(const struct iobufs_layout *layout, struct iobufs_received_at *out);
@@ -580,9 +561,15 @@ IOBUFS_CHECKED iobufs_status iobufs_received_next(struct iobufs_received_at *rec
 IOBUFS_CHECKED iobufs_status iobufs_received_next_whole(struct iobufs_received_at *received, size_t lo, size_t hi,
     struct iobuf_at *out, size_t *header, size_t *wrong);
 
-/* ---- big-endian numbers of a fixed size, by the calls above. These are inline: a library has no symbols for them. For
- * little-endian ones pass IOBUFS_LE to the calls above, or put what iobufs_swap32 returns, and swap what was read ---- */
+/* ---- the calls below are inline: the library has no symbols for them ---- */
 
+/* ---- big-endian numbers of a fixed size. For little-endian ones pass IOBUFS_LE to iobufmut_put_number and its like, or
+ * put what iobufs_swap32 returns, and swap what was read ---- */
+
+/* Puts one byte. (BufMut::put_u8) */
+static inline IOBUFS_CHECKED iobufs_status iobufmut_put_u8(struct iobufmut_at *part, uint8_t n) {
+    return iobufmut_put_number(part, n, 1, IOBUFS_BE);
+}
 /* Puts a big-endian number of two bytes. (BufMut::put_u16) */
 static inline IOBUFS_CHECKED iobufs_status iobufmut_put_u16(struct iobufmut_at *part, uint16_t n) {
     return iobufmut_put_number(part, n, 2, IOBUFS_BE);
@@ -595,6 +582,10 @@ static inline IOBUFS_CHECKED iobufs_status iobufmut_put_u32(struct iobufmut_at *
 static inline IOBUFS_CHECKED iobufs_status iobufmut_put_u64(struct iobufmut_at *part, uint64_t n) {
     return iobufmut_put_number(part, n, 8, IOBUFS_BE);
 }
+/* Puts one byte. (BufMut::put_u8) */
+static inline IOBUFS_CHECKED iobufs_status iobufsmut_put_u8(struct iobufsmut_at *parts, uint8_t n) {
+    return iobufsmut_put_number(parts, n, 1, IOBUFS_BE);
+}
 /* Puts a big-endian number of two bytes. (BufMut::put_u16) */
 static inline IOBUFS_CHECKED iobufs_status iobufsmut_put_u16(struct iobufsmut_at *parts, uint16_t n) {
     return iobufsmut_put_number(parts, n, 2, IOBUFS_BE);
@@ -606,6 +597,10 @@ static inline IOBUFS_CHECKED iobufs_status iobufsmut_put_u32(struct iobufsmut_at
 /* Puts a big-endian number of eight bytes. (BufMut::put_u64) */
 static inline IOBUFS_CHECKED iobufs_status iobufsmut_put_u64(struct iobufsmut_at *parts, uint64_t n) {
     return iobufsmut_put_number(parts, n, 8, IOBUFS_BE);
+}
+/* Puts one byte. (BufMut::put_u8) */
+static inline IOBUFS_CHECKED iobufs_status iobufs_builder_put_u8(struct iobufs_builder_at *builder, uint8_t n) {
+    return iobufs_builder_put_number(builder, n, 1, IOBUFS_BE);
 }
 /* Puts a big-endian number of two bytes. (BufMut::put_u16) */
 static inline IOBUFS_CHECKED iobufs_status iobufs_builder_put_u16(struct iobufs_builder_at *builder, uint16_t n) {
@@ -677,6 +672,31 @@ static inline uint32_t iobufs_swap32(uint32_t n) {
 }
 static inline uint64_t iobufs_swap64(uint64_t n) {
     return __builtin_bswap64(n);
+}
+
+/* ---- the first chunks, by iobufs_chunks_from ---- */
+
+/* Fills a list of n for writev with the first chunks, and returns how many it filled. (Buf::chunks_vectored) */
+static inline size_t iobufs_chunks(const struct iobufs_at *bufs, struct iobufs_iovec *out, size_t n) {
+    return iobufs_chunks_from(bufs, 0, out, n);
+}
+
+/* ---- frames whose headers are their lengths, by the calls for layouts ---- */
+
+/* Says how lengths are written from the next frame on, by an `enum iobufs_prefix`. Headers have nothing else then. (own)
+ * Fails: IOBUFS_BAD_KIND if it is none. */
+static inline IOBUFS_CHECKED iobufs_status iobufs_frames_set_prefix(struct iobufs_frames_at *frames, uint8_t prefix) {
+    struct iobufs_layout layout = { 0, 0, 0, 0 };
+    layout.prefix = prefix;
+    return iobufs_frames_set_layout(frames, &layout);
+}
+/* An empty receive block of frames whose lengths are written as an `enum iobufs_prefix`: of varints, what
+ * iobufs_received_init makes. (own)
+ * Fails: IOBUFS_BAD_KIND if it is none. */
+static inline IOBUFS_CHECKED iobufs_status iobufs_received_new(uint8_t prefix, struct iobufs_received_at *out) {
+    struct iobufs_layout layout = { 0, 0, 0, 0 };
+    layout.prefix = prefix;
+    return iobufs_received_with_layout(&layout, out);
 }
 
 /* ---- a frame's header, by iobufs_layout_header ---- */

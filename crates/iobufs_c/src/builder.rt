@@ -8,7 +8,7 @@ ghost use Rattle.iobufs_core.specs.Items.{items_inline};
 ghost use Rattle.iobufs_core.specs.View.{default_view};
 ghost use Rattle.iobufs_c.specs.Codes.{IsDoneUnless, code_of};
 
-use crate::status::{Status, refusal, within};
+use crate::status::{Status, done_or, refusal};
 use crate::text::{TextAt, hand_text};
 use crate::view::ViewAt;
 use iobufs::builder::Builder;
@@ -48,12 +48,6 @@ impl BuilderAt {
     }
 }
 
-fn empty(alloc: Global) -> Builder
-    ensures { result ≡ empty_building 0 }
-{
-    Builder::empty(alloc)
-}
-
 /// Returns how many bytes of memory a `Builder` takes.
 #[unsafe(no_mangle)]
 pub extern "C" fn iobufs_builder_size() -> usize
@@ -68,7 +62,7 @@ pub unsafe extern "C" fn iobufs_builder_init(alloc: Global, at: *mut u8)
     requires* { sem 𝓛 (room_at builder_row at) }
     ensures* { sem 𝓛 (lies_at builder_row full_share at (empty_building 0)) }
 {
-    (at as *mut Builder).write(empty(alloc));
+    (at as *mut Builder).write(Builder::empty(alloc));
 }
 
 /// Drops the builder; an empty one is left.
@@ -77,7 +71,7 @@ pub extern "C" fn iobufs_builder_drop(alloc: Global, builder: &mut BuilderAt)
     ensures at { builder.new.at ≡ builder.old.at }
     ensures value { builder.new.value ≡ empty_building 0 }
 {
-    *builder.get() = empty(alloc);
+    *builder.get() = Builder::empty(alloc);
 }
 
 /// Makes a builder for `capacity` inline bytes. Returns `Status::BadLayout` above `isize::MAX`, or `Status::Memory` if
@@ -116,7 +110,7 @@ pub extern "C" fn iobufs_builder_put_slice(builder: &mut BuilderAt, src: &[u8]) 
     ensures result { result ≡ (if nat_le (length src.now)
         (building_room builder.old.value) then 0 else code_of Status.OutOfRange) }
 {
-    within(builder.get().try_put_slice(src))
+    done_or(builder.get().try_put_slice(src), Status::OutOfRange)
 }
 
 /// Writes a byte `n` times. Returns `Status::OutOfRange` if `n` bytes don't fit; then nothing changes.
@@ -124,21 +118,9 @@ pub extern "C" fn iobufs_builder_put_slice(builder: &mut BuilderAt, src: &[u8]) 
 pub extern "C" fn iobufs_builder_put_bytes(builder: &mut BuilderAt, value: u8, n: usize) -> u8
     ensures at { builder.new.at ≡ builder.old.at }
     ensures value { builder.new.value ≡ (if result == 0 then building_put builder.old.value (replicate n value) else builder.old.value) }
-    ensures result { result ≡ (if nat_le n (building_room
-        builder.old.value) then 0 else code_of Status.OutOfRange) }
+    ensures result { result ≡ (if nat_le n (building_room builder.old.value) then 0 else code_of Status.OutOfRange) }
 {
-    within(builder.get().try_put_bytes(value, n))
-}
-
-/// Writes one byte. Returns `Status::OutOfRange` if it doesn't fit; then nothing changes.
-#[unsafe(no_mangle)]
-pub extern "C" fn iobufs_builder_put_u8(builder: &mut BuilderAt, n: u8) -> u8
-    ensures at { builder.new.at ≡ builder.old.at }
-    ensures value { builder.new.value ≡ (if result == 0 then building_put builder.old.value (n ∷ []) else builder.old.value) }
-    ensures result { result ≡ (if nat_le 1 (building_room
-        builder.old.value) then 0 else code_of Status.OutOfRange) }
-{
-    within(builder.get().try_put_slice(&[n]))
+    done_or(builder.get().try_put_bytes(value, n), Status::OutOfRange)
 }
 
 /// Pushes a view without copying, and leaves its handle empty. Returns `Status::TooLong` if the view is longer than
@@ -179,5 +161,8 @@ pub extern "C" fn iobufs_builder_finish(
     ensures nothing { building_items builder.old.value ≡ [] → result ≡ 0 }
     ensures no_inline { items_inline (building_items builder.old.value) ≡ 0 → result ≡ 0 }
 {
-    hand_text(mem::replace(builder.get(), empty(alloc)).finish(), out)
+    hand_text(
+        mem::replace(builder.get(), Builder::empty(alloc)).finish(),
+        out,
+    )
 }

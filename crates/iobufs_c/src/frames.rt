@@ -120,8 +120,7 @@ pub extern "C" fn iobufs_frames_rest(frames: &mut FramesAt, out: &mut TextAt) ->
 #[unsafe(no_mangle)]
 pub extern "C" fn iobufs_frames_feed(alloc: Global, frames: &mut FramesAt, piece: &mut ViewAt) -> u8
     ensures at { (frames.new.at ≡ frames.old.at) × (piece.new.at ≡ piece.old.at) }
-    ensures frames { frames.new.value
-        ≡ (if result == 0
+    ensures frames { frames.new.value ≡ (if result == 0
         then record { layout = frames.old.value.layout; rest = text_append frames.old.value.rest piece.old.value }
         else frames.old.value) }
     ensures piece { piece.new.value ≡ (if result == 0 then default_view else piece.old.value) }
@@ -140,24 +139,6 @@ pub extern "C" fn iobufs_frames_feed(alloc: Global, frames: &mut FramesAt, piece
             refusal(refused.cause)
         }
     }
-}
-
-/// Sets how lengths are written, from the next frame on; a header is then its length alone. Returns `Status::BadKind`
-/// if the kind is unknown.
-#[unsafe(no_mangle)]
-pub extern "C" fn iobufs_frames_set_prefix(frames: &mut FramesAt, kind: u8) -> u8
-    ensures at { frames.new.at ≡ frames.old.at }
-    ensures rest { frames.new.value.rest ≡ frames.old.value.rest }
-    ensures status { (result ≡ 0) ⊎ (result ≡ code_of Status.BadKind) }
-    ensures known { IfSome (prefix_from_c kind) (λ prefix. (result ≡ 0) × (frames.new.value.layout ≡ bare prefix)) }
-    ensures unknown { IfNone (prefix_from_c kind) ((result ≡ code_of Status.BadKind)
-        × (frames.new.value ≡ frames.old.value)) }
-{
-    let Some(prefix) = prefix_of(kind) else {
-        return Status::BadKind.code();
-    };
-    frames.get().layout = Layout::bare(prefix);
-    Status::Done.code()
 }
 
 /// Sets the layout of the headers, from the next frame on. Returns `Status::BadKind` if the kind of the prefix is
@@ -208,8 +189,8 @@ pub extern "C" fn iobufs_frames_length(prefix: u8, n: usize, out: &mut [u8], len
     Status::Done.code()
 }
 
-// The status of an error of taking a frame; an invalid length is written.
-fn told(error: Error, wrong: &mut usize) -> u8
+// The status of an error of taking a frame, or of reading a length; an invalid length is written.
+pub(crate) fn told(error: Error, wrong: &mut usize) -> u8
     ensures code { result ≡ code_of (of_error error) }
     ensures length { wrong.new ≡ length_told error wrong.old }
 {
@@ -289,8 +270,7 @@ pub extern "C" fn iobufs_frames_next(
     wrong: &mut usize,
 ) -> u8
     ensures at { (frames.new.at ≡ frames.old.at) × (out.new.at ≡ out.old.at) }
-    ensures next { TakesFrameOf
-        (record { lo = lo; hi = hi }) frames.old.value frames.new.value
+    ensures next { TakesFrameOf (record { lo = lo; hi = hi }) frames.old.value frames.new.value
         result out.old.value out.new.value wrong.old wrong.new }
 {
     let found = frames.get().next(alloc, &RangeCfg { lo, hi });
@@ -311,8 +291,7 @@ pub extern "C" fn iobufs_frames_next_whole(
     wrong: &mut usize,
 ) -> u8
     ensures at { (frames.new.at ≡ frames.old.at) × (out.new.at ≡ out.old.at) }
-    ensures next { TakesWholeOf
-        (record { lo = lo; hi = hi }) frames.old.value frames.new.value
+    ensures next { TakesWholeOf (record { lo = lo; hi = hi }) frames.old.value frames.new.value
         result (header.old, out.old.value) (header.new, out.new.value) wrong.old wrong.new }
 {
     let found = frames.get().next_whole(alloc, &RangeCfg { lo, hi });

@@ -41,15 +41,13 @@ pub(crate) fn prefix_of(kind: u8) -> Option<Prefix>
 pub(crate) fn layout_of(said: &LayoutInC) -> Option<Layout>
     ensures { result ≡ layout_from_c said.now }
 {
-    match prefix_of(said.prefix) {
-        Some(prefix) => Some(Layout {
-            before: said.before,
-            prefix,
-            after: said.after,
-            counts: said.counts,
-        }),
-        None => None,
-    }
+    let prefix = prefix_of(said.prefix)?;
+    Some(Layout {
+        before: said.before,
+        prefix,
+        after: said.after,
+        counts: said.counts,
+    })
 }
 
 // The bytes around the length are one slice, so that each slice is passed in registers, as rust/c/src/lib.rs needs it.

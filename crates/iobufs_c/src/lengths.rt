@@ -10,6 +10,7 @@ ghost use Rattle.iobufs_core.specs.Wire.{HasStaticView, IsLengthRead, IsViewFaul
 ghost use Rattle.iobufs_c.specs.Codes.{IsReadCode, IsViewReadCode, code_of};
 
 use crate::builder::BuilderAt;
+use crate::frames::told;
 use crate::part::PartAt;
 use crate::parts::PartsAt;
 use crate::status::{Status, fault};
@@ -99,17 +100,12 @@ pub extern "C" fn iobufs_read_length(
     ensures out { (result == 0) ≡ false → (result == code_of Status.InvalidLength) ≡ false → out.new ≡ out.old }
     ensures causes { IsReadCode result }
 {
-    let range = RangeCfg { lo, hi };
-    match usize::read_cfg(alloc, text.get(), &range) {
+    match usize::read_cfg(alloc, text.get(), &RangeCfg { lo, hi }) {
         Ok(n) => {
             *out = n;
             Status::Done.code()
         }
-        Err(Error::InvalidLength(n)) => {
-            *out = n;
-            Status::InvalidLength.code()
-        }
-        Err(error) => fault(error),
+        Err(error) => told(error, out),
     }
 }
 
@@ -135,17 +131,12 @@ pub extern "C" fn iobuf_read_length(
     ensures out { (result == 0) ≡ false → (result == code_of Status.InvalidLength) ≡ false → out.new ≡ out.old }
     ensures causes { IsReadCode result }
 {
-    let range = RangeCfg { lo, hi };
-    match usize::read_cfg(alloc, src.get(), &range) {
+    match usize::read_cfg(alloc, src.get(), &RangeCfg { lo, hi }) {
         Ok(n) => {
             *out = n;
             Status::Done.code()
         }
-        Err(Error::InvalidLength(n)) => {
-            *out = n;
-            Status::InvalidLength.code()
-        }
-        Err(error) => fault(error),
+        Err(error) => told(error, out),
     }
 }
 
@@ -175,8 +166,7 @@ pub extern "C" fn iobufs_read_view(
     ensures static_text { HasStaticView text.old.value (record { lo = lo; hi = hi }) → result ≡ 0 }
     ensures causes { IsViewReadCode result }
 {
-    let range = RangeCfg { lo, hi };
-    match IoBuf::read_cfg(alloc, text.get(), &range) {
+    match IoBuf::read_cfg(alloc, text.get(), &RangeCfg { lo, hi }) {
         Ok(view) => {
             *out.get() = view;
             Status::Done.code()
@@ -209,8 +199,7 @@ pub extern "C" fn iobuf_read_view(
     ensures static_text { HasStaticView (of_view src.old.value) (record { lo = lo; hi = hi }) → result ≡ 0 }
     ensures causes { IsViewReadCode result }
 {
-    let range = RangeCfg { lo, hi };
-    match IoBuf::read_cfg(alloc, src.get(), &range) {
+    match IoBuf::read_cfg(alloc, src.get(), &RangeCfg { lo, hi }) {
         Ok(view) => {
             *out.get() = view;
             Status::Done.code()

@@ -9,7 +9,7 @@ ghost use Rattle.iobufs_core.specs.contracts.buf.part.IoBufMut.{the_row as part_
 ghost use Rattle.iobufs_c.specs.Codes.{IsDoneUnless, code_of, of_buf_error};
 ghost use Rattle.iobufs_c.specs.Rows.{part_written_at};
 
-use crate::status::{Status, enough, refusal, within};
+use crate::status::{Status, done_or, refusal};
 use crate::view::{ViewAt, hand};
 use iobufs_core::buf::{IoBufMut, address_mut};
 use iobufs_core::codec::{Buf, BufError, BufMut};
@@ -63,12 +63,6 @@ pub(crate) fn hand_part(made: Result<IoBufMut, BufError>, out: &mut PartAt) -> u
     }
 }
 
-pub(crate) fn empty(alloc: Global) -> IoBufMut
-    ensures { result ≡ empty_part 0 }
-{
-    IoBufMut::new(alloc)
-}
-
 /// Returns how many bytes of memory an `IoBufMut` takes.
 #[unsafe(no_mangle)]
 pub extern "C" fn iobufmut_size() -> usize
@@ -83,7 +77,7 @@ pub unsafe extern "C" fn iobufmut_init(alloc: Global, at: *mut u8)
     requires* { sem 𝓛 (room_at part_row at) }
     ensures* { sem 𝓛 (lies_at part_row full_share at (empty_part 0)) }
 {
-    (at as *mut IoBufMut).write(empty(alloc));
+    (at as *mut IoBufMut).write(IoBufMut::new(alloc));
 }
 
 /// Drops the buffer; an empty one is left.
@@ -92,7 +86,7 @@ pub extern "C" fn iobufmut_drop(alloc: Global, part: &mut PartAt)
     ensures at { part.new.at ≡ part.old.at }
     ensures value { part.new.value ≡ empty_part 0 }
 {
-    *part.get() = empty(alloc);
+    *part.get() = IoBufMut::new(alloc);
 }
 
 /// Makes an empty buffer of exactly this capacity. Returns `Status::BadLayout` above `isize::MAX`, or `Status::Memory`
@@ -138,8 +132,7 @@ pub extern "C" fn iobufmut_copy_from_slice(alloc: Global, src: &[u8], out: &mut 
 #[unsafe(no_mangle)]
 pub extern "C" fn iobuf_try_into_mut(alloc: Global, src: &mut ViewAt, out: &mut PartAt) -> u8
     ensures at { (src.new.at ≡ src.old.at) × (out.new.at ≡ out.old.at) }
-    ensures recovered { result ≡ 0 → (src.new.value ≡ default_view)
-        × IsRecovery src.old.value (Ok out.new.value) }
+    ensures recovered { result ≡ 0 → (src.new.value ≡ default_view) × IsRecovery src.old.value (Ok out.new.value) }
     ensures declined { (result == 0) ≡ false → (src.new.value ≡ src.old.value) × (out.new.value ≡ out.old.value)
         × IsRecovery src.old.value (Err src.old.value) }
     ensures result { IsDoneUnless result Status.Declined }
@@ -223,10 +216,9 @@ pub extern "C" fn iobufmut_chunk(part: &mut PartAt, out: &mut *mut u8) -> usize
 pub extern "C" fn iobufmut_put_slice(part: &mut PartAt, src: &[u8]) -> u8
     ensures at { part.new.at ≡ part.old.at }
     ensures value { part.new.value ≡ (if result == 0 then part_put part.old.value src.now else part.old.value) }
-    ensures result { result ≡ (if nat_le (length src.now)
-        part.old.value.spare then 0 else code_of Status.OutOfRange) }
+    ensures result { result ≡ (if nat_le (length src.now) part.old.value.spare then 0 else code_of Status.OutOfRange) }
 {
-    within(part.get().try_put_slice(src))
+    done_or(part.get().try_put_slice(src), Status::OutOfRange)
 }
 
 /// Writes a byte `n` times. Returns `Status::OutOfRange` if `n` bytes don't fit; then nothing changes.
@@ -236,17 +228,7 @@ pub extern "C" fn iobufmut_put_bytes(part: &mut PartAt, value: u8, n: usize) -> 
     ensures value { part.new.value ≡ (if result == 0 then part_put part.old.value (replicate n value) else part.old.value) }
     ensures result { result ≡ (if nat_le n part.old.value.spare then 0 else code_of Status.OutOfRange) }
 {
-    within(part.get().try_put_bytes(value, n))
-}
-
-/// Writes one byte. Returns `Status::OutOfRange` if it doesn't fit; then nothing changes.
-#[unsafe(no_mangle)]
-pub extern "C" fn iobufmut_put_u8(part: &mut PartAt, n: u8) -> u8
-    ensures at { part.new.at ≡ part.old.at }
-    ensures value { part.new.value ≡ (if result == 0 then part_put part.old.value (n ∷ []) else part.old.value) }
-    ensures result { result ≡ (if nat_le 1 part.old.value.spare then 0 else code_of Status.OutOfRange) }
-{
-    within(part.get().try_put_slice(&[n]))
+    done_or(part.get().try_put_bytes(value, n), Status::OutOfRange)
 }
 
 /// Makes `n` bytes readable; those that were not are zero. Returns `Status::OutOfRange` above the capacity; then
@@ -255,10 +237,9 @@ pub extern "C" fn iobufmut_put_u8(part: &mut PartAt, n: u8) -> u8
 pub extern "C" fn iobufmut_set_len(part: &mut PartAt, n: usize) -> u8
     ensures at { part.new.at ≡ part.old.at }
     ensures value { part.new.value ≡ (if result == 0 then part_with_len part.old.value n else part.old.value) }
-    ensures result { result ≡ (if nat_le n (part_capacity
-        part.old.value) then 0 else code_of Status.OutOfRange) }
+    ensures result { result ≡ (if nat_le n (part_capacity part.old.value) then 0 else code_of Status.OutOfRange) }
 {
-    within(part.get().try_set_len(n))
+    done_or(part.get().try_set_len(n), Status::OutOfRange)
 }
 
 /// Keeps at most the first `n` bytes.
@@ -275,10 +256,9 @@ pub extern "C" fn iobufmut_truncate(part: &mut PartAt, n: usize)
 pub extern "C" fn iobufmut_advance(part: &mut PartAt, n: usize) -> u8
     ensures at { part.new.at ≡ part.old.at }
     ensures value { part.new.value ≡ (if result == 0 then part_drained part.old.value n else part.old.value) }
-    ensures result { result ≡ (if nat_le n (length
-        part.old.value.filled) then 0 else code_of Status.OutOfRange) }
+    ensures result { result ≡ (if nat_le n (length part.old.value.filled) then 0 else code_of Status.OutOfRange) }
 {
-    within(part.get().try_advance(n))
+    done_or(part.get().try_advance(n), Status::OutOfRange)
 }
 
 /// Copies the first bytes out, and drops them. Returns `Status::EndOfBuffer` if there are fewer; then nothing changes.
@@ -286,12 +266,14 @@ pub extern "C" fn iobufmut_advance(part: &mut PartAt, n: usize) -> u8
 pub extern "C" fn iobufmut_copy_to_slice(part: &mut PartAt, dst: &mut [u8]) -> u8
     ensures at { part.new.at ≡ part.old.at }
     ensures value { part.new.value ≡ (if result == 0 then part_drained part.old.value (length dst.old) else part.old.value) }
-    ensures bytes { dst.new ≡ (if result == 0 then take (length dst.old)
-        part.old.value.filled else dst.old) }
+    ensures bytes { dst.new ≡ (if result == 0 then take (length dst.old) part.old.value.filled else dst.old) }
     ensures result { result ≡ (if nat_le (length dst.old)
         (length part.old.value.filled) then 0 else code_of Status.EndOfBuffer) }
 {
-    enough(part.get().try_copy_to_slice(dst).is_ok())
+    done_or(
+        part.get().try_copy_to_slice(dst).is_ok(),
+        Status::EndOfBuffer,
+    )
 }
 
 /// Overwrites readable bytes from an offset on. Returns `Status::OutOfRange` if fewer follow it; then nothing changes.
@@ -317,10 +299,9 @@ pub extern "C" fn iobufmut_write_at(part: &mut PartAt, at: usize, src: &[u8]) ->
 pub extern "C" fn iobufmut_freeze(alloc: Global, part: &mut PartAt, out: &mut ViewAt) -> u8
     ensures at { (part.new.at ≡ part.old.at) × (out.new.at ≡ out.old.at) }
     ensures part { part.new.value ≡ empty_part 0 }
-    ensures value { out.new.value ≡ (if result == 0 then part_frozen
-        part.old.value else out.old.value) }
+    ensures value { out.new.value ≡ (if result == 0 then part_frozen part.old.value else out.old.value) }
     ensures memory { IsDoneUnless result Status.Memory }
     ensures nothing { length part.old.value.filled ≡ 0 → result ≡ 0 }
 {
-    hand(mem::replace(part.get(), empty(alloc)).freeze(), out)
+    hand(mem::replace(part.get(), IoBufMut::new(alloc)).freeze(), out)
 }

@@ -8,8 +8,8 @@ ghost use Rattle.iobufs_core.specs.Chunks.{first_chunk};
 ghost use Rattle.iobufs_core.specs.Part.{Part, empty_part};
 ghost use Rattle.iobufs_c.specs.Codes.{IsDoneUnless, code_of};
 
-use crate::part::{PartAt, empty as empty_buffer, hand_part};
-use crate::status::{Status, enough, refusal, within};
+use crate::part::{PartAt, hand_part};
+use crate::status::{Status, done_or, refusal};
 use crate::text::{Chunk, TextAt, hand_text};
 use iobufs::bufs_mut::IoBufsMut;
 use iobufs_core::buf::IoBufMut;
@@ -88,7 +88,7 @@ pub extern "C" fn iobufsmut_from_mut(alloc: Global, part: &mut PartAt, out: &mut
     ensures part { part.new.value ≡ empty_part 0 }
     ensures value { out.new.value ≡ part.old.value ∷ [] }
 {
-    let part = mem::replace(part.get(), empty_buffer(alloc));
+    let part = mem::replace(part.get(), IoBufMut::new(alloc));
     *out.get() = IoBufsMut::from(part);
 }
 
@@ -102,7 +102,7 @@ fn take_row(alloc: Global, places: &mut [PartAt]) -> Result<Vec<IoBufMut>, Alloc
 {
     let mut row = Vec::with_capacity(alloc, places.len())?;
     for i in 0..places.len() {
-        let part = mem::replace(places[i].get(), empty_buffer(alloc));
+        let part = mem::replace(places[i].get(), IoBufMut::new(alloc));
         row.push(part).unwrap();
     }
     Ok(row)
@@ -125,8 +125,7 @@ pub extern "C" fn iobufsmut_from_parts(
         → (places.new ≡ places.old) ⊎ (map (λ place. place.value) places.new ≡ replicate (length places.old) (empty_part 0)) }
     ensures too_long { 2 ^ 64 ≤ parts_capacity (map (λ place. place.value) places.old)
         → (result ≡ code_of Status.Memory) ⊎ (result ≡ code_of Status.TooLong) }
-    ensures fits { parts_capacity (map (λ place. place.value) places.old) < 2 ^ 64
-        → IsDoneUnless result Status.Memory }
+    ensures fits { parts_capacity (map (λ place. place.value) places.old) < 2 ^ 64 → IsDoneUnless result Status.Memory }
     ensures nothing { length places.old ≡ 0 → result ≡ 0 }
 {
     let Ok(row) = take_row(alloc, places) else {
@@ -246,7 +245,7 @@ pub extern "C" fn iobufsmut_put_slice(parts: &mut PartsAt, src: &[u8]) -> u8
     ensures result { result ≡ (if nat_le (length src.now)
         (parts_spare parts.old.value) then 0 else code_of Status.OutOfRange) }
 {
-    within(parts.get().try_put_slice(src))
+    done_or(parts.get().try_put_slice(src), Status::OutOfRange)
 }
 
 /// Writes a byte `n` times. Returns `Status::OutOfRange` if `n` bytes don't fit; then nothing changes.
@@ -254,21 +253,9 @@ pub extern "C" fn iobufsmut_put_slice(parts: &mut PartsAt, src: &[u8]) -> u8
 pub extern "C" fn iobufsmut_put_bytes(parts: &mut PartsAt, value: u8, n: usize) -> u8
     ensures at { parts.new.at ≡ parts.old.at }
     ensures value { parts.new.value ≡ (if result == 0 then parts_fill parts.old.value (replicate n value) else parts.old.value) }
-    ensures result { result ≡ (if nat_le n (parts_spare
-        parts.old.value) then 0 else code_of Status.OutOfRange) }
+    ensures result { result ≡ (if nat_le n (parts_spare parts.old.value) then 0 else code_of Status.OutOfRange) }
 {
-    within(parts.get().try_put_bytes(value, n))
-}
-
-/// Writes one byte. Returns `Status::OutOfRange` if it doesn't fit; then nothing changes.
-#[unsafe(no_mangle)]
-pub extern "C" fn iobufsmut_put_u8(parts: &mut PartsAt, n: u8) -> u8
-    ensures at { parts.new.at ≡ parts.old.at }
-    ensures value { parts.new.value ≡ (if result == 0 then parts_fill parts.old.value (n ∷ []) else parts.old.value) }
-    ensures result { result ≡ (if nat_le 1 (parts_spare
-        parts.old.value) then 0 else code_of Status.OutOfRange) }
-{
-    within(parts.get().try_put_slice(&[n]))
+    done_or(parts.get().try_put_bytes(value, n), Status::OutOfRange)
 }
 
 /// Makes `n` bytes readable, filling the buffers in order; those that were not are zero. A later buffer loses the
@@ -277,10 +264,9 @@ pub extern "C" fn iobufsmut_put_u8(parts: &mut PartsAt, n: u8) -> u8
 pub extern "C" fn iobufsmut_set_len(parts: &mut PartsAt, n: usize) -> u8
     ensures at { parts.new.at ≡ parts.old.at }
     ensures value { parts.new.value ≡ (if result == 0 then parts_with_len parts.old.value n else parts.old.value) }
-    ensures result { result ≡ (if nat_le n (parts_capacity
-        parts.old.value) then 0 else code_of Status.OutOfRange) }
+    ensures result { result ≡ (if nat_le n (parts_capacity parts.old.value) then 0 else code_of Status.OutOfRange) }
 {
-    within(parts.get().try_set_len(n))
+    done_or(parts.get().try_set_len(n), Status::OutOfRange)
 }
 
 /// Drops the first bytes. Returns `Status::OutOfRange` if there are fewer; then nothing changes.
@@ -291,7 +277,7 @@ pub extern "C" fn iobufsmut_advance(parts: &mut PartsAt, n: usize) -> u8
     ensures result { result ≡ (if nat_le n (length
         (parts_filled parts.old.value)) then 0 else code_of Status.OutOfRange) }
 {
-    within(parts.get().try_advance(n))
+    done_or(parts.get().try_advance(n), Status::OutOfRange)
 }
 
 /// Copies the first bytes out, and drops them. Returns `Status::EndOfBuffer` if there are fewer; then nothing changes.
@@ -299,12 +285,14 @@ pub extern "C" fn iobufsmut_advance(parts: &mut PartsAt, n: usize) -> u8
 pub extern "C" fn iobufsmut_copy_to_slice(parts: &mut PartsAt, dst: &mut [u8]) -> u8
     ensures at { parts.new.at ≡ parts.old.at }
     ensures value { parts.new.value ≡ (if result == 0 then parts_drained parts.old.value (length dst.old) else parts.old.value) }
-    ensures bytes { dst.new ≡ (if result == 0 then take (length dst.old)
-        (parts_filled parts.old.value) else dst.old) }
+    ensures bytes { dst.new ≡ (if result == 0 then take (length dst.old) (parts_filled parts.old.value) else dst.old) }
     ensures result { result ≡ (if nat_le (length dst.old)
         (length (parts_filled parts.old.value)) then 0 else code_of Status.EndOfBuffer) }
 {
-    enough(parts.get().try_copy_to_slice(dst).is_ok())
+    done_or(
+        parts.get().try_copy_to_slice(dst).is_ok(),
+        Status::EndOfBuffer,
+    )
 }
 
 /// Freezes the buffers that hold bytes to the chunks of one `IoBufs`; an empty buffer is left. Returns `Status::Memory`

@@ -81,25 +81,8 @@ pub extern "C" fn iobufs_received_drop(alloc: Global, received: &mut ReceivedAt)
     *received.get() = empty(alloc);
 }
 
-/// Makes an empty receive block of frames whose lengths are written as `prefix`. Allocates nothing. Returns
-/// `Status::BadKind` if the prefix is unknown.
-#[unsafe(no_mangle)]
-pub extern "C" fn iobufs_received_new(alloc: Global, prefix: u8, out: &mut ReceivedAt) -> u8
-    ensures at { out.new.at ≡ out.old.at }
-    ensures status { (result ≡ 0) ⊎ (result ≡ code_of Status.BadKind) }
-    ensures known { IfSome (prefix_from_c prefix) (λ known. (result ≡ 0)
-        × (out.new.value ≡ none_received (bare known))) }
-    ensures unknown { IfNone (prefix_from_c prefix) ((result ≡ code_of Status.BadKind)
-        × (out.new.value ≡ out.old.value)) }
-{
-    let Some(prefix) = prefix_of(prefix) else {
-        return Status::BadKind.code();
-    };
-    *out.get() = Received::new(alloc, prefix);
-    Status::Done.code()
-}
-
-/// Makes an empty receive block of frames with this layout; fails as `iobufs_received_new`.
+/// Makes an empty receive block of frames with this layout. Allocates nothing. Returns `Status::BadKind` if the kind of
+/// the prefix is unknown.
 #[unsafe(no_mangle)]
 pub extern "C" fn iobufs_received_with_layout(
     alloc: Global,
@@ -108,8 +91,7 @@ pub extern "C" fn iobufs_received_with_layout(
 ) -> u8
     ensures at { out.new.at ≡ out.old.at }
     ensures status { (result ≡ 0) ⊎ (result ≡ code_of Status.BadKind) }
-    ensures known { IfSome (layout_from_c layout.now) (λ known. (result ≡ 0)
-        × (out.new.value ≡ none_received known)) }
+    ensures known { IfSome (layout_from_c layout.now) (λ known. (result ≡ 0) × (out.new.value ≡ none_received known)) }
     ensures unknown { IfNone (layout_from_c layout.now) ((result ≡ code_of Status.BadKind)
         × (out.new.value ≡ out.old.value)) }
 {
@@ -159,8 +141,7 @@ pub extern "C" fn iobufs_received_space(
     ensures kept { (received.new.value.layout ≡ received.old.value.layout)
         × (received.new.value.bytes ≡ received.old.value.bytes) }
     ensures space { result ≡ 0 → (0 < received.new.value.space) × (n.new ≡ received.new.value.space) }
-    ensures failed { (result == 0) ≡ false → (n.new ≡ n.old)
-        × (received.old.value.space ≤ received.new.value.space) }
+    ensures failed { (result == 0) ≡ false → (n.new ≡ n.old) × (received.old.value.space ≤ received.new.value.space) }
     ensures memory { IsDoneUnless result Status.Memory }
 {
     let received = received.get();
@@ -203,8 +184,7 @@ pub extern "C" fn iobufs_received_next(
     wrong: &mut usize,
 ) -> u8
     ensures at { (received.new.at ≡ received.old.at) × (out.new.at ≡ out.old.at) }
-    ensures next { TakesReceived
-        (record { lo = lo; hi = hi }) received.old.value received.new.value
+    ensures next { TakesReceived (record { lo = lo; hi = hi }) received.old.value received.new.value
         result out.old.value out.new.value wrong.old wrong.new }
 {
     let found = received.get().next(&RangeCfg { lo, hi });
@@ -223,8 +203,7 @@ pub extern "C" fn iobufs_received_next_whole(
     wrong: &mut usize,
 ) -> u8
     ensures at { (received.new.at ≡ received.old.at) × (out.new.at ≡ out.old.at) }
-    ensures next { TakesWholeReceived
-        (record { lo = lo; hi = hi }) received.old.value received.new.value
+    ensures next { TakesWholeReceived (record { lo = lo; hi = hi }) received.old.value received.new.value
         result (header.old, out.old.value) (header.new, out.new.value) wrong.old wrong.new }
 {
     let found = received.get().next_whole(&RangeCfg { lo, hi });

@@ -49,26 +49,11 @@ impl Status {
     }
 }
 
-/// Returns the number of done, or of `Status::OutOfRange`.
-pub(crate) fn within(is_done: bool) -> u8
-    ensures { result ≡ (if is_done then 0 else code_of Status.OutOfRange) }
+/// Returns the number of done, or of a cause.
+pub(crate) fn done_or(is_done: bool, cause: Status) -> u8
+    ensures { result ≡ (if is_done then 0 else code_of cause) }
 {
-    if is_done {
-        Status::Done.code()
-    } else {
-        Status::OutOfRange.code()
-    }
-}
-
-/// Returns the number of done, or of `Status::EndOfBuffer`.
-pub(crate) fn enough(is_done: bool) -> u8
-    ensures { result ≡ (if is_done then 0 else code_of Status.EndOfBuffer) }
-{
-    if is_done {
-        Status::Done.code()
-    } else {
-        Status::EndOfBuffer.code()
-    }
+    if is_done { 0 } else { cause.code() }
 }
 
 /// Returns the number of a buffer's error.

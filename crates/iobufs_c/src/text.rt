@@ -10,7 +10,7 @@ ghost use Rattle.iobufs_core.specs.MarkedText.{MarkedText, chunk_count as count_
 ghost use Rattle.iobufs_core.specs.View.{IsFreelyShared, default_view, static_mark};
 ghost use Rattle.iobufs_c.specs.Codes.{IsDoneUnless, code_of, of_buf_error};
 
-use crate::status::{Status, enough, refusal, within};
+use crate::status::{Status, done_or, refusal};
 use crate::view::{ViewAt, address, hand};
 use iobufs::bufs::{ChunkSlice, IoBufs};
 use iobufs_core::buf::IoBuf;
@@ -315,7 +315,7 @@ pub extern "C" fn iobufs_advance(text: &mut TextAt, n: usize) -> u8
         (text_len text.old.value) then text_advanced text.old.value n else text.old.value) }
     ensures result { result ≡ (if nat_le n (text_len text.old.value) then 0 else code_of Status.OutOfRange) }
 {
-    within(text.get().try_advance(n))
+    done_or(text.get().try_advance(n), Status::OutOfRange)
 }
 
 /// Copies the first bytes out, and drops them. Returns `Status::EndOfBuffer` if there are fewer; then nothing changes.
@@ -323,14 +323,16 @@ pub extern "C" fn iobufs_advance(text: &mut TextAt, n: usize) -> u8
 pub extern "C" fn iobufs_copy_to_slice(text: &mut TextAt, dst: &mut [u8]) -> u8
     ensures at { text.new.at ≡ text.old.at }
     ensures value { text.new.value ≡ (if nat_le (length dst.old)
-        (text_len text.old.value) then text_advanced text.old.value (length dst.old)
-        else text.old.value) }
+        (text_len text.old.value) then text_advanced text.old.value (length dst.old) else text.old.value) }
     ensures bytes { dst.new ≡ (if nat_le (length dst.old) (text_len text.old.value) then take
         (length dst.old) text.old.value.bytes else dst.old) }
     ensures result { result ≡ (if nat_le (length dst.old)
         (text_len text.old.value) then 0 else code_of Status.EndOfBuffer) }
 {
-    enough(text.get().try_copy_to_slice(dst).is_ok())
+    done_or(
+        text.get().try_copy_to_slice(dst).is_ok(),
+        Status::EndOfBuffer,
+    )
 }
 
 /// Copies the bytes after the first `skip` out; none are dropped. Returns `Status::EndOfBuffer` if there are fewer;
@@ -339,12 +341,11 @@ pub extern "C" fn iobufs_copy_to_slice(text: &mut TextAt, dst: &mut [u8]) -> u8
 pub extern "C" fn iobufs_peek(text: &mut TextAt, skip: usize, dst: &mut [u8]) -> u8
     ensures same { (text.new.at ≡ text.old.at) × (text.new.value ≡ text.old.value) }
     ensures bytes { dst.new ≡ (if nat_le (skip + length dst.old) (text_len text.old.value) then take (length dst.old)
-        (drop skip text.old.value.bytes)
-        else dst.old) }
+        (drop skip text.old.value.bytes) else dst.old) }
     ensures result { result ≡ (if nat_le (skip + length dst.old)
         (text_len text.old.value) then 0 else code_of Status.EndOfBuffer) }
 {
-    enough(text.get().try_peek_slice(skip, dst))
+    done_or(text.get().try_peek_slice(skip, dst), Status::EndOfBuffer)
 }
 
 /// Takes the first bytes as one view: in the storage of their chunk, or a copy across chunks. Returns
@@ -480,18 +481,6 @@ fn fill_chunks(text: &IoBufs, first: usize, out: &mut [Chunk]) -> usize
     let (front, behind) = text.chunk_slices_from(first);
     let count = fill_run(&front, out);
     count + fill_run(&behind, &mut out[count..])
-}
-
-/// Fills a list for `writev` with the first chunks, and returns how many it filled.
-#[unsafe(no_mangle)]
-pub extern "C" fn iobufs_chunks(text: &mut TextAt, out: &mut [Chunk]) -> usize
-    ensures same { (text.new.at ≡ text.old.at) × (text.new.value ≡ text.old.value) }
-    ensures count { result ≡ min (length out.old) (length (text_chunks text.old.value)) }
-    ensures lengths { map (λ chunk. chunk.len) (take result out.new) ≡ map length
-        (take result (text_chunks text.old.value)) }
-    ensures rest { drop result out.new ≡ drop result out.old }
-{
-    fill_chunks(text.get(), 0, out)
 }
 
 /// Fills a list with the chunks from `first` on, and returns how many it filled.

@@ -7,7 +7,7 @@ ghost use Rattle.iobufs_core.specs.contracts.buf.view.IoBuf.{the_row as view_row
 ghost use Rattle.iobufs_c.specs.Codes.{IsDoneUnless, code_of, of_buf_error};
 ghost use Rattle.iobufs_c.specs.Rows.{bound_from_c};
 
-use crate::status::{Status, enough, refusal, within};
+use crate::status::{Status, done_or, refusal};
 use iobufs_core::buf::IoBuf;
 use iobufs_core::codec::{Buf, BufError};
 use std::alloc::Global;
@@ -160,7 +160,7 @@ pub extern "C" fn iobuf_advance(src: &mut ViewAt, n: usize) -> u8
         (length src.old.value.bytes) then view_advanced src.old.value n else src.old.value) }
     ensures result { result ≡ (if nat_le n (length src.old.value.bytes) then 0 else code_of Status.OutOfRange) }
 {
-    within(src.get().try_advance(n))
+    done_or(src.get().try_advance(n), Status::OutOfRange)
 }
 
 /// Splits the first bytes off, sharing their storage. Returns `Status::OutOfRange` if there are fewer, or
@@ -187,14 +187,16 @@ pub extern "C" fn iobuf_split_to(src: &mut ViewAt, at: usize, out: &mut ViewAt) 
 pub extern "C" fn iobuf_copy_to_slice(src: &mut ViewAt, dst: &mut [u8]) -> u8
     ensures at { src.new.at ≡ src.old.at }
     ensures value { src.new.value ≡ (if nat_le (length dst.old)
-        (length src.old.value.bytes) then view_advanced src.old.value (length dst.old)
-        else src.old.value) }
+        (length src.old.value.bytes) then view_advanced src.old.value (length dst.old) else src.old.value) }
     ensures bytes { dst.new ≡ (if nat_le (length dst.old) (length src.old.value.bytes) then take
         (length dst.old) src.old.value.bytes else dst.old) }
     ensures result { result ≡ (if nat_le (length dst.old)
         (length src.old.value.bytes) then 0 else code_of Status.EndOfBuffer) }
 {
-    enough(src.get().try_copy_to_slice(dst).is_ok())
+    done_or(
+        src.get().try_copy_to_slice(dst).is_ok(),
+        Status::EndOfBuffer,
+    )
 }
 
 // The bound, if its kind is known.

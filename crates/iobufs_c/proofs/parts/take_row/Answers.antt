@@ -20,7 +20,7 @@ loop-i-preserved c =
       row = pushed ∙ ap (λ row. row ++ part ∷ []) inv.row
           ∙ value_next (λ place. place.value) old i place part c.loop-i-test.true at;
       taken = taken_more (λ place. place.value) c.loop-i.places i emptied (empty_part 0)
-          (omega (arith, inv.size, c.loop-i-test.true)) (c.replace-part.ensures.after ∙ c.empty.ensures) inv.taken;
+          (omega (arith, inv.size, c.loop-i-test.true)) (c.replace-part.ensures.after ∙ c.new.ensures) inv.taken;
       rest = rest_more c.loop-i.places old i emptied (omega arith) inv.rest;
       at = places_same (λ place. place.at) c.loop-i.places i emptied place refl ∙ inv.at;
       few = grind (arith, common_steps, pushed, inv.few);
