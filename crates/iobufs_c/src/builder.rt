@@ -161,8 +161,6 @@ pub extern "C" fn iobufs_builder_finish(
     ensures nothing { building_items builder.old.value ≡ [] → result ≡ 0 }
     ensures no_inline { items_inline (building_items builder.old.value) ≡ 0 → result ≡ 0 }
 {
-    hand_text(
-        mem::replace(builder.get(), Builder::empty(alloc)).finish(),
-        out,
-    )
+    let built = mem::replace(builder.get(), Builder::empty(alloc));
+    hand_text(built.finish(), out)
 }

@@ -270,10 +270,8 @@ pub extern "C" fn iobufmut_copy_to_slice(part: &mut PartAt, dst: &mut [u8]) -> u
     ensures result { result ≡ (if nat_le (length dst.old)
         (length part.old.value.filled) then 0 else code_of Status.EndOfBuffer) }
 {
-    done_or(
-        part.get().try_copy_to_slice(dst).is_ok(),
-        Status::EndOfBuffer,
-    )
+    let is_done = part.get().try_copy_to_slice(dst).is_ok();
+    done_or(is_done, Status::EndOfBuffer)
 }
 
 /// Overwrites readable bytes from an offset on. Returns `Status::OutOfRange` if fewer follow it; then nothing changes.

@@ -289,10 +289,8 @@ pub extern "C" fn iobufsmut_copy_to_slice(parts: &mut PartsAt, dst: &mut [u8]) -
     ensures result { result ≡ (if nat_le (length dst.old)
         (length (parts_filled parts.old.value)) then 0 else code_of Status.EndOfBuffer) }
 {
-    done_or(
-        parts.get().try_copy_to_slice(dst).is_ok(),
-        Status::EndOfBuffer,
-    )
+    let is_done = parts.get().try_copy_to_slice(dst).is_ok();
+    done_or(is_done, Status::EndOfBuffer)
 }
 
 /// Freezes the buffers that hold bytes to the chunks of one `IoBufs`; an empty buffer is left. Returns `Status::Memory`

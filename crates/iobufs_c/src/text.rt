@@ -329,10 +329,8 @@ pub extern "C" fn iobufs_copy_to_slice(text: &mut TextAt, dst: &mut [u8]) -> u8
     ensures result { result ≡ (if nat_le (length dst.old)
         (text_len text.old.value) then 0 else code_of Status.EndOfBuffer) }
 {
-    done_or(
-        text.get().try_copy_to_slice(dst).is_ok(),
-        Status::EndOfBuffer,
-    )
+    let is_done = text.get().try_copy_to_slice(dst).is_ok();
+    done_or(is_done, Status::EndOfBuffer)
 }
 
 /// Copies the bytes after the first `skip` out; none are dropped. Returns `Status::EndOfBuffer` if there are fewer;

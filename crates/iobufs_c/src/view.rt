@@ -193,10 +193,8 @@ pub extern "C" fn iobuf_copy_to_slice(src: &mut ViewAt, dst: &mut [u8]) -> u8
     ensures result { result ≡ (if nat_le (length dst.old)
         (length src.old.value.bytes) then 0 else code_of Status.EndOfBuffer) }
 {
-    done_or(
-        src.get().try_copy_to_slice(dst).is_ok(),
-        Status::EndOfBuffer,
-    )
+    let is_done = src.get().try_copy_to_slice(dst).is_ok();
+    done_or(is_done, Status::EndOfBuffer)
 }
 
 // The bound, if its kind is known.
