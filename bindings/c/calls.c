@@ -22,6 +22,7 @@ static void sizes(void) {
 
 static void view_clones(void) {
     VIEW(hello); VIEW(other); VIEW(none);
+    const uint8_t *at = NULL;
     CHECK(view_is(&hello, ""));
     OK(iobuf_copy_from_slice(bytes(""), 0, &hello));
     HELLO(hello);
@@ -29,6 +30,8 @@ static void view_clones(void) {
     OK(iobuf_clone(&hello, &other));
     CHECK(iobuf_eq(&hello, &other));
     CHECK(!iobuf_eq(&hello, &none));
+    CHECK(iobuf_chunk(&none, &at) == 0);
+    CHECK(at != NULL);
     iobuf_drop(&hello); iobuf_drop(&hello);
     CHECK(view_is(&hello, ""));
     CHECK(view_is(&other, "hello world"));
