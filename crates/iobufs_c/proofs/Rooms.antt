@@ -111,12 +111,15 @@ module _ (V : RattleType) (laws : Laws V) (default : V.Denot) where
     abbrev Runs : Z.Denot → Ptr → SProp 𝓤
     Runs h p = WpFn 𝓤 H 𝓣.C 𝓣.Λ (initer of) (heap_val ∷ rawptr_vals p ++ []) ((walk_of 𝓛 inited stays c).post (bound h p))
 
-    at_each : (h : Z.Denot) (p : Ptr)
-        → ent 𝓤 (sep 𝓤 (on_entry 𝓛 inited.signature tt tt (h, (p, tt)) (heap_val ∷ [], (rawptr_vals p, tt))) (sem 𝓛 (room_at V p))) (Runs h p)
+    abbrev entry : Z.Denot → Ptr → SProp 𝓤
+    entry h p = on_entry 𝓛 inited.signature tt tt (h, (p, tt)) (heap_val ∷ [], (rawptr_vals p, tt))
+
+    at_each : (h : Z.Denot) (p : Ptr) → ent 𝓤 (sep 𝓤 (entry h p) (sem 𝓛 (room_at V p))) (Runs h p)
     at_each h (block_ptr b o) =
-        let k = triple_of 𝓛 made.signature (closing 𝓛 made (makes 𝓛)) in let y : k.Ghost = ((tt, tt, tt, (h, tt), (heap_val ∷ [], tt)), tt) in
-        qed 𝓛 ((‵ ftrue ⊛ ‵ (owns (Z ∷ RawPtr ∷ []) (h, (block_ptr b o, tt)) (heap_val ∷ [], (vptr b o ∷ [], tt)))) ∷ ‵ (froom (lone V.mir) b o) ∷
-        []) ∵ enter ! 𝓣.C 𝓣.Λ (initer of)
+        let k = triple_of 𝓛 made.signature (closing 𝓛 made (makes 𝓛)) in
+        let y : k.Ghost = ((tt, tt, tt, (h, tt), (heap_val ∷ [], tt)), tt) in
+        qed 𝓛 ((‵ ftrue ⊛ ‵ (owns (Z ∷ RawPtr ∷ []) (h, (block_ptr b o, tt)) (heap_val ∷ [], (vptr b o ∷ [], tt))))
+        ∷ ‵ (froom (lone V.mir) b o) ∷ []) ∵ enter ! 𝓣.C 𝓣.Λ (initer of)
         (heap_val ∷ vptr b o ∷ []) _ $
         alloc_all ! (λ l. pass_all ! refl ((tt, ((tt, tt), tt)), ((tt, tt), tt)) $ sets ! (of_opd ! (get ! refl)) refl (tt, tt) $
         split ! $ move ! (1 ∷ []) $ fsplit ! $ use0 𝓛 (raw (emp 𝓤)) (id⊢ 𝓤 (emp 𝓤)) $ nothing ! $ move ! (2 ∷ 0 ∷ []) $ fjoin ! $
@@ -134,12 +137,13 @@ module _ (V : RattleType) (laws : Laws V) (default : V.Denot) where
         sets ! (of_opd ! (unit_lit !)) refl (tt, tt) $ returns ! (look_at ! 0 refl) $ free_all ! refl $
         move ! (2 ∷ 0 ∷ []) $ use2 𝓛 (‵ (part_at V full_share r b o)) (part_in 𝓛 V laws.one full_share r b o v) $
         rewrite ! 0 (λ (x : V.Denot). ‵ (part_at V full_share x b o)) e refl $
-        suffices ! _ (ends_at 𝓛 inited stays c (bound h (block_ptr b o)) vunit tt (tt, (tt, tt)) (tt, (tt, tt))) $ move ! (1 ∷ []) $ split ! $ fjoin ! $ nothing ! $
+        suffices ! _ (ends_at 𝓛 inited stays c (bound h (block_ptr b o)) vunit tt (tt, (tt, tt)) (tt, (tt, tt))) $
+        move ! (1 ∷ []) $ split ! $ fjoin ! $ nothing ! $
         feq_i ! (List Val) (vunit ∷ []) (vunit ∷ []) refl $ move ! (2 ∷ 0 ∷ []) $ join ! $ move ! (1 ∷ 0 ∷ []) $ join ! $ done !)))))
-    at_each h null_ptr = via 𝓤 (never 𝓤) (snd∗ 𝓤 (on_entry 𝓛 inited.signature tt tt (h, (null_ptr, tt)) (heap_val ∷ [], (rawptr_vals null_ptr, tt))) (never 𝓤))
-        (never_e 𝓤 _)
+    at_each h null_ptr = via 𝓤 (never 𝓤) (snd∗ 𝓤 (entry h null_ptr) (never 𝓤)) (never_e 𝓤 _)
 
     pub inits : (k : Callee) → Closed 𝓤 H 𝓣.C 𝓣.Λ k (initer of) → Meets 𝓛 inited.signature (𝓣.C k) (closing 𝓛 inited (writes 𝓛))
     inits k closed = proved 𝓛 inited stays c 𝓜 𝓡
-        (Goes-dropped 𝓛 0 (plain (λ _. Z)) yes (λ κs x f. refl), (Goes-none 𝓛 0 (λ _. RawPtr) yes (λ κs x f. refl), tt)) k (initer of) closed
-        (λ κs. ((λ h. heap_val ∷ []), (rawptr_vals, tt))) (λ κs. (heap_tells, (rawptr_Tells, tt))) (λ κs qs bounds a gh are. at_each a.0 a.1.0)
+        (Goes-dropped 𝓛 0 (plain (λ _. Z)) yes (λ κs x f. refl), (Goes-none 𝓛 0 (λ _. RawPtr) yes (λ κs x f. refl), tt))
+        k (initer of) closed (λ κs. ((λ h. heap_val ∷ []), (rawptr_vals, tt))) (λ κs. (heap_tells, (rawptr_Tells, tt)))
+        (λ κs qs bounds a gh are. at_each a.0 a.1.0)

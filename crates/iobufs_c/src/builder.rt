@@ -106,7 +106,8 @@ pub extern "C" fn iobufs_builder_remaining_mut(builder: &mut BuilderAt) -> usize
 #[unsafe(no_mangle)]
 pub extern "C" fn iobufs_builder_put_slice(builder: &mut BuilderAt, src: &[u8]) -> u8
     ensures at { builder.new.at ≡ builder.old.at }
-    ensures value { builder.new.value ≡ (if result == 0 then building_put builder.old.value src.now else builder.old.value) }
+    ensures value { builder.new.value ≡ (if result == 0 then building_put builder.old.value src.now else
+        builder.old.value) }
     ensures result { result ≡ (if nat_le (length src.now)
         (building_room builder.old.value) then 0 else code_of Status.OutOfRange) }
 {
@@ -117,7 +118,8 @@ pub extern "C" fn iobufs_builder_put_slice(builder: &mut BuilderAt, src: &[u8]) 
 #[unsafe(no_mangle)]
 pub extern "C" fn iobufs_builder_put_bytes(builder: &mut BuilderAt, value: u8, n: usize) -> u8
     ensures at { builder.new.at ≡ builder.old.at }
-    ensures value { builder.new.value ≡ (if result == 0 then building_put builder.old.value (replicate n value) else builder.old.value) }
+    ensures value { builder.new.value ≡ (if result == 0 then building_put builder.old.value (replicate n value) else
+        builder.old.value) }
     ensures result { result ≡ (if nat_le n (building_room builder.old.value) then 0 else code_of Status.OutOfRange) }
 {
     done_or(builder.get().try_put_bytes(value, n), Status::OutOfRange)

@@ -64,7 +64,8 @@ pub extern "C" fn iobufsmut_put_length(parts: &mut PartsAt, n: usize) -> u8
 #[unsafe(no_mangle)]
 pub extern "C" fn iobufs_builder_put_length(builder: &mut BuilderAt, n: usize) -> u8
     ensures at { builder.new.at ≡ builder.old.at }
-    ensures value { builder.new.value ≡ (if result == 0 then building_put builder.old.value (spell n) else builder.old.value) }
+    ensures value { builder.new.value ≡ (if result == 0 then building_put builder.old.value (spell n) else
+        builder.old.value) }
     ensures result { result ≡ (if nat_le (length (spell n))
         (building_room builder.old.value) then 0 else code_of Status.OutOfRange) }
 {

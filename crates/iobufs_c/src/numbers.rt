@@ -96,8 +96,8 @@ pub extern "C" fn iobufs_builder_put_number(
     ensures at { builder.new.at ≡ builder.old.at }
     ensures value { builder.new.value ≡ (if result == 0 then building_put builder.old.value
         (number_bytes size order n) else builder.old.value) }
-    ensures result { result ≡ (if is_number size order then (if nat_le size (building_room builder.old.value) then 0 else
-        code_of Status.OutOfRange) else code_of Status.BadKind) }
+    ensures result { result ≡ (if is_number size order then (if nat_le size (building_room builder.old.value) then 0
+        else code_of Status.OutOfRange) else code_of Status.BadKind) }
 {
     if !is_known(size, order) {
         return Status::BadKind.code();

@@ -107,7 +107,8 @@ pub extern "C" fn iobufmut_with_capacity(alloc: Global, n: usize, out: &mut Part
 #[unsafe(no_mangle)]
 pub extern "C" fn iobufmut_zeroed(alloc: Global, n: usize, out: &mut PartAt) -> u8
     ensures at { out.new.at ≡ out.old.at }
-    ensures value { out.new.value ≡ (if result == 0 then record { filled = replicate n 0; spare = 0 } else out.old.value) }
+    ensures value { out.new.value ≡ (if result == 0 then record { filled = replicate n 0; spare = 0 } else
+        out.old.value) }
     ensures bad_layout { IsTrue (bad_layout n 1) → result ≡ code_of Status.BadLayout }
     ensures good_layout { bad_layout n 1 ≡ false → IsDoneUnless result Status.Memory }
     ensures nothing { n ≡ 0 → result ≡ 0 }
@@ -225,7 +226,8 @@ pub extern "C" fn iobufmut_put_slice(part: &mut PartAt, src: &[u8]) -> u8
 #[unsafe(no_mangle)]
 pub extern "C" fn iobufmut_put_bytes(part: &mut PartAt, value: u8, n: usize) -> u8
     ensures at { part.new.at ≡ part.old.at }
-    ensures value { part.new.value ≡ (if result == 0 then part_put part.old.value (replicate n value) else part.old.value) }
+    ensures value { part.new.value ≡ (if result == 0 then part_put part.old.value (replicate n value) else
+        part.old.value) }
     ensures result { result ≡ (if nat_le n part.old.value.spare then 0 else code_of Status.OutOfRange) }
 {
     done_or(part.get().try_put_bytes(value, n), Status::OutOfRange)
@@ -265,7 +267,8 @@ pub extern "C" fn iobufmut_advance(part: &mut PartAt, n: usize) -> u8
 #[unsafe(no_mangle)]
 pub extern "C" fn iobufmut_copy_to_slice(part: &mut PartAt, dst: &mut [u8]) -> u8
     ensures at { part.new.at ≡ part.old.at }
-    ensures value { part.new.value ≡ (if result == 0 then part_drained part.old.value (length dst.old) else part.old.value) }
+    ensures value { part.new.value ≡ (if result == 0 then part_drained part.old.value (length dst.old) else
+        part.old.value) }
     ensures bytes { dst.new ≡ (if result == 0 then take (length dst.old) part.old.value.filled else dst.old) }
     ensures result { result ≡ (if nat_le (length dst.old)
         (length part.old.value.filled) then 0 else code_of Status.EndOfBuffer) }

@@ -121,8 +121,8 @@ pub extern "C" fn iobufsmut_from_parts(
     ensures value { out.new.value ≡ (if result == 0 then kept_parts
         (map (λ place. place.value) places.old) else out.old.value) }
     ensures taken { result ≡ 0 → map (λ place. place.value) places.new ≡ replicate (length places.old) (empty_part 0) }
-    ensures unchanged { (result == 0) ≡ false
-        → (places.new ≡ places.old) ⊎ (map (λ place. place.value) places.new ≡ replicate (length places.old) (empty_part 0)) }
+    ensures unchanged { (result == 0) ≡ false → (places.new ≡ places.old) ⊎ (map (λ place. place.value) places.new ≡
+        replicate (length places.old) (empty_part 0)) }
     ensures too_long { 2 ^ 64 ≤ parts_capacity (map (λ place. place.value) places.old)
         → (result ≡ code_of Status.Memory) ⊎ (result ≡ code_of Status.TooLong) }
     ensures fits { parts_capacity (map (λ place. place.value) places.old) < 2 ^ 64 → IsDoneUnless result Status.Memory }
@@ -252,7 +252,8 @@ pub extern "C" fn iobufsmut_put_slice(parts: &mut PartsAt, src: &[u8]) -> u8
 #[unsafe(no_mangle)]
 pub extern "C" fn iobufsmut_put_bytes(parts: &mut PartsAt, value: u8, n: usize) -> u8
     ensures at { parts.new.at ≡ parts.old.at }
-    ensures value { parts.new.value ≡ (if result == 0 then parts_fill parts.old.value (replicate n value) else parts.old.value) }
+    ensures value { parts.new.value ≡ (if result == 0 then parts_fill parts.old.value (replicate n value) else
+        parts.old.value) }
     ensures result { result ≡ (if nat_le n (parts_spare parts.old.value) then 0 else code_of Status.OutOfRange) }
 {
     done_or(parts.get().try_put_bytes(value, n), Status::OutOfRange)
@@ -284,7 +285,8 @@ pub extern "C" fn iobufsmut_advance(parts: &mut PartsAt, n: usize) -> u8
 #[unsafe(no_mangle)]
 pub extern "C" fn iobufsmut_copy_to_slice(parts: &mut PartsAt, dst: &mut [u8]) -> u8
     ensures at { parts.new.at ≡ parts.old.at }
-    ensures value { parts.new.value ≡ (if result == 0 then parts_drained parts.old.value (length dst.old) else parts.old.value) }
+    ensures value { parts.new.value ≡ (if result == 0 then parts_drained parts.old.value (length dst.old) else
+        parts.old.value) }
     ensures bytes { dst.new ≡ (if result == 0 then take (length dst.old) (parts_filled parts.old.value) else dst.old) }
     ensures result { result ≡ (if nat_le (length dst.old)
         (length (parts_filled parts.old.value)) then 0 else code_of Status.EndOfBuffer) }
