@@ -52,8 +52,8 @@ fn start_of(size: usize, order: u8) -> usize
     if order == 0 { 8 - size } else { 0 }
 }
 
-/// Writes the lowest `size` bytes of a number into an `IoBufMut`. Returns `Status::BadKind` if the size isn't 1, 2, 4 or
-/// 8, or the order unknown, or `Status::OutOfRange` if they don't fit; then nothing changes.
+/// Writes the lowest `size` bytes of a number into an `IoBufMut`. Returns `Status::BadKind` if the size isn't 1, 2, 4
+/// or 8, or the order unknown, or `Status::OutOfRange` if they don't fit; then nothing changes.
 #[unsafe(no_mangle)]
 pub extern "C" fn iobufmut_put_number(part: &mut PartAt, n: u64, size: u8, order: u8) -> u8
     ensures at { part.new.at ≡ part.old.at }

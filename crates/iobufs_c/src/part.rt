@@ -281,7 +281,8 @@ pub extern "C" fn iobufmut_copy_to_slice(part: &mut PartAt, dst: &mut [u8]) -> u
 #[unsafe(no_mangle)]
 pub extern "C" fn iobufmut_write_at(part: &mut PartAt, at: usize, src: &[u8]) -> u8
     ensures at { part.new.at ≡ part.old.at }
-    ensures value { part.new.value ≡ (if result == 0 then part_written_at part.old.value at src.now else part.old.value) }
+    ensures value { part.new.value ≡ (if result == 0 then part_written_at part.old.value at src.now else
+        part.old.value) }
     ensures result { result ≡ (if nat_le (at + length src.now)
         (length part.old.value.filled) then 0 else code_of Status.OutOfRange) }
 {
