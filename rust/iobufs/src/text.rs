@@ -22,7 +22,8 @@ use std::{fmt, mem};
 /// assert_eq!(bufs.chunk_count(), 2);
 /// ```
 ///
-/// Clones, slices and splits share the storage of each chunk. They and appends may allocate a list of several chunks.
+/// Clones, slices and splits share the storage of each chunk. They and appends may allocate a list of several chunks. It
+/// has space for four at least, 160 bytes; each thread keeps the last such space that it frees, for its next list.
 /// Two buffers are equal if their bytes are, for every chunking.
 #[derive(Default)]
 pub struct IoBufs(pub(crate) inner::IoBufs);
