@@ -290,7 +290,7 @@ impl Block {
     // Gives up this handle, if it is the only one. All that others did happened before.
     #[inline]
     fn only(self) -> Result<NonNull<Head>, Block> {
-        if !self.is_only() {
+        if !self.head().handles.is_one() {
             return Err(self);
         }
         Ok(ManuallyDrop::new(self).head)
