@@ -115,9 +115,9 @@ impl Read for Pieces {
     }
 }
 
-/// What an iterator gives: bodies, and errors by a letter.
+/// What an iterator gives, at most 20 items: bodies, and errors by a letter.
 fn given(from: impl Iterator<Item = Result<IoBuf, FrameError>>) -> String {
-    let shown = from.map(|body| match body {
+    let shown = from.take(20).map(|body| match body {
         Ok(body) => String::from_utf8(body.to_vec()).unwrap(),
         Err(FrameError::Bad(_)) => "B".into(),
         Err(FrameError::Cut) => "C".into(),
@@ -143,7 +143,7 @@ const GIVEN: [Given; 7] = [
 fn frames_are_iterated_over() {
     for (pieces, kind, wanted) in GIVEN {
         let mut from = FrameReader::new(Pieces(pieces.to_vec(), kind), ..=8);
-        assert_eq!((given(&mut from), from.by_ref().count()), (wanted.into(), 0), "{pieces:?}");
+        assert_eq!((given(&mut from), given(&mut from)), (wanted.into(), "".into()), "{pieces:?}");
     }
     let mut from = FrameReader::new(&b"\x02ok\x09123456789\x01-"[..], ..=8);
     assert_eq!(given(&mut from), "ok B");
