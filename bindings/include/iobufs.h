@@ -561,7 +561,8 @@ IOBUFS_CHECKED iobufs_status iobufs_received_next(struct iobufs_received_at *rec
 IOBUFS_CHECKED iobufs_status iobufs_received_next_whole(struct iobufs_received_at *received, size_t lo, size_t hi,
     struct iobuf_at *out, size_t *header, size_t *wrong);
 
-/* ---- the calls below are inline: the library has no symbols for them ---- */
+/* ---- the calls below are inline: the library has no symbols for them. Each fails as the call that it makes, unless its
+ * comment says otherwise ---- */
 
 /* ---- big-endian numbers of a fixed size. For little-endian ones pass IOBUFS_LE to iobufmut_put_number and its like, or
  * put what iobufs_swap32 returns, and swap what was read ---- */
@@ -676,7 +677,8 @@ static inline uint64_t iobufs_swap64(uint64_t n) {
 
 /* ---- the first chunks, by iobufs_chunks_from ---- */
 
-/* Fills a list of n for writev with the first chunks, and returns how many it filled. (Buf::chunks_vectored) */
+/* Fills a list of n for writev with the first chunks, and returns how many it filled. iobufs_advance then takes the
+ * count that writev returns. (Buf::chunks_vectored) */
 static inline size_t iobufs_chunks(const struct iobufs_at *bufs, struct iobufs_iovec *out, size_t n) {
     return iobufs_chunks_from(bufs, 0, out, n);
 }
