@@ -569,7 +569,7 @@ IOBUFS_CHECKED iobufs_status iobufs_received_next_whole(struct iobufs_received_a
 
 /* Puts one byte. (BufMut::put_u8) */
 static inline IOBUFS_CHECKED iobufs_status iobufmut_put_u8(struct iobufmut_at *part, uint8_t n) {
-    return iobufmut_put_number(part, n, 1, IOBUFS_BE);
+    return iobufmut_put_slice(part, &n, 1);
 }
 /* Puts a big-endian number of two bytes. (BufMut::put_u16) */
 static inline IOBUFS_CHECKED iobufs_status iobufmut_put_u16(struct iobufmut_at *part, uint16_t n) {
@@ -585,7 +585,7 @@ static inline IOBUFS_CHECKED iobufs_status iobufmut_put_u64(struct iobufmut_at *
 }
 /* Puts one byte. (BufMut::put_u8) */
 static inline IOBUFS_CHECKED iobufs_status iobufsmut_put_u8(struct iobufsmut_at *parts, uint8_t n) {
-    return iobufsmut_put_number(parts, n, 1, IOBUFS_BE);
+    return iobufsmut_put_slice(parts, &n, 1);
 }
 /* Puts a big-endian number of two bytes. (BufMut::put_u16) */
 static inline IOBUFS_CHECKED iobufs_status iobufsmut_put_u16(struct iobufsmut_at *parts, uint16_t n) {
@@ -601,7 +601,7 @@ static inline IOBUFS_CHECKED iobufs_status iobufsmut_put_u64(struct iobufsmut_at
 }
 /* Puts one byte. (BufMut::put_u8) */
 static inline IOBUFS_CHECKED iobufs_status iobufs_builder_put_u8(struct iobufs_builder_at *builder, uint8_t n) {
-    return iobufs_builder_put_number(builder, n, 1, IOBUFS_BE);
+    return iobufs_builder_put_slice(builder, &n, 1);
 }
 /* Puts a big-endian number of two bytes. (BufMut::put_u16) */
 static inline IOBUFS_CHECKED iobufs_status iobufs_builder_put_u16(struct iobufs_builder_at *builder, uint16_t n) {
@@ -617,10 +617,7 @@ static inline IOBUFS_CHECKED iobufs_status iobufs_builder_put_u64(struct iobufs_
 }
 /* Reads the byte at the front, and drops it. (u8::read_cfg, Buf::get_u8) */
 static inline IOBUFS_CHECKED iobufs_status iobuf_get_u8(struct iobuf_at *src, uint8_t *out) {
-    uint64_t n = 0;
-    iobufs_status status = iobuf_get_number(src, 1, IOBUFS_BE, &n);
-    if (status == IOBUFS_OK) *out = n & UINT8_MAX;
-    return status;
+    return iobuf_copy_to_slice(src, out, 1);
 }
 /* Reads a big-endian number of two bytes, and drops it. (u16::read_cfg, Buf::get_u16) */
 static inline IOBUFS_CHECKED iobufs_status iobuf_get_u16(struct iobuf_at *src, uint16_t *out) {
@@ -642,10 +639,7 @@ static inline IOBUFS_CHECKED iobufs_status iobuf_get_u64(struct iobuf_at *src, u
 }
 /* Reads the byte at the front, and drops it. (u8::read_cfg, Buf::get_u8) */
 static inline IOBUFS_CHECKED iobufs_status iobufs_get_u8(struct iobufs_at *bufs, uint8_t *out) {
-    uint64_t n = 0;
-    iobufs_status status = iobufs_get_number(bufs, 1, IOBUFS_BE, &n);
-    if (status == IOBUFS_OK) *out = n & UINT8_MAX;
-    return status;
+    return iobufs_copy_to_slice(bufs, out, 1);
 }
 /* Reads a big-endian number of two bytes, and drops it. (u16::read_cfg, Buf::get_u16) */
 static inline IOBUFS_CHECKED iobufs_status iobufs_get_u16(struct iobufs_at *bufs, uint16_t *out) {
