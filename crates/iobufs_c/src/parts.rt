@@ -308,8 +308,8 @@ pub extern "C" fn iobufsmut_freeze(alloc: Global, parts: &mut PartsAt, out: &mut
     hand_text(mem::replace(parts.get(), empty(alloc)).freeze(alloc), out)
 }
 
-/// Joins the buffers into one, as `IoBufsMut::coalesce` does; an empty one is left. Returns `Status::BadLayout` if two or
-/// more hold more than `isize::MAX` bytes, or `Status::Memory`; then they are dropped, and `out` unchanged.
+/// Joins the buffers into one, as `IoBufsMut::coalesce` does; an empty one is left. Returns `Status::BadLayout` if two
+/// or more hold more than `isize::MAX` bytes, or `Status::Memory`; then they are dropped, and `out` unchanged.
 #[unsafe(no_mangle)]
 pub extern "C" fn iobufsmut_coalesce(alloc: Global, parts: &mut PartsAt, out: &mut PartAt) -> u8
     ensures at { (parts.new.at ≡ parts.old.at) × (out.new.at ≡ out.old.at) }

@@ -167,8 +167,8 @@ impl IoBuf {
         if from == to {
             return Ok(IoBuf::default());
         }
-        // The same call twice: the second is compiled for native storage alone. As one call a slice takes 1.48 times the
-        // instructions in the kit's build.
+        // The same call twice: the second is compiled for native storage alone. As one call a slice takes 1.48 times
+        // the instructions in the kit's build.
         if self.held.is_static() || self.held.is_shared() {
             return Ok(IoBuf {
                 held: self.held.share(from, to)?,
@@ -208,8 +208,8 @@ impl IoBuf {
         ensures whole { at ≡ length self.old.bytes → IsOk result }
         ensures static_text { self.old.mark ≡ static_mark → IsOk result }
     {
-        // A split inside the bytes is tested first, and the last line is never reached. Without these a split takes up to
-        // 1.53 times the instructions in the kit's build.
+        // A split inside the bytes is tested first, and the last line is never reached. Without these a split takes up
+        // to 1.53 times the instructions in the kit's build.
         if at != 0 && at < self.len() {
             return Ok(IoBuf {
                 held: self.held.split_to(at)?,
