@@ -72,18 +72,9 @@ static int end(void) {
 }
 #endif
 
-// The original's program reads the clock once before its first pair: COUNTER_SKIP=1 leaves that out.
-static int skipped(void) {
-    static int left = -1;
-    if (left < 0) left = getenv("COUNTER_SKIP") ? atoi(getenv("COUNTER_SKIP")) : 0;
-    if (left == 0) return 0;
-    left--;
-    return 1;
-}
-
 int clock_gettime(clockid_t id, struct timespec *time) {
     int answer = syscall(SYS_clock_gettime, id, time);
-    if (id != CLOCK_MONOTONIC || skipped()) return answer;
+    if (id != CLOCK_MONOTONIC) return answer;
     inside = !inside;
     if (!inside) return end() == 0 ? answer : -1;
     begin();

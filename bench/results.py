@@ -22,7 +22,7 @@ FOLDED_OF = {"kit": FOLDED, "rust": {it for it in FOLDED if it.endswith("_len")}
 OTHER_STEPS = set(
     "text4096_take300 text4096_split1000 text4096_split_mid text64_split1000 text64_split_mid text64_take300"
     " parts64_put64 parts64_put96 parts64_put3 decode64_chunks48 decode64_chunks48_take decode64_chunks1024"
-    " decode64_chunks1024_take".split()
+    " decode64_chunks1024_take parts4096_put64 parts4096_chunk_mut".split()
 )
 BUILDS = {"kit": "Rattle", "rust": "the Rust crate"}
 

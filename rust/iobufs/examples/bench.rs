@@ -1,27 +1,41 @@
 //! bench [--sums] [NAME..]
 //!
 //! The workloads of one buffer, of an `IoBufs`, of an `IoBufsMut` and of the codec, and everyday calls, with the names of
-//! those in `crates/iobufs_bench`.
+//! those in `crates/iobufs_bench`. Without names all run but those of `more` and `wire`. `bench/original` in the repository
+//! compiles this text over the original.
 //! Prints the nanoseconds an operation of each, or with `--sums` what one run of each saw, and its operations.
+#![allow(unexpected_cfgs)]
 use bytes::BufMut as _;
+// The crate has its own calls of `Buf`; with this trait in scope, a call by `&mut` would go through `impl Buf for &mut T`.
+#[cfg(feature = "original")]
+use iobufs::calls::*;
 use iobufs::codec::{Decode as _, Encode as _};
-use iobufs::{Builder, FrameWriter, IoBuf, IoBufMut, IoBufs, IoBufsMut, Prefix, ReadLength};
+use iobufs::{Builder, IoBuf, IoBufMut, IoBufs, IoBufsMut};
+use std::env;
 use std::hint::black_box;
 use std::time::Instant;
-use std::{env, io};
 
+#[cfg(not(feature = "original"))]
+use iobufs::ReadLength as _;
+
+#[cfg(not(feature = "original"))]
 #[path = "bench/beside.rs"]
 mod beside;
 #[path = "bench/everyday.rs"]
 mod everyday;
+#[path = "bench/more.rs"]
+mod more;
+#[cfg(feature = "original")]
+#[path = "bench/wire.rs"]
+mod wire;
 
 const MIB: usize = 1 << 20;
 
 /// Nanoseconds, operations, sum.
-type Run = (u64, Count, u64);
+type Run = (u64, usize, u64);
 
-/// A number of operations.
-type Count = usize;
+/// Takes a workload, by its name.
+type Add<'a> = &'a mut dyn FnMut(String, Box<dyn Fn() -> Run>);
 
 /// A small value of the codec.
 struct Entry {
@@ -57,7 +71,22 @@ fn text(n: usize) -> IoBufs {
     views(n).into()
 }
 
-/// How many `IoBufs` of n chunks a run has.
+/// n buffers, of which so many bytes each are filled.
+fn list(n: usize, len: usize) -> IoBufsMut {
+    let part = |_| {
+        let mut part = IoBufMut::with_capacity(256);
+        part.put_slice(&pattern(len));
+        part
+    };
+    (0..n).map(part).collect()
+}
+
+/// Values that are made before the clock starts.
+fn batch<T>(count: usize, make: impl Fn() -> T) -> Vec<T> {
+    (0..count).map(|_| make()).collect()
+}
+
+/// How many values of n chunks or buffers a run has.
 fn copies(n: usize) -> usize {
     (4096 / n).clamp(2, 512)
 }
@@ -66,6 +95,21 @@ fn timed(operations: usize, call: impl FnOnce() -> u64) -> Run {
     let began = Instant::now();
     let sum = black_box(call());
     (began.elapsed().as_nanos() as u64, operations, sum)
+}
+
+/// So many calls for each of these values.
+fn of_each<T>(mut values: Vec<T>, turns: usize, call: impl Fn(&mut T) -> u64) -> Run {
+    timed(values.len() * turns, || values.iter_mut().map(|it| (0..turns).map(|_| call(it)).sum::<u64>()).sum())
+}
+
+/// Makes a value of each of these, which are seen when the clock has stopped.
+fn made<T, U>(values: Vec<T>, make: impl Fn(T) -> U, see: impl Fn(&U) -> u64) -> Run {
+    let mut kept = Vec::with_capacity(values.len());
+    let (ns, operations, _) = timed(values.len(), || {
+        kept.extend(values.into_iter().map(make));
+        0
+    });
+    (ns, operations, kept.iter().map(see).sum())
 }
 
 fn put64() -> Run {
@@ -183,7 +227,7 @@ fn recover() -> Run {
 }
 
 fn joined(n: usize, join: impl Fn(&mut IoBufs, IoBuf)) -> Run {
-    let lists: Vec<Vec<IoBuf>> = (0..copies(n)).map(|_| views(n)).collect();
+    let lists = batch(copies(n), || views(n));
     let mut texts = Vec::with_capacity(lists.len());
     let (ns, operations, _) = timed(n * lists.len(), || {
         for list in lists {
@@ -198,17 +242,17 @@ fn joined(n: usize, join: impl Fn(&mut IoBufs, IoBuf)) -> Run {
     (ns, operations, texts.iter().map(|text| text.len() as u64).sum())
 }
 
-/// Texts from whose front `step` takes `size` bytes as often as it can; and what is done with the rest.
-fn drained(n: usize, size: usize, step: impl Fn(&mut IoBufs) -> u64, rest: usize) -> Run {
-    let mut texts: Vec<IoBufs> = (0..copies(n)).map(|_| text(n)).collect();
-    let turns = 256 * n / size;
-    timed(texts.len() * (turns + rest), || {
+/// Advances by 100 bytes as often as it can, and then by the rest.
+fn advance<T: bytes::Buf>(n: usize, mut values: Vec<T>) -> Run {
+    let turns = 256 * n / 100;
+    timed(values.len() * (turns + 1), || {
         let mut sum = 0;
-        for text in &mut texts {
+        for buf in &mut values {
             for _ in 0..turns {
-                sum += step(text);
+                buf.advance(100);
+                sum += mark(buf.chunk());
             }
-            text.advance(if rest == 1 { text.len() } else { 0 });
+            buf.advance(256 * n - 100 * turns);
         }
         sum
     })
@@ -230,7 +274,7 @@ fn text_len(n: usize) -> Run {
 }
 
 fn split_mid(n: usize) -> Run {
-    let mut texts: Vec<IoBufs> = (0..copies(n)).map(|_| text(n)).collect();
+    let mut texts = batch(copies(n), || text(n));
     let mut fronts = Vec::with_capacity(texts.len());
     let (ns, operations, _) = timed(texts.len(), || {
         fronts.extend(texts.iter_mut().map(|text| text.split_to(128 * n + 1)));
@@ -241,7 +285,7 @@ fn split_mid(n: usize) -> Run {
 }
 
 fn text_bytewise(n: usize) -> Run {
-    let mut texts: Vec<IoBufs> = (0..(copies(n) / 16).max(1)).map(|_| text(n)).collect();
+    let mut texts = batch((copies(n) / 16).max(1), || text(n));
     timed(256 * n * texts.len(), || {
         let mut sum = 0;
         for text in &mut texts {
@@ -255,38 +299,12 @@ fn text_bytewise(n: usize) -> Run {
 }
 
 fn coalesced(n: usize) -> Run {
-    let texts: Vec<IoBufs> = (0..copies(n)).map(|_| text(n)).collect();
-    let mut views = Vec::with_capacity(texts.len());
-    let (ns, operations, _) = timed(texts.len(), || {
-        views.extend(texts.into_iter().map(IoBufs::coalesce));
-        0
-    });
-    (ns, operations, views.iter().map(|view| mark(view.chunk())).sum())
+    made(batch(copies(n), || text(n)), IoBufs::coalesce, |view| mark(view.chunk()))
 }
 
 fn text_clone_drop(n: usize) -> Run {
     let text = text(n);
     timed(copies(n), || (0..copies(n)).map(|_| mark(black_box(&text).clone().chunk())).sum())
-}
-
-/// The offsets that are searched.
-fn offsets(n: usize) -> impl Iterator<Item = usize> {
-    (0..1000).map(move |i| i * 7919 * 257 % (256 * n))
-}
-
-fn locate(n: usize) -> Run {
-    let text = text(n);
-    let place = |at| text.locate(at).map_or(0, |(index, offset)| (index + offset) as u64);
-    timed(1000, || offsets(n).map(place).sum())
-}
-
-/// Takes 1,000 bytes from the front, up to 200 times of each `IoBufs`.
-fn split_few(n: usize) -> Run {
-    let (copies, turns) = (copies(n), (256 * n / 1000).min(200));
-    let mut texts: Vec<IoBufs> = (0..copies).map(|_| text(n)).collect();
-    timed(copies * turns, || {
-        texts.iter_mut().map(|text| (0..turns).map(|_| mark(text.split_to(1000).chunk())).sum::<u64>()).sum()
-    })
 }
 
 fn walk(n: usize) -> Run {
@@ -326,11 +344,16 @@ fn build_records() -> Run {
     timed(64 * 50, || (0..50).map(build).sum())
 }
 
+/// Views of `piece` bytes each, the last of the rest.
+fn cut(bytes: Vec<u8>, piece: usize) -> impl Iterator<Item = IoBuf> {
+    let whole = IoBuf::from(bytes);
+    (0..whole.len()).step_by(piece).map(move |at| whole.slice(at..whole.len().min(at + piece)))
+}
+
 /// Frames of `len` bytes, each after its length, in chunks of `piece` bytes.
 fn frames(number: usize, len: usize, piece: usize) -> IoBufs {
     let frame = native(len).encode_iobufs().coalesce();
-    let whole = IoBuf::from(frame.as_ref().repeat(number));
-    (0..whole.len()).step_by(piece).map(|at| whole.slice(at..whole.len().min(at + piece))).collect()
+    cut(frame.as_ref().repeat(number), piece).collect()
 }
 
 fn decode(text: &mut IoBufs) -> u64 {
@@ -346,22 +369,20 @@ fn take_frames(text: &mut IoBufs) -> u64 {
     let mut sum = 0;
     while text.has_remaining() {
         let len = text.read_length(..=MIB).expect("a length");
-        sum += mark(text.take_view(len).as_ref());
+        sum += mark(text.take_owned::<IoBuf>(len).as_ref());
     }
     sum
 }
 
 fn decoded(number: usize, len: usize, piece: usize, read: fn(&mut IoBufs) -> u64) -> Run {
     let source = frames(number, len, piece);
-    let mut texts: Vec<IoBufs> = (0..4).map(|_| source.clone()).collect();
+    let mut texts = batch(4, || source.clone());
     timed(4 * number, || texts.iter_mut().map(read).sum())
 }
 
 fn parts_put(n: usize, len: usize) -> Run {
     let piece = pattern(len);
-    let empty = |_| (0..n).map(|_| IoBufMut::with_capacity(256)).collect();
-    let copies = [512, 64, 1][usize::from(n > 3) + usize::from(n > 64)];
-    let mut rows: Vec<IoBufsMut> = (0..copies).map(empty).collect();
+    let mut rows = batch(copies(n), || list(n, 0));
     let turns = 256 * n / len;
     let (ns, operations, _) = timed(rows.len() * turns, || {
         for row in &mut rows {
@@ -374,7 +395,7 @@ fn parts_put(n: usize, len: usize) -> Run {
 
 /// Puts 64 bytes at a time into the chunks that `chunk_mut` gives.
 fn parts_chunk_mut(n: usize) -> Run {
-    let mut row: IoBufsMut = (0..n).map(|_| IoBufMut::with_capacity(256)).collect();
+    let mut row = list(n, 0);
     timed(4 * n, || {
         while row.has_remaining_mut() {
             row.chunk_mut()[..64].copy_from_slice(black_box(&[7; 64]));
@@ -385,51 +406,39 @@ fn parts_chunk_mut(n: usize) -> Run {
     })
 }
 
-/// Frames of 100 bytes: so many are put, and then sent.
-fn frames_out(puts: usize) -> Run {
-    let (view, frames) = (native(100), 960);
-    let mut to = FrameWriter::with_prefix(io::sink(), Prefix::U32Be, ..);
-    let _shared = view.clone();
-    timed(frames, || {
-        for _ in 0..frames / puts {
-            (0..puts).for_each(|_| to.put(black_box(&view).clone()).expect("it is put"));
-            to.send().expect("it is sent");
-        }
-        frames as u64
-    })
-}
-
-fn parts_freeze(n: usize) -> Run {
-    let full = |_| (0..n).map(|_| filled(256)).collect();
-    let rows: Vec<IoBufsMut> = (0..[512, 64][usize::from(n > 3)]).map(full).collect();
-    let mut texts = Vec::with_capacity(rows.len());
-    let (ns, operations, _) = timed(rows.len(), || {
-        texts.extend(rows.into_iter().map(IoBufsMut::freeze));
-        0
-    });
-    (ns, operations, texts.iter().map(|text| text.len() as u64 + mark(text.chunk())).sum())
-}
-
 fn parts_coalesce(n: usize, len: usize) -> Run {
-    let part = || {
-        let mut part = IoBufMut::with_capacity(256);
-        part.put_slice(&pattern(len));
-        part
-    };
-    let rows: Vec<IoBufsMut> = (0..copies(n)).map(|_| (0..n).map(|_| part()).collect()).collect();
-    let mut parts = Vec::with_capacity(rows.len());
-    let (ns, operations, _) = timed(rows.len(), || {
-        parts.extend(rows.into_iter().map(IoBufsMut::coalesce));
-        0
-    });
-    (ns, operations, parts.iter().map(|part| mark(part.as_ref())).sum())
+    made(batch(copies(n), || list(n, len)), IoBufsMut::coalesce, |part| mark(part.as_ref()))
 }
 
-type Workload = (String, Box<dyn Fn() -> Run>);
+/// The workloads of `IoBufs` of n chunks.
+fn texts(n: usize, add: Add) {
+    let mut add = |name: &str, run: Box<dyn Fn() -> Run>| add(format!("text{n}_{name}"), run);
+    let all = move || batch(copies(n), || text(n));
+    add("append", Box::new(move || joined(n, IoBufs::append)));
+    add("prepend", Box::new(move || joined(n, IoBufs::prepend)));
+    add("advance100", Box::new(move || advance(n, all())));
+    add("take300", Box::new(move || of_each(all(), 256 * n / 300, |text| mark(text.take_view(300).chunk()))));
+    add("split1000", Box::new(move || of_each(all(), 256 * n / 1000, |text| mark(text.split_to(1000).chunk()))));
+    add("len", Box::new(move || text_len(n)));
+    add("split_mid", Box::new(move || split_mid(n)));
+    add("coalesce", Box::new(move || coalesced(n)));
+    add("clone_drop", Box::new(move || text_clone_drop(n)));
+    add("walk", Box::new(move || walk(n)));
+    add("bytewise", Box::new(move || text_bytewise(n)));
+}
 
-fn workloads() -> Vec<Workload> {
-    let mut all: Vec<Workload> = Vec::new();
-    let mut add = |name: String, run: Box<dyn Fn() -> Run>| all.push((name, run));
+/// The workloads of an `IoBufsMut` of n buffers.
+fn lists(n: usize, add: Add) {
+    let mut add = |name: &str, run: Box<dyn Fn() -> Run>| add(format!("parts{n}_{name}"), run);
+    add("put3", Box::new(move || parts_put(n, 3)));
+    add("put64", Box::new(move || parts_put(n, 64)));
+    add("coalesce", Box::new(move || parts_coalesce(n, 8)));
+    add("coalesce_full", Box::new(move || parts_coalesce(n, 256)));
+    let seen = |text: &IoBufs| text.len() as u64 + mark(text.chunk());
+    add("freeze", Box::new(move || made(batch(copies(n), || list(n, 256)), IoBufsMut::freeze, seen)));
+}
+
+fn usual(add: Add) {
     add("put64_1m_freeze".into(), Box::new(put64));
     add("put_u8_64k_freeze".into(), Box::new(put_u8));
     add("split_1m_1k_drop".into(), Box::new(split_drop));
@@ -453,8 +462,9 @@ fn workloads() -> Vec<Workload> {
         add(name.into(), Box::new(move || decoded(number, len, piece, decode)));
         add(format!("{name}_take"), Box::new(move || decoded(number, len, piece, take_frames)));
     }
-    everyday::all(&mut add);
-    beside::all(&mut add);
+    everyday::all(add);
+    #[cfg(not(feature = "original"))]
+    beside::all(add);
     add("text1_coalesce".into(), Box::new(|| coalesced(1)));
     for n in [1, 2, 8] {
         add(format!("text{n}_queue_split"), Box::new(move || queue(n, |text| mark(text.split_to(256).chunk()))));
@@ -465,59 +475,39 @@ fn workloads() -> Vec<Workload> {
         add(format!("text{n}_queue_advance"), Box::new(move || queue(n, advance)));
     }
     for n in [4, 64, 4096] {
-        add(format!("text{n}_append"), Box::new(move || joined(n, IoBufs::append)));
-        add(format!("text{n}_prepend"), Box::new(move || joined(n, IoBufs::prepend)));
-        let advance = |text: &mut IoBufs| {
-            text.advance(100);
-            mark(text.chunk())
-        };
-        add(format!("text{n}_advance100"), Box::new(move || drained(n, 100, advance, 1)));
-        add(format!("text{n}_take300"), Box::new(move || drained(n, 300, |text| mark(text.take_view(300).chunk()), 0)));
-        add(
-            format!("text{n}_split1000"),
-            Box::new(move || drained(n, 1000, |text| mark(text.split_to(1000).chunk()), 0)),
-        );
-        add(format!("text{n}_len"), Box::new(move || text_len(n)));
-        add(format!("text{n}_split_mid"), Box::new(move || split_mid(n)));
-        add(format!("text{n}_coalesce"), Box::new(move || coalesced(n)));
-        add(format!("text{n}_clone_drop"), Box::new(move || text_clone_drop(n)));
-        add(format!("text{n}_walk"), Box::new(move || walk(n)));
-        add(format!("text{n}_bytewise"), Box::new(move || text_bytewise(n)));
+        texts(n, add);
     }
     for n in [2, 3, 64] {
-        add(format!("parts{n}_put3"), Box::new(move || parts_put(n, 3)));
-        add(format!("parts{n}_put64"), Box::new(move || parts_put(n, 64)));
-        add(format!("parts{n}_coalesce"), Box::new(move || parts_coalesce(n, 8)));
-        add(format!("parts{n}_coalesce_full"), Box::new(move || parts_coalesce(n, 256)));
-        add(format!("parts{n}_freeze"), Box::new(move || parts_freeze(n)));
+        lists(n, add);
     }
     add("parts4096_put64".into(), Box::new(|| parts_put(4096, 64)));
     add("parts4096_chunk_mut".into(), Box::new(|| parts_chunk_mut(4096)));
-    for puts in [1, 4, 16] {
-        add(format!("frames_out{puts}"), Box::new(move || frames_out(puts)));
-    }
-    all
 }
 
-/// The workloads of the picture by number of chunks, which run if they are named.
-fn by_chunks() -> impl Iterator<Item = Workload> {
-    [4, 64, 1024, 16384, 65537].into_iter().flat_map(|n| -> [Workload; 2] {
-        [
-            (format!("text{n}_locate"), Box::new(move || locate(n))),
-            (format!("text{n}_split1000_few"), Box::new(move || split_few(n))),
-        ]
-    })
+/// The nanoseconds an operation, over as many runs as make 8 milliseconds of timed work, or 60 in all.
+fn repetition(run: &dyn Fn() -> Run) -> f64 {
+    let (mut nanos, mut operations, began) = (0, 0, Instant::now());
+    while nanos < 8_000_000 && began.elapsed().as_millis() < 60 {
+        let (spent, done, _) = run();
+        (nanos, operations) = (nanos + spent, operations + done);
+    }
+    nanos as f64 / operations as f64
 }
 
 fn main() {
-    let words: Vec<String> = env::args().skip(1).collect();
-    let (flags, names): (Vec<&String>, Vec<&String>) = words.iter().partition(|word| *word == "--sums");
-    let is_named = |it: &Workload| names.contains(&&it.0);
-    let usual = workloads().into_iter().filter(|it| names.is_empty() || is_named(it));
-    for (name, run) in usual.chain(by_chunks().filter(is_named)) {
+    let (flags, mut names): (Vec<String>, Vec<String>) = env::args().skip(1).partition(|word| word == "--sums");
+    let mut all: Vec<(String, Box<dyn Fn() -> Run>)> = Vec::new();
+    usual(&mut |name, run| all.push((name, run)));
+    if names.is_empty() {
+        names = all.iter().map(|it| it.0.clone()).collect();
+    }
+    more::all(&mut |name, run| all.push((name, run)));
+    #[cfg(feature = "original")]
+    wire::all(&mut |name, run| all.push((name, run)));
+    for name in names {
+        let Some((_, run)) = all.iter().find(|it| it.0 == name) else { continue };
         if flags.is_empty() {
-            let each = |(nanos, operations, _): Run| nanos as f64 / operations as f64;
-            let least = (0..5).map(|_| each(run())).fold(f64::INFINITY, f64::min);
+            let least = (0..5).map(|_| repetition(run)).fold(f64::INFINITY, f64::min);
             println!("{name} {least:.3}");
         } else {
             let (_, operations, sum) = run();

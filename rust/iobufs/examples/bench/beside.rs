@@ -1,10 +1,13 @@
-//! Calls that this crate and `bytes` both have, one text for each side.
+//! What the original's side leaves out: calls that this crate and `bytes` both have, one text for each, and frames that
+//! are sent.
 use super::*;
 use ::bytes::{Buf as _, Bytes, BytesMut};
+use iobufs::{FrameWriter, Prefix};
 use std::collections::VecDeque;
+use std::io;
 
 /// How often most of these calls are made.
-const TURNS: Count = 1000;
+const TURNS: usize = 1000;
 
 /// The workloads of a view and of a writable buffer, of these types and with these calls.
 macro_rules! side {
@@ -12,7 +15,7 @@ macro_rules! side {
         mod $side {
             use super::*;
 
-            pub fn all(add: &mut dyn FnMut(String, Box<dyn Fn() -> Run>)) {
+            pub fn all(add: Add) {
                 let runs = [
                     ("clone", clone as fn() -> Run),
                     ("slice", slice),
@@ -28,7 +31,7 @@ macro_rules! side {
                 }
             }
 
-            fn whole(n: Count) -> $view {
+            fn whole(n: usize) -> $view {
                 let mut part = <$part>::with_capacity(n);
                 part.put_slice(&pattern(n));
                 part.freeze()
@@ -110,7 +113,24 @@ fn first_of_deque(queue: &mut VecDeque<Bytes>) -> Bytes {
 side!(ours, "here", IoBuf, IoBufMut, first_of_bufs, IoBufs, append);
 side!(theirs, "bytes", Bytes, BytesMut, first_of_deque, VecDeque<Bytes>, push_back);
 
-pub fn all(add: &mut dyn FnMut(String, Box<dyn Fn() -> Run>)) {
+/// Frames of 100 bytes: so many are put, and then sent.
+fn frames_out(puts: usize) -> Run {
+    let (view, frames) = (native(100), 960);
+    let mut to = FrameWriter::with_prefix(io::sink(), Prefix::U32Be, ..);
+    let _shared = view.clone();
+    timed(frames, || {
+        for _ in 0..frames / puts {
+            (0..puts).for_each(|_| to.put(black_box(&view).clone()).expect("it is put"));
+            to.send().expect("it is sent");
+        }
+        frames as u64
+    })
+}
+
+pub fn all(add: Add) {
     ours::all(add);
     theirs::all(add);
+    for puts in [1, 4, 16] {
+        add(format!("frames_out{puts}"), Box::new(move || frames_out(puts)));
+    }
 }

@@ -1,12 +1,11 @@
-//! Everyday calls on small values. This one text is a module of the crate's bench and of the original's: what it names
-//! of either side comes from the module above it.
+//! Everyday calls on small values.
 use super::*;
 use std::io::IoSlice;
 
 /// How often most of these calls are made.
 const TURNS: usize = 1000;
 
-pub fn all(add: &mut dyn FnMut(String, Box<dyn Fn() -> Run>)) {
+pub fn all(add: Add) {
     let runs = [
         ("numbers_read", read_numbers as fn() -> Run),
         ("numbers_put", put_numbers),
@@ -35,7 +34,7 @@ pub fn all(add: &mut dyn FnMut(String, Box<dyn Fn() -> Run>)) {
 fn read_numbers() -> Run {
     let whole = native(15 * TURNS);
     let mut view = whole.clone();
-    timed(4 * TURNS as Count, || {
+    timed(4 * TURNS, || {
         let mut sum = 0u64;
         for _ in 0..TURNS {
             sum = sum.wrapping_add(u64::from(view.get_u8()));
@@ -49,7 +48,7 @@ fn read_numbers() -> Run {
 
 fn put_numbers() -> Run {
     let mut part = IoBufMut::with_capacity(black_box(15 * TURNS));
-    timed(4 * TURNS as Count, || {
+    timed(4 * TURNS, || {
         for i in 0..TURNS {
             part.put_u8(i as u8);
             part.put_u16(i as u16);
@@ -62,7 +61,7 @@ fn put_numbers() -> Run {
 
 fn new_freeze() -> Run {
     let piece = pattern(64);
-    timed(TURNS as Count, || {
+    timed(TURNS, || {
         let turn = |_| {
             let mut part = IoBufMut::with_capacity(64);
             part.put_slice(black_box(&piece));
@@ -74,13 +73,13 @@ fn new_freeze() -> Run {
 
 fn from_vec() -> Run {
     let all: Vec<Vec<u8>> = (0..TURNS).map(|_| pattern(64)).collect();
-    timed(TURNS as Count, || all.into_iter().map(|bytes| mark(IoBuf::from(bytes).as_ref())).sum())
+    timed(TURNS, || all.into_iter().map(|bytes| mark(IoBuf::from(bytes).as_ref())).sum())
 }
 
 /// Slices a view, recovers its buffer, writes over its last four bytes, and freezes it.
 fn slice_recover() -> Run {
     let mut view = native(64);
-    timed(TURNS as Count, || {
+    timed(TURNS, || {
         let mut sum = 0;
         for i in 0..TURNS {
             sum += mark(view.slice(8..64).as_ref());
@@ -95,7 +94,7 @@ fn slice_recover() -> Run {
 
 fn from_array() -> Run {
     let (one, other) = (native(64), native(256));
-    timed(TURNS as Count, || {
+    timed(TURNS, || {
         let join = |_| mark(IoBufs::from([black_box(&one).clone(), other.clone()]).chunk());
         (0..TURNS).map(join).sum()
     })
@@ -105,7 +104,7 @@ fn from_array() -> Run {
 fn header_body() -> Run {
     let body = native(1024);
     let _shared = body.clone();
-    timed(TURNS as Count, || {
+    timed(TURNS, || {
         let mut sum = 0;
         for i in 0..TURNS {
             let mut head = IoBufMut::with_capacity(8);
@@ -129,7 +128,7 @@ fn frames_view() -> Run {
     }
     let whole = part.freeze();
     let mut view = whole.clone();
-    timed(TURNS as Count, || {
+    timed(TURNS, || {
         let mut sum = 0;
         for _ in 0..TURNS {
             let len = view.get_u32() as usize;
@@ -142,7 +141,7 @@ fn frames_view() -> Run {
 /// Views of 40 equal bytes, each in its own storage.
 fn equal() -> Run {
     let (one, views): (_, Vec<IoBuf>) = (native(40), (0..TURNS).map(|_| native(40)).collect());
-    timed(TURNS as Count, || views.iter().map(|view| u64::from(*view == one)).sum())
+    timed(TURNS, || views.iter().map(|view| u64::from(*view == one)).sum())
 }
 
 /// Fills four pages in place, 1,024 bytes at once.
@@ -165,14 +164,14 @@ fn fill_pages() -> Run {
 
 fn clone_text(n: usize) -> Run {
     let text = text(n);
-    timed(copies(n) as Count, || (0..copies(n)).map(|_| mark(black_box(&text).clone().chunk())).sum())
+    timed(copies(n), || (0..copies(n)).map(|_| mark(black_box(&text).clone().chunk())).sum())
 }
 
 /// Slices for one write.
 fn vectored(n: usize) -> Run {
     let texts: Vec<IoBufs> = (0..copies(n)).map(|_| text(n)).collect();
     let mut slices = [IoSlice::new(&[]); 64];
-    timed(copies(n) as Count, || {
+    timed(copies(n), || {
         let mut sum = 0;
         for text in &texts {
             sum += text.chunks_vectored(black_box(&mut slices)) as u64 + mark(text.chunk());
@@ -184,7 +183,7 @@ fn vectored(n: usize) -> Run {
 /// A number and a view, which isn't copied.
 fn encode_entry() -> Run {
     let body = native(64);
-    timed(TURNS as Count, || {
+    timed(TURNS, || {
         let mut sum = 0;
         for i in 0..TURNS {
             let entry = Entry { number: i as u32, body: black_box(&body).clone() };
@@ -199,7 +198,7 @@ fn decode_entry() -> Run {
     let entry = Entry { number: 7, body: native(64) }.encode_iobufs().coalesce();
     let whole = IoBuf::from(entry.as_ref().repeat(TURNS));
     let mut view = whole.clone();
-    timed(TURNS as Count, || {
+    timed(TURNS, || {
         let mut sum = 0;
         for _ in 0..TURNS {
             let Entry { number, body } = Entry::read_cfg(&mut view, &()).expect("a whole entry");
