@@ -1,12 +1,12 @@
 //! bench [--sums] [NAME..]
 //!
-//! The workloads of one buffer, of an `IoBufs`, of an `IoBufsMut` and of the codec, and everyday calls, with the names of
-//! those in `crates/iobufs_bench`. Without names all run but those of `more` and `wire`. `bench/original` in the repository
-//! compiles this text over the original.
+//! The workloads of one buffer, of an `IoBufs`, of an `IoBufsMut` and of the codec, and everyday calls, with the names
+//! of those in `crates/iobufs_bench`. Without names all run but those of `more` and `wire`. `bench/original` in the
+//! repository compiles this text over the original.
 //! Prints the nanoseconds an operation of each, or with `--sums` what one run of each saw, and its operations.
 #![allow(unexpected_cfgs)]
 use bytes::BufMut as _;
-// The crate has its own calls of `Buf`; with this trait in scope, a call by `&mut` would go through `impl Buf for &mut T`.
+// The crate has calls of its own: with `Buf` in scope too, a call by `&mut` would be that of `impl Buf for &mut T`.
 #[cfg(feature = "original")]
 use iobufs::calls::*;
 use iobufs::codec::{Decode as _, Encode as _};

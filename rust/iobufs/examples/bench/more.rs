@@ -1,4 +1,4 @@
-//! Workloads that run if they are named: those of Rattle's table, those of the tables by size, and of a `VecDeque<Bytes>`.
+//! Workloads that run if they are named: of Rattle's table, of the tables by size, and of a `VecDeque<Bytes>`.
 use super::*;
 use ::bytes::Bytes;
 use std::collections::VecDeque;

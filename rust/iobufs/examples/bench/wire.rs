@@ -33,7 +33,7 @@ fn there_and_back(read: fn(&mut IoBufs) -> u64) -> Run {
     })
 }
 
-/// The lengths of a proxy's frames. Of ten, four have less than 64 bytes, three 200 to 1,399, two 1,400, and one 16 KiB.
+/// The lengths of a proxy's frames: of ten, four up to 63 bytes, three 200 to 1,399, two 1,400, and one 16 KiB.
 fn proxied_len(i: usize) -> usize {
     match i % 10 {
         0..=3 => i % 56 + 8,
