@@ -526,7 +526,7 @@ impl IoBufs {
         Ok(())
     }
 
-    // The old value is dropped here, and not in each place that puts a new one.
+    // The old value is dropped here, and not in each place that puts a new one. Both take the same instructions.
     fn set(&mut self, text: IoBufs)
         ensures { self.new ≡ text }
     {

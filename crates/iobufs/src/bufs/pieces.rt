@@ -54,7 +54,7 @@ pub(super) const START: Located = Located {
 };
 
 impl Form {
-    // The old form is dropped here, and not in each place that puts a new one.
+    // The old form is dropped here, and not in each place that puts a new one. Both take the same instructions.
     fn set(&mut self, form: Form)
         ensures { self.new ≡ form }
     {

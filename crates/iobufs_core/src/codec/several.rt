@@ -1,4 +1,4 @@
-// Tuples: each value is written after the one before it. A reference is written as its value.
+// Pairs: the second value is written after the first. A reference is written as its value.
 ghost use Rattle.std.specs.Prelude.{◌++◌};
 ghost use Rattle.iobufs_core.specs.SeveralLaws.{joins_two};
 
