@@ -317,8 +317,8 @@ impl Layout {
         Ok(Some((parts.header, parts.header + parts.body)))
     }
 
-    /// How many bytes a frame with this length has, its header among them; at most `usize::MAX`. No contract says so: it
-    /// is only a guess of a size.
+    /// How many bytes a frame with this length has, its header among them; at most `usize::MAX`. No contract says so:
+    /// it is only a guess of a size.
     pub(crate) fn whole_of(self, found: Length) -> usize {
         let around = self.before as usize + self.after as usize;
         let body = found.value.saturating_sub(self.counts as usize);
