@@ -5,7 +5,7 @@ use std::path::Path;
 #[path = "strip/lib.rs"]
 mod strip;
 
-const CRATES: [&str; 4] = ["iobufs_core", "iobufs", "iobufs_frames", "iobufs_values"];
+const CRATES: [&str; 4] = ["iobufs_core", "iobufs", "iobufs_frames", "iobufs_codec"];
 /// Proved files that have a private module by hand.
 pub const SPARES: [(&str, &str); 6] = [
     ("iobufs_core/buf/part.rt", "part.rs"),
@@ -13,7 +13,7 @@ pub const SPARES: [(&str, &str); 6] = [
     ("iobufs/bufs_mut.rt", "bufs_mut.rs"),
     ("iobufs/bufs_mut/several.rt", "several.rs"),
     ("iobufs/builder.rt", "builder.rs"),
-    ("iobufs_values/list.rt", "list.rs"),
+    ("iobufs_codec/list.rt", "list.rs"),
 ];
 
 /// Calls that are `const`, by their files and heads.

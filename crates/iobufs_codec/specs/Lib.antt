@@ -1,2 +1,5 @@
-pub mod Decoding
-pub mod DecodingLaws
+pub mod Form
+pub mod Forms
+pub mod Kinds
+pub mod Listed
+pub mod Signed

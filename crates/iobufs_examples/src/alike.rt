@@ -4,8 +4,8 @@ ghost use Rattle.iobufs_core.specs.ReadBack.{IsReadAlike};
 ghost use Rattle.iobufs_examples.specs.InOrder.{AreReadInOrder};
 
 use iobufs::EncodeExt;
+use iobufs_codec::{Fault, Look};
 use iobufs_core::codec::{Codec, Encode, Error, OwnedBuf, Read, Write};
-use iobufs_values::{Fault, Look};
 use std::alloc::Global;
 
 /// Reads a value from two readers of the same bytes. The results are the same, except that either allocation may fail.

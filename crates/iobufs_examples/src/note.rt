@@ -5,9 +5,9 @@ ghost use Rattle.iobufs_core.specs.Wire.{view_written};
 
 use iobufs::EncodeExt;
 use iobufs::bufs::IoBufs;
+use iobufs_codec::{ByParts, List, Signed};
 use iobufs_core::buf::IoBuf;
 use iobufs_core::codec::Error;
-use iobufs_values::{ByParts, List, Signed};
 use std::alloc::Global;
 
 /// A number, a byte and a body.

@@ -1,10 +1,10 @@
 // A request of one of four kinds, read and written as a value of one kind or another after the byte of its kind.
 ghost use Rattle.std.specs.Prelude.{◌≡◌};
-ghost use Rattle.iobufs_values.specs.declared.kinds.Either.TheVariants.{First, Second};
+ghost use Rattle.iobufs_codec.specs.declared.kinds.Either.TheVariants.{First, Second};
 ghost use Rattle.iobufs_examples.specs.declared.request.Request.TheVariants.{Get, Put, Sync, Ping};
 
+use iobufs_codec::{ByParts, Either, IntoParts, Kind};
 use iobufs_core::buf::IoBuf;
-use iobufs_values::{ByParts, Either, IntoParts, Kind};
 
 /// A request to a store.
 #[derive(PartialEq, Drop)]

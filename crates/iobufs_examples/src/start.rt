@@ -7,13 +7,13 @@ ghost use Rattle.iobufs_core.specs.View.{View};
 ghost use Rattle.iobufs_core.specs.Wire.{view_written};
 ghost use Rattle.iobufs_frames.specs.Frames.{bare_frame, frame_written};
 ghost use Rattle.iobufs_frames.specs.Streams.{TakesFrame, unsent_bytes};
-ghost use Rattle.iobufs_values.specs.Form.{IsDecodedBack};
+ghost use Rattle.iobufs_codec.specs.Form.{IsDecodedBack};
 
 use iobufs::bufs::IoBufs;
+use iobufs_codec::{ByParts, Fault, IntoParts, Look};
 use iobufs_core::buf::IoBuf;
 use iobufs_core::codec::{Error, RangeCfg};
 use iobufs_frames::{FrameError, FrameReader, FrameWriter};
-use iobufs_values::{ByParts, Fault, IntoParts, Look};
 use std::alloc::Global;
 use std::io::{self, Read, Write};
 

@@ -1,6 +1,6 @@
-//! The C library `libiobufs`, from its proved sources: the calls of `bindings/include/iobufs.h`. They have
+//! The C library `libiobufs`, from its proved sources: the calls of `c/include/iobufs.h`. They have
 //! `unsafe` code where they use the memory that C names. To C a slice is two arguments, an address and a length, and the
-//! allocator none: so rustc passes them, as the kit's compiler does, while registers are left. `bindings/c/calls.c`
+//! allocator none: so rustc passes them, as the kit's compiler does, while registers are left. `c/tests/calls.c`
 //! calls each.
 
 // Slices as two arguments lean on these conventions of calls.

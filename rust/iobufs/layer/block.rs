@@ -179,7 +179,7 @@ impl Space {
     }
 }
 
-// For `bytes::BufMut` of the Rust crate; `block.rt` has no such calls, and `rust/kit` no use of them.
+// For `bytes::BufMut` of the Rust crate; `block.rt` has no such calls, and `rust/dev/kit` no use of them.
 #[allow(dead_code)]
 impl Space {
     /// Returns the capacity after the bytes.

@@ -139,7 +139,7 @@ impl Held {
     }
 
     /// Returns whether nothing else has a share of the storage, unless that is a `Bytes`. Static bytes are shared. For the
-    /// Rust crate: `held.rt` has no such call, and `rust/kit` no use of it.
+    /// Rust crate: `held.rt` has no such call, and `rust/dev/kit` no use of it.
     #[allow(dead_code)]
     #[inline]
     pub(crate) fn is_only(&self) -> Result<bool, &Bytes> {

@@ -54,8 +54,8 @@
 #![forbid(unsafe_code)]
 use crate::error::{LAYOUT, PAST, fault, out_of_memory};
 use crate::kit::{Global, bytes as kit};
+use crate::proved::iobufs_codec::{self as values, List, Signed};
 use crate::proved::iobufs_core::{buf as inner, codec as core};
-use crate::proved::iobufs_values::{self as values, List, Signed};
 use crate::{Builder, Error, IoBuf, IoBufMut, IoBufs, IoBufsMut};
 use bytes::{Buf, BufMut, Bytes, BytesMut};
 use std::cell::Cell;
@@ -68,8 +68,8 @@ pub use values::{Either, Kind};
 /// what each method's comment says.
 pub mod proved {
     pub use crate::kit::Global;
+    pub use crate::proved::iobufs_codec::{Fault, Look};
     pub use crate::proved::iobufs_core::codec::{BufMut, BufsMut, EncodeSize, Error, Peek, Write};
-    pub use crate::proved::iobufs_values::{Fault, Look};
 }
 
 impl RangeCfg {

@@ -1,5 +1,5 @@
 //! Values that are written and read: the bytes of each by hand or by a plain model, where they are, and what an error
-//! leaves. `iobufs_wire_tests` has the tables of lengths, numbers and nested values.
+//! leaves. `tests_wire` has the tables of lengths, numbers and nested values.
 use bytes::Bytes;
 use iobufs::codec::{ByParts, Decode, Encode, Input, RangeCfg, Written, proved};
 use iobufs::{Builder, Error, IoBuf, IoBufMut, IoBufs, IoBufsMut};
