@@ -121,7 +121,7 @@ struct iobufs_received_at { struct iobufs_received *at; };
 #ifndef __cplusplus
 #define IOBUF_INIT iobuf_made(&(struct iobuf){{0}})
 #define IOBUFMUT_INIT iobufmut_made(&(struct iobufmut){{0}})
-#define IOBUFS_INIT tests_fixtures(&(struct iobufs){{0}})
+#define IOBUFS_INIT iobufs_made(&(struct iobufs){{0}})
 #define IOBUFSMUT_INIT iobufsmut_made(&(struct iobufsmut){{0}})
 #define IOBUFS_BUILDER_INIT iobufs_builder_made(&(struct iobufs_builder){{0}})
 #define IOBUFS_FRAMES_INIT iobufs_frames_made(&(struct iobufs_frames){{0}})
@@ -746,7 +746,7 @@ static inline struct iobufmut_at iobufmut_made(struct iobufmut *memory) {
     iobufmut_init(memory);
     return at;
 }
-static inline struct iobufs_at tests_fixtures(struct iobufs *memory) {
+static inline struct iobufs_at iobufs_made(struct iobufs *memory) {
     struct iobufs_at at = { memory };
     iobufs_init(memory);
     return at;

@@ -358,7 +358,7 @@ def believe():
 def unseen():
     """The bug that no test sees, as the last recorded gate met it."""
     found = UNSEEN.search(GATE)
-    yield found[1].strip() if found else "The next recorded gate shows it."
+    yield f"{found[1].strip()}\n\nThe second command needs the kit." if found else "The next recorded gate shows it."
 
 
 def faults_of_results():
