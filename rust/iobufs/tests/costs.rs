@@ -260,10 +260,11 @@ fn parts_of_readers() {
     assert_eq!(allocated(|| from.into_parts().1.len()), 0);
 }
 
-/// A writer has no queue while all is sent, a short one with two frames, and of the frames nothing once they are sent.
+/// A writer has no queue while all is sent, a short one with two frames that aren't copied, and of the frames nothing
+/// once they are sent.
 #[test]
 fn queues_of_writers() {
-    let put = |to: &mut FrameWriter<_>| to.put(IoBuf::from_static(b"hello")).unwrap();
+    let put = |to: &mut FrameWriter<_>| to.put(IoBuf::from_static(&[7; 300])).unwrap();
     let mut to = FrameWriter::new(std::io::sink(), ..=1024);
     assert_eq!(allocated(|| put(&mut to)), 0);
     let more = held(|| put(&mut to));
