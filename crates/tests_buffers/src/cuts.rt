@@ -1,11 +1,12 @@
 // A text of up to six chunks of two bytes, cut at each place by each call that cuts, also if its deque wraps.
+use crate::same::assert_same;
 use iobufs::bufs::IoBufs;
 use iobufs_core::buf::IoBuf;
 use iobufs_core::codec::{Buf, BufError, OwnedBuf};
 use std::alloc::{AllocError, Global};
 use std::process::Abort;
 use std::test::Fail;
-use tests_fixtures::{assert_same, chunks};
+use tests_fixtures::chunks;
 
 const BYTES: [u8; 12] = *b"abcdefghijkl";
 

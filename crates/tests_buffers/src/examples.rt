@@ -1,4 +1,5 @@
 // Worked examples with the values that the rules name, beside the sessions of `tests/rows`.
+use crate::same::assert_same;
 use iobufs::bufs::IoBufs;
 use iobufs::builder::Builder;
 use iobufs_core::buf::IoBuf;
@@ -7,7 +8,7 @@ use std::alloc::Global;
 use std::ops::Bound;
 use std::process::Abort;
 use std::test::Fail;
-use tests_fixtures::{assert_same, chunks, text};
+use tests_fixtures::{chunks, text};
 
 #[test]
 fn a_static_view_is_read_to_its_end(rt: HostRuntime) -> Result<(), Fail> {

@@ -2,12 +2,12 @@
 ghost use Rattle.std.specs.Prelude.{◌≡◌, ◌+◌, ◌≤◌, length, OnOk, IfOk, take};
 ghost use Rattle.iobufs_core.specs.MarkedText.{taken_view};
 
+use crate::same::assert_same;
 use bytes::Bytes;
 use iobufs_core::buf::{IoBuf, IoBufMut};
 use iobufs_core::codec::{Buf, BufError, BufMut, OwnedBuf, OwnedBytes};
 use std::alloc::Global;
 use std::test::Fail;
-use tests_fixtures::assert_same;
 
 // A header of two numbers, and then all bytes of a reader.
 fn frame<P: BufMut, B: Buf + Drop>(part: &mut P, body: B)

@@ -17,6 +17,8 @@ mod owner;
 #[cfg(test)]
 mod parts;
 #[cfg(test)]
+mod same;
+#[cfg(test)]
 mod strung;
 #[cfg(test)]
 mod texts;

@@ -1,10 +1,11 @@
 // Places found among the ends of chunks.
+use crate::same::assert_same;
 use iobufs::bufs::IoBufs;
 use iobufs_core::buf::IoBuf;
 use iobufs_core::codec::BufError;
 use std::alloc::Global;
 use std::test::Fail;
-use tests_fixtures::{assert_same, rows, text};
+use tests_fixtures::{rows, text};
 
 // A name, a first chunk unless it is empty, chunks, and how often they come after it; an offset in these bytes, the
 // index of its chunk, its offset in that, and how many ends are probed.

@@ -1,10 +1,11 @@
 // Writable buffers.
+use crate::same::assert_same;
 use bytes::{Bytes, BytesMut};
 use iobufs_core::buf::{IoBuf, IoBufMut};
 use iobufs_core::codec::BufError;
 use std::alloc::Global;
 use std::test::Fail;
-use tests_fixtures::{assert_same, part};
+use tests_fixtures::part;
 
 #[test]
 fn bytes_are_written_over(rt: HostRuntime) -> Result<(), Fail> {

@@ -1,11 +1,12 @@
 // Writable buffers in a row.
 ghost use Rattle.std.specs.Prelude.{◌+◌, ◌≤◌, length};
 
+use crate::same::assert_same;
 use iobufs::bufs_mut::IoBufsMut;
 use iobufs_core::codec::{Buf, BufMut};
 use std::process::Abort;
 use std::test::Fail;
-use tests_fixtures::{assert_same, part, parts};
+use tests_fixtures::{part, parts};
 
 // Compares the buffers, each as its bytes and its spare capacity.
 fn assert_parts(rt: &impl Abort, name: &str, found: &IoBufsMut, wanted: &[(&[u8], usize)]) {

@@ -1,6 +1,7 @@
 // Texts of several chunks.
 ghost use Rattle.std.specs.Prelude.{◌≤◌, length};
 
+use crate::same::assert_same;
 use bytes::Bytes;
 use iobufs::bufs::IoBufs;
 use iobufs::bufs_mut::IoBufsMut;
@@ -9,7 +10,7 @@ use iobufs_core::codec::{Buf, BufError, BufMut, OwnedBuf};
 use std::alloc::{AllocError, Global};
 use std::process::Abort;
 use std::test::Fail;
-use tests_fixtures::{assert_same, chunks, part, rows, text};
+use tests_fixtures::{chunks, part, rows, text};
 
 struct Case {
     name: &'static str,

@@ -1,4 +1,5 @@
 // Each caller once, without allocation failure.
+use crate::same::assert_same;
 use iobufs_core::buf::IoBuf;
 use iobufs_core::codec::{Buf, RangeCfg};
 use iobufs_examples::frame::{echo, frame, read_frame};
@@ -6,7 +7,7 @@ use iobufs_examples::start::{Entry, put, receive};
 use iobufs_examples::store::store;
 use iobufs_frames::{FrameReader, FrameWriter};
 use std::test::Fail;
-use tests_fixtures::{assert_same, chunks, parts};
+use tests_fixtures::{chunks, parts};
 
 #[test]
 fn frames_are_lengths_and_bodies(rt: HostRuntime) -> Result<(), Fail> {

@@ -1,11 +1,12 @@
 // Lengths as prefixes write them, and the frames of bytes that come in chunks.
+use crate::same::assert_same;
 use iobufs_core::buf::IoBuf;
 use iobufs_core::codec::{BufError, RangeCfg};
 use iobufs_frames::{ByteOrder, Frames, Prefix, Width};
 use std::alloc::Global;
 use std::process::Abort;
 use std::test::Fail;
-use tests_fixtures::{assert_same, rows};
+use tests_fixtures::rows;
 
 pub const VARINT: Prefix = Prefix::Spelled;
 

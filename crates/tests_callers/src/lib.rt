@@ -10,6 +10,8 @@ mod frames;
 #[cfg(test)]
 mod pool;
 #[cfg(test)]
+mod same;
+#[cfg(test)]
 mod scale;
 #[cfg(test)]
 mod sessions;

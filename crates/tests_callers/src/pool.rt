@@ -1,10 +1,10 @@
 // A pool over a machine, without allocation failure.
+use crate::same::assert_same;
 use iobufs_examples::pool::Pool;
 use iobufs_owner::format::FORMAT_64;
 use iobufs_owner::owner::{Act, Call, Freed, Machine, Reply, Step};
 use std::process::Abort;
 use std::test::Fail;
-use tests_fixtures::assert_same;
 
 // A call of the only thread, the reply to it, and what the pool then hands out.
 #[derive(Clone, Copy)]

@@ -1,4 +1,5 @@
 // A thousand times what an example has.
+use crate::same::assert_same;
 use iobufs::bufs_mut::IoBufsMut;
 use iobufs_core::buf::IoBufMut;
 use iobufs_core::codec::{Buf, BufError, BufMut};
@@ -6,7 +7,6 @@ use iobufs_examples::store::store;
 use std::alloc::Global;
 use std::process::Abort;
 use std::test::Fail;
-use tests_fixtures::assert_same;
 
 const PIECES: u16 = 5000;
 

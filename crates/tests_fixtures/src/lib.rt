@@ -1,4 +1,4 @@
-// Makes the buffers of the tests, of each kind of storage in `stores`, shows their chunks, and compares values.
+// Makes the buffers of the tests, of each kind of storage in `stores`, and shows their chunks.
 #![tactic(auto)]
 
 pub mod stores;
@@ -8,8 +8,6 @@ use iobufs::bufs_mut::IoBufsMut;
 use iobufs_core::buf::{IoBuf, IoBufMut};
 use iobufs_core::codec::{BufError, BufMut};
 use std::alloc::{AllocError, Global};
-use std::fmt::{Debug, Display};
-use std::process::Abort;
 
 /// The cases of a table, one a line.
 #[macro_export]
@@ -17,23 +15,6 @@ macro_rules! rows {
     ($($($value:expr),+;)+) => {
         [$(($($value),+)),+]
     };
-}
-
-/// `assert_eq!` of two values of one type, as a call: std's is written out at each use, and proved there. A failed one
-/// tells what was looked at, and not the line.
-#[macro_export]
-macro_rules! assert_same {
-    ($rt:expr; $left:expr, $right:expr $(,)?) => {
-        $crate::same(&$rt, &$left, &$right, &stringify!($left))
-    };
-    ($rt:expr; $left:expr, $right:expr, $($arg:tt)+) => {
-        $crate::same(&$rt, &$left, &$right, &format_args!($($arg)+))
-    };
-}
-
-/// Compares two values for `assert_same!`.
-pub fn same<T: PartialEq + Debug>(rt: &impl Abort, left: &T, right: &T, what: &impl Display) {
-    assert_eq!(rt; *left, *right, "{what}");
 }
 
 /// Makes a writable buffer of these bytes, with `spare` bytes of spare capacity.

@@ -1,9 +1,9 @@
 // Byte strings as readers, and the chunks of a reader.
+use crate::same::assert_same;
 use iobufs::bufs::IoBufs;
 use iobufs_core::buf::IoBuf;
 use iobufs_core::codec::{Buf, RangeCfg};
 use std::process::Abort;
-use tests_fixtures::assert_same;
 
 pub const ANY: RangeCfg = RangeCfg {
     lo: 0,

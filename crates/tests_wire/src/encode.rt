@@ -1,5 +1,6 @@
 // Values that are encoded, into one buffer and into chunks.
 use crate::chunks::{assert_chunks, concatenated, view};
+use crate::same::assert_same;
 use crate::shard::Shard;
 use crate::zeros::Zeros;
 use bytes::Bytes;
@@ -8,7 +9,7 @@ use iobufs::builder::EncodeExt;
 use iobufs_core::buf::{IoBuf, IoBufMut};
 use iobufs_core::codec::{Buf, BufMut, Encode, EncodeSize, Error, Write};
 use std::process::Abort;
-use tests_fixtures::{assert_same, rows};
+use tests_fixtures::rows;
 
 // The size of a value, and how many of its bytes are put inline.
 fn sizes<T: EncodeSize>(value: &T) -> Option<(usize, usize)> {

@@ -1,12 +1,13 @@
 // Lengths that lie or don't end, read as a number and as a view, from one chunk of an `IoBuf`, from one chunk of an
 // `IoBufs`, and from a chunk for each byte.
 use crate::chunks::{ANY, chunks_of, copied_bytewise, view};
+use crate::same::assert_same;
 use iobufs::bufs::IoBufs;
 use iobufs_core::buf::IoBuf;
 use iobufs_core::codec::{Buf, Error, OwnedBuf, RangeCfg, Read};
 use std::process::Abort;
 use std::test::Fail;
-use tests_fixtures::{assert_same, rows};
+use tests_fixtures::rows;
 
 const UP_TO_1024: RangeCfg = RangeCfg { lo: 0, hi: 1024 };
 

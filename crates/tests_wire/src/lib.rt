@@ -12,6 +12,8 @@ mod message;
 #[cfg(test)]
 mod parts;
 #[cfg(test)]
+mod same;
+#[cfg(test)]
 mod shard;
 #[cfg(test)]
 mod values;

@@ -2,6 +2,7 @@
 // kind or another.
 use crate::chunks::{ANY, UP_TO_9, assert_chunks, concatenated, copied_bytewise, view};
 use crate::encode::assert_written;
+use crate::same::assert_same;
 use crate::whole::{END, assert_front, assert_prefixes, assert_refused, assert_whole};
 use iobufs::bufs::IoBufs;
 use iobufs_codec::{ByParts, Either, Fault, IntoParts, Kind, List, Look, Tagged};
@@ -12,7 +13,7 @@ use iobufs_examples::request::{Request, RequestParts};
 use iobufs_examples::start::Entry;
 use std::process::Abort;
 use std::test::Fail;
-use tests_fixtures::{assert_same, rows};
+use tests_fixtures::rows;
 
 // Each prefix ends too early and is left as it was, and a byte after the value is too much.
 fn assert_by_parts<T: ByParts + PartialEq + Drop>(

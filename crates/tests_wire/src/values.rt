@@ -1,11 +1,11 @@
 // Numbers and bytes that are read, and ranges of lengths.
 use crate::chunks::{copied_bytewise, view};
+use crate::same::assert_same;
 use bytes::Bytes;
 use iobufs::builder::EncodeExt;
 use iobufs_core::buf::IoBufMut;
 use iobufs_core::codec::{Buf, BufMut, Error, RangeCfg, Read};
 use std::process::Abort;
-use tests_fixtures::assert_same;
 
 const SIXTEEN: &[u8] = b"\x01\x02\x03\x04\x05\x06\x07\x08\x09\x0a\x0b\x0c\x0d\x0e\x0f\x10";
 

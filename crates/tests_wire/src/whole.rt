@@ -3,6 +3,7 @@
 use crate::chunks::{ANY, UP_TO_9, chunks_of, concatenated, copied_bytewise, view};
 use crate::encode::assert_written;
 use crate::message::Message;
+use crate::same::assert_same;
 use bytes::Bytes;
 use iobufs::EncodeExt;
 use iobufs::bufs::IoBufs;
@@ -10,7 +11,6 @@ use iobufs_codec::{Fault, List, Look, Signed};
 use iobufs_core::buf::IoBuf;
 use iobufs_core::codec::{Encode, Error, Peek, RangeCfg, Write};
 use std::process::Abort;
-use tests_fixtures::assert_same;
 
 pub const END: Fault = Fault::Codec(Error::EndOfBuffer);
 

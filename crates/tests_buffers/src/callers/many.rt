@@ -1,9 +1,9 @@
 // Lists of ten thousand commands and of none, and a list of five hundred names.
+use crate::same::assert_same;
 use iobufs_run::command::{Cmd, Kind, Reply};
 use iobufs_run::table::Table;
 use std::alloc::{AllocError, Global};
 use std::test::Fail;
-use tests_fixtures::assert_same;
 
 // `ab` under each of so many names.
 fn views(alloc: Global, names: usize) -> Result<Vec<Cmd>, AllocError> {

@@ -1,4 +1,5 @@
 // Each text that an error prints, and commands and buffers as they are printed.
+use crate::same::assert_same;
 use iobufs_codec::Fault;
 use iobufs_core::buf::IoBuf;
 use iobufs_core::codec::{BufError, Error, Refused, TryGetError};
@@ -6,7 +7,7 @@ use iobufs_run::command::Cmd;
 use std::fmt::Display;
 use std::process::Abort;
 use std::test::Fail;
-use tests_fixtures::{assert_same, part, text};
+use tests_fixtures::{part, text};
 
 const BUFFER_ERRORS: [(BufError, &'static str); 3] = [
     (BufError::Memory, "Memory"),

@@ -1,12 +1,12 @@
 // Schedules of clones and drops, each given to the machine as one list. `tests/rows` has them line by line.
 use crate::owner::steps::begun;
+use crate::same::assert_same;
 use iobufs_owner::format::FORMAT_64;
 use iobufs_owner::owner::Act::{self, Begin, Go};
 use iobufs_owner::owner::Reply::{self, Declined, Done, Made, More, Refused, Unique};
 use iobufs_owner::owner::{Call, Freed, Machine, Refusal, Step};
 use std::alloc::{AllocError, Global};
 use std::test::Fail;
-use tests_fixtures::assert_same;
 
 // Each schedule begins with these calls of thread 0.
 const OPENING: [(Call, Reply); 3] = [

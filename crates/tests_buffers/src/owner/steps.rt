@@ -1,11 +1,11 @@
 // The machine where no stored session of the program goes: it reserves entries before each step, and gives no list of
 // steps.
+use crate::same::assert_same;
 use iobufs_owner::format::FORMAT_64;
 use iobufs_owner::owner::Act::Begin;
 use iobufs_owner::owner::Reply::{self, Made, Refused, Unique};
 use iobufs_owner::owner::{Call, Machine, Refusal, Step};
 use std::test::Fail;
-use tests_fixtures::assert_same;
 
 // Calls once one block, three handles and one record are reserved, and the reply to each.
 const RESERVED: [(Call, Reply); 4] = [

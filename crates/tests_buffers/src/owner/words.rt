@@ -2,9 +2,9 @@
 ghost use Rattle.std.specs.Prelude.{◌<◌};
 ghost use Rattle.iobufs_owner.specs.Word.{IsPowerOfTwo};
 
+use crate::same::assert_same;
 use iobufs_owner::format::{FORMAT_32, FORMAT_64, Fields, Format};
 use std::process::Abort;
-use tests_fixtures::assert_same;
 
 // A block as it is packed: its size, the logarithm of its alignment, its tail, and the word, if it has one.
 type Packed = (u64, u32, u64, Option<u64>);

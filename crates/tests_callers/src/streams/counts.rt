@@ -1,5 +1,6 @@
 // How many reads and writes a frame takes, and long frames.
 use crate::frames::VARINT;
+use crate::same::assert_same;
 use crate::streams::LONG;
 use crate::streams::fakes::{FakeReader, FakeWriter, Interruptions};
 use iobufs::bufs::IoBufs;
@@ -9,7 +10,7 @@ use std::alloc::Global;
 use std::io::ErrorKind;
 use std::process::Abort;
 use std::test::Fail;
-use tests_fixtures::{assert_same, rows, text};
+use tests_fixtures::{rows, text};
 
 // How often each call is interrupted, how many bytes it moves at most, a body's chunks, and how many reads and writes
 // its frame takes.

@@ -1,6 +1,7 @@
 // Frames that are echoed: each is flushed before the next read. Nothing is lost or sent twice if a read, a write or a
 // flush fails.
 use crate::frames::{BIG_16, BIG_32, LITTLE_16, LITTLE_32, VARINT};
+use crate::same::assert_same;
 use crate::streams::fakes::{FakeReader, FakeWriter};
 use crate::streams::{
     Ending, FRAMES, FRAMES_BIG_16, FRAMES_BIG_32, FRAMES_LITTLE_16, FRAMES_LITTLE_32, ending_by,
@@ -11,7 +12,6 @@ use iobufs_frames::{FrameReader, FrameWriter, Prefix};
 use std::io::{ErrorKind, Read, Write};
 use std::process::Abort;
 use std::test::Fail;
-use tests_fixtures::assert_same;
 
 struct Echo {
     name: &'static str,

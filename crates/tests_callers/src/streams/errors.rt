@@ -1,5 +1,6 @@
 // Errors of readers and writers: each kind but `Interrupted` is returned at once, and the next call goes on.
 use crate::frames::VARINT;
+use crate::same::assert_same;
 use crate::streams::fakes::{FakeReader, FakeWriter, Interruptions};
 use crate::streams::{Ending, FRAMES, SHORT, frame_reader, put_chunks, take_bodies};
 use iobufs_frames::FrameWriter;
@@ -7,7 +8,7 @@ use std::alloc::Global;
 use std::io::{self, ErrorKind, IoSlice, Write};
 use std::process::Abort;
 use std::test::Fail;
-use tests_fixtures::{assert_same, rows, text};
+use tests_fixtures::{rows, text};
 
 macro_rules! kinds {
     ($($kind:ident)+) => {

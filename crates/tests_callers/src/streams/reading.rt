@@ -1,5 +1,6 @@
 // Frames that are read.
 use crate::frames::{BIG_16, BIG_24, BIG_32, BYTE, LITTLE_16, LITTLE_24, LITTLE_32, VARINT};
+use crate::same::assert_same;
 use crate::streams::fakes::FakeReader;
 use crate::streams::{
     Ending, FRAMES, FRAMES_BIG_16, FRAMES_BIG_24, FRAMES_BIG_32, FRAMES_LITTLE_16,
@@ -11,7 +12,6 @@ use std::alloc::AllocError;
 use std::io::ErrorKind;
 use std::process::Abort;
 use std::test::Fail;
-use tests_fixtures::assert_same;
 
 struct Reading {
     name: &'static str,

@@ -1,4 +1,5 @@
 // Buffers as readers and writers of std, and `IoBufs` that are written to one.
+use crate::same::assert_same;
 use crate::streams::counts::long;
 use crate::streams::fakes::FakeWriter;
 use iobufs::bufs::IoBufs;
@@ -6,7 +7,7 @@ use iobufs_core::buf::{IoBuf, IoBufMut};
 use iobufs_frames::Writer;
 use std::io::{ErrorKind, Read, Write};
 use std::test::Fail;
-use tests_fixtures::{assert_same, text};
+use tests_fixtures::text;
 
 #[test]
 fn chunks_are_written_in_order(rt: HostRuntime) -> Result<(), Fail> {

@@ -1,5 +1,6 @@
 // Frames that are written.
 use crate::frames::{BIG_16, BIG_24, BIG_32, BYTE, LITTLE_16, LITTLE_24, LITTLE_32, VARINT};
+use crate::same::assert_same;
 use crate::streams::counts::long;
 use crate::streams::fakes::FakeWriter;
 use crate::streams::{
@@ -11,7 +12,7 @@ use iobufs_frames::{FrameWriter, Prefix, framed_with};
 use std::io::{ErrorKind, Write};
 use std::process::Abort;
 use std::test::Fail;
-use tests_fixtures::{assert_same, rows, text};
+use tests_fixtures::{rows, text};
 
 // The chunks of each of three bodies.
 const BODIES: &[&[&[u8]]] = &[&[b"abc"], &[], &[b"hello"]];
