@@ -88,7 +88,8 @@ def results_of_page(page, write):
     made = partial(generate.generated, page, page.read_text())
     yield f"generated parts of {name}", faults_of_generated(page, made, write)
     text = page.read_text()
-    yield f"names of {name}", sorted(set(checks.faults_of_names(text)))
+    if page.name != "GATE.md":  # a record has the paths of the commit that it names
+        yield f"names of {name}", sorted(set(checks.faults_of_names(text)))
     yield f"links of {name}", checks.faults_of_links(page, text)
     if page.name not in ("RESULTS.md", "GATE.md"):  # scripts write these whole
         yield f"style of {name}", lint.faults_of_style(text)
