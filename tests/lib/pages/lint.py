@@ -11,7 +11,7 @@ def any_of(words):
 
 # A rule, and what it looks for in prose.
 RULES = [
-    ("word of the past", any_of("since (?:then|it|when|two|what)|today|no longer|anew|not kept|in the night|earlier")),
+    ("word of the past", any_of("since then|today|no longer|anew|not kept|earlier")),
     ("date", re.compile(r"\b20\d\d-\d\d-\d\d\b")),  # 2026-11-27
 ]
 # Words that a sentence may have, and the aim of each page, without what is generated. A page above its aim is told.
