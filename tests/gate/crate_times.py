@@ -3,8 +3,8 @@
 
 Runs a command, such as `rt ci`, without the lines that say that something is proved as it should be, or that a test
 prints. Says which crates are in work as these change. Prints before the last line those again that say what failed, and
-the CPU seconds that the prover's processes took for each crate and its tests, the slowest first. It looks once a
-second, so a process of less than a second isn't seen. Ends with the command's status."""
+the CPU seconds that the prover's processes in this tree took for each crate and its tests, the slowest first. It looks
+once a second, so a process of less than a second isn't seen. Ends with the command's status."""
 import os
 import re
 import subprocess
@@ -15,7 +15,7 @@ from collections import Counter
 from pathlib import Path
 
 sys.path.insert(0, str(Path(__file__).resolve().parents[1] / "lib"))
-from common import uses
+from common import TOP, uses
 
 TICKS = os.sysconf("SC_CLK_TCK")
 # Lines that say nothing new, how a crate's last one is, and what a line has that says what failed.
@@ -35,7 +35,8 @@ class Watch:
         for process in Path("/proc").glob("[0-9]*"):
             try:
                 words = (process / "cmdline").read_text().split("\0")
-                if "--crate-name" in words and "rattle" in words[0]:
+                is_ours = os.readlink(process / "cwd").startswith(f"{TOP}/")
+                if is_ours and "--crate-name" in words and "rattle" in words[0]:
                     ticks = (process / "stat").read_text().rpartition(")")[2].split()[11:13]
                     name = words[words.index("--crate-name") + 1] + " (tests)" * ("--test" in words)
                     self.spent[process.name, name] = sum(map(int, ticks))
