@@ -128,21 +128,21 @@ pub extern "C" fn iobufs_builder_put_bytes(builder: &mut BuilderAt, value: u8, n
 /// Pushes a view without copying, and leaves its handle empty. Returns `Status::TooLong` if the view is longer than
 /// pushes may still add, or `Status::Memory` if an allocation fails; then both are unchanged.
 #[unsafe(no_mangle)]
-pub extern "C" fn iobufs_builder_push(builder: &mut BuilderAt, piece: &mut ViewAt) -> u8
-    ensures at { (builder.new.at ≡ builder.old.at) × (piece.new.at ≡ piece.old.at) }
+pub extern "C" fn iobufs_builder_push(builder: &mut BuilderAt, view: &mut ViewAt) -> u8
+    ensures at { (builder.new.at ≡ builder.old.at) × (view.new.at ≡ view.old.at) }
     ensures value { builder.new.value ≡ (if result == 0 then building_push builder.old.value
-        piece.old.value else builder.old.value) }
-    ensures piece { piece.new.value ≡ (if result == 0 then default_view else piece.old.value) }
-    ensures too_long { room_for_pushes builder.old.value < length piece.old.value.bytes
+        view.old.value else builder.old.value) }
+    ensures view { view.new.value ≡ (if result == 0 then default_view else view.old.value) }
+    ensures too_long { room_for_pushes builder.old.value < length view.old.value.bytes
         → result ≡ code_of Status.TooLong }
-    ensures memory { length piece.old.value.bytes ≤ room_for_pushes builder.old.value
+    ensures memory { length view.old.value.bytes ≤ room_for_pushes builder.old.value
         → IsDoneUnless result Status.Memory }
-    ensures nothing { length piece.old.value.bytes ≡ 0 → result ≡ 0 }
+    ensures nothing { length view.old.value.bytes ≡ 0 → result ≡ 0 }
 {
-    match builder.get().push(mem::take(piece.get())) {
+    match builder.get().push(mem::take(view.get())) {
         Ok(()) => Status::Done.code(),
         Err(refused) => {
-            *piece.get() = refused.value;
+            *view.get() = refused.value;
             refusal(refused.cause)
         }
     }

@@ -118,24 +118,24 @@ pub extern "C" fn iobufs_frames_rest(frames: &mut FramesAt, out: &mut TextAt) ->
 /// Feeds a view at the end, and leaves its handle empty. Returns `Status::TooLong` if the length would be above
 /// `usize::MAX`, or `Status::Memory` if an allocation fails; then both are unchanged.
 #[unsafe(no_mangle)]
-pub extern "C" fn iobufs_frames_feed(alloc: Global, frames: &mut FramesAt, piece: &mut ViewAt) -> u8
-    ensures at { (frames.new.at ≡ frames.old.at) × (piece.new.at ≡ piece.old.at) }
+pub extern "C" fn iobufs_frames_feed(alloc: Global, frames: &mut FramesAt, view: &mut ViewAt) -> u8
+    ensures at { (frames.new.at ≡ frames.old.at) × (view.new.at ≡ view.old.at) }
     ensures frames { frames.new.value ≡ (if result == 0
-        then record { layout = frames.old.value.layout; rest = text_append frames.old.value.rest piece.old.value }
+        then record { layout = frames.old.value.layout; rest = text_append frames.old.value.rest view.old.value }
         else frames.old.value) }
-    ensures piece { piece.new.value ≡ (if result == 0 then default_view else piece.old.value) }
-    ensures too_long { 2 ^ 64 ≤ text_len frames.old.value.rest + length piece.old.value.bytes
+    ensures view { view.new.value ≡ (if result == 0 then default_view else view.old.value) }
+    ensures too_long { 2 ^ 64 ≤ text_len frames.old.value.rest + length view.old.value.bytes
         → result ≡ code_of Status.TooLong }
-    ensures memory { text_len frames.old.value.rest + length piece.old.value.bytes < 2 ^ 64
+    ensures memory { text_len frames.old.value.rest + length view.old.value.bytes < 2 ^ 64
         → IsDoneUnless result Status.Memory }
-    ensures nothing { length piece.old.value.bytes ≡ 0 → result ≡ 0 }
+    ensures nothing { length view.old.value.bytes ≡ 0 → result ≡ 0 }
     ensures onto_nothing { length frames.old.value.rest.bytes ≡ 0 → result ≡ 0 }
 {
-    let view = mem::take(piece.get());
-    match frames.get().feed(alloc, view) {
+    let taken = mem::take(view.get());
+    match frames.get().feed(alloc, taken) {
         Ok(()) => Status::Done.code(),
         Err(refused) => {
-            *piece.get() = refused.value;
+            *view.get() = refused.value;
             refusal(refused.cause)
         }
     }

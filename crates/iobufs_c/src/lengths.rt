@@ -83,25 +83,25 @@ pub extern "C" fn iobufs_builder_put_length(builder: &mut BuilderAt, n: usize) -
 #[unsafe(no_mangle)]
 pub extern "C" fn iobufs_read_length(
     alloc: Global,
-    text: &mut TextAt,
+    bufs: &mut TextAt,
     lo: usize,
     hi: usize,
     out: &mut usize,
 ) -> u8
-    ensures at { text.new.at ≡ text.old.at }
-    ensures read { result ≡ 0 → IsLengthRead text.old.value.bytes (record { lo = lo; hi = hi }) (Ok out.new) }
-    ensures rest { result ≡ 0 → text.new.value ≡ text_advanced text.old.value (length (spell out.new)) }
-    ensures unchanged { (result == 0) ≡ false → text.new.value ≡ text.old.value }
+    ensures at { bufs.new.at ≡ bufs.old.at }
+    ensures read { result ≡ 0 → IsLengthRead bufs.old.value.bytes (record { lo = lo; hi = hi }) (Ok out.new) }
+    ensures rest { result ≡ 0 → bufs.new.value ≡ text_advanced bufs.old.value (length (spell out.new)) }
+    ensures unchanged { (result == 0) ≡ false → bufs.new.value ≡ bufs.old.value }
     ensures open { result ≡ code_of Status.EndOfBuffer
-        → IsLengthRead text.old.value.bytes (record { lo = lo; hi = hi }) (Err Error.EndOfBuffer) }
+        → IsLengthRead bufs.old.value.bytes (record { lo = lo; hi = hi }) (Err Error.EndOfBuffer) }
     ensures invalid { result ≡ code_of Status.InvalidVarint
-        → IsLengthRead text.old.value.bytes (record { lo = lo; hi = hi }) (Err Error.InvalidVarint) }
+        → IsLengthRead bufs.old.value.bytes (record { lo = lo; hi = hi }) (Err Error.InvalidVarint) }
     ensures outside { result ≡ code_of Status.InvalidLength
-        → IsLengthRead text.old.value.bytes (record { lo = lo; hi = hi }) (Err (Error.InvalidLength out.new)) }
+        → IsLengthRead bufs.old.value.bytes (record { lo = lo; hi = hi }) (Err (Error.InvalidLength out.new)) }
     ensures out { (result == 0) ≡ false → (result == code_of Status.InvalidLength) ≡ false → out.new ≡ out.old }
     ensures causes { IsReadCode result }
 {
-    match usize::read_cfg(alloc, text.get(), &RangeCfg { lo, hi }) {
+    match usize::read_cfg(alloc, bufs.get(), &RangeCfg { lo, hi }) {
         Ok(n) => {
             *out = n;
             Status::Done.code()
@@ -147,27 +147,27 @@ pub extern "C" fn iobuf_read_length(
 #[unsafe(no_mangle)]
 pub extern "C" fn iobufs_read_view(
     alloc: Global,
-    text: &mut TextAt,
+    bufs: &mut TextAt,
     lo: usize,
     hi: usize,
     out: &mut ViewAt,
 ) -> u8
-    ensures at { (text.new.at ≡ text.old.at) × (out.new.at ≡ out.old.at) }
-    ensures read { result ≡ 0 → IsViewRead text.old.value (record { lo = lo; hi = hi }) (Ok out.new.value) }
-    ensures rest { result ≡ 0 → text.new.value ≡ text_rest text.old.value (length (view_written out.new.value)) }
-    ensures unchanged { (result == 0) ≡ false → (text.new.value ≡ text.old.value) × (out.new.value ≡ out.old.value) }
+    ensures at { (bufs.new.at ≡ bufs.old.at) × (out.new.at ≡ out.old.at) }
+    ensures read { result ≡ 0 → IsViewRead bufs.old.value (record { lo = lo; hi = hi }) (Ok out.new.value) }
+    ensures rest { result ≡ 0 → bufs.new.value ≡ text_rest bufs.old.value (length (view_written out.new.value)) }
+    ensures unchanged { (result == 0) ≡ false → (bufs.new.value ≡ bufs.old.value) × (out.new.value ≡ out.old.value) }
     ensures open { result ≡ code_of Status.EndOfBuffer
-        → IsViewFault text.old.value (record { lo = lo; hi = hi }) Error.EndOfBuffer }
+        → IsViewFault bufs.old.value (record { lo = lo; hi = hi }) Error.EndOfBuffer }
     ensures invalid { result ≡ code_of Status.InvalidVarint
-        → IsViewFault text.old.value (record { lo = lo; hi = hi }) Error.InvalidVarint }
+        → IsViewFault bufs.old.value (record { lo = lo; hi = hi }) Error.InvalidVarint }
     ensures outside { result ≡ code_of Status.InvalidLength
-        → (n : ℕ) × IsViewFault text.old.value (record { lo = lo; hi = hi }) (Error.InvalidLength n) }
+        → (n : ℕ) × IsViewFault bufs.old.value (record { lo = lo; hi = hi }) (Error.InvalidLength n) }
     ensures memory { result ≡ code_of Status.Memory
-        → IsViewFault text.old.value (record { lo = lo; hi = hi }) Error.Memory }
-    ensures static_text { HasStaticView text.old.value (record { lo = lo; hi = hi }) → result ≡ 0 }
+        → IsViewFault bufs.old.value (record { lo = lo; hi = hi }) Error.Memory }
+    ensures static_text { HasStaticView bufs.old.value (record { lo = lo; hi = hi }) → result ≡ 0 }
     ensures causes { IsViewReadCode result }
 {
-    match IoBuf::read_cfg(alloc, text.get(), &RangeCfg { lo, hi }) {
+    match IoBuf::read_cfg(alloc, bufs.get(), &RangeCfg { lo, hi }) {
         Ok(view) => {
             *out.get() = view;
             Status::Done.code()

@@ -131,12 +131,12 @@ pub extern "C" fn iobuf_get_number(src: &mut ViewAt, size: u8, order: u8, out: &
 
 /// Reads a number of `size` bytes off an `IoBufs`, with the statuses of `iobuf_get_number`.
 #[unsafe(no_mangle)]
-pub extern "C" fn iobufs_get_number(text: &mut TextAt, size: u8, order: u8, out: &mut u64) -> u8
-    ensures at { text.new.at ≡ text.old.at }
-    ensures value { text.new.value ≡ (if result == 0 then text_advanced text.old.value size else text.old.value) }
-    ensures read { result ≡ 0 → number_eight order out.new ≡ number_padded size order (take size text.old.value.bytes) }
+pub extern "C" fn iobufs_get_number(bufs: &mut TextAt, size: u8, order: u8, out: &mut u64) -> u8
+    ensures at { bufs.new.at ≡ bufs.old.at }
+    ensures value { bufs.new.value ≡ (if result == 0 then text_advanced bufs.old.value size else bufs.old.value) }
+    ensures read { result ≡ 0 → number_eight order out.new ≡ number_padded size order (take size bufs.old.value.bytes) }
     ensures unread { (result == 0) ≡ false → out.new ≡ out.old }
-    ensures result { result ≡ (if is_number size order then (if nat_le size (length text.old.value.bytes) then 0 else
+    ensures result { result ≡ (if is_number size order then (if nat_le size (length bufs.old.value.bytes) then 0 else
         code_of Status.EndOfBuffer) else code_of Status.BadKind) }
 {
     if !is_known(size, order) {
@@ -144,7 +144,7 @@ pub extern "C" fn iobufs_get_number(text: &mut TextAt, size: u8, order: u8, out:
     }
     let mut bytes = [0; 8];
     let at = start_of(size as usize, order);
-    let status = iobufs_copy_to_slice(text, &mut bytes[at..at + size as usize]);
+    let status = iobufs_copy_to_slice(bufs, &mut bytes[at..at + size as usize]);
     if status == 0 {
         *out = number_of(bytes, order);
     }

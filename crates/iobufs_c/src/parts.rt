@@ -114,21 +114,24 @@ fn take_row(alloc: Global, places: &mut [PartAt]) -> Result<Vec<IoBufMut>, Alloc
 #[unsafe(no_mangle)]
 pub extern "C" fn iobufsmut_from_parts(
     alloc: Global,
-    places: &mut [PartAt],
+    buffers: &mut [PartAt],
     out: &mut PartsAt,
 ) -> u8
-    ensures at { (map (λ place. place.at) places.new ≡ map (λ place. place.at) places.old) × (out.new.at ≡ out.old.at) }
+    ensures at { (map (λ place. place.at) buffers.new ≡ map (λ place. place.at) buffers.old)
+        × (out.new.at ≡ out.old.at) }
     ensures value { out.new.value ≡ (if result == 0 then kept_parts
-        (map (λ place. place.value) places.old) else out.old.value) }
-    ensures taken { result ≡ 0 → map (λ place. place.value) places.new ≡ replicate (length places.old) (empty_part 0) }
-    ensures unchanged { (result == 0) ≡ false → (places.new ≡ places.old) ⊎ (map (λ place. place.value) places.new ≡
-        replicate (length places.old) (empty_part 0)) }
-    ensures too_long { 2 ^ 64 ≤ parts_capacity (map (λ place. place.value) places.old)
+        (map (λ place. place.value) buffers.old) else out.old.value) }
+    ensures taken { result ≡ 0
+        → map (λ place. place.value) buffers.new ≡ replicate (length buffers.old) (empty_part 0) }
+    ensures unchanged { (result == 0) ≡ false → (buffers.new ≡ buffers.old) ⊎ (map (λ place. place.value) buffers.new ≡
+        replicate (length buffers.old) (empty_part 0)) }
+    ensures too_long { 2 ^ 64 ≤ parts_capacity (map (λ place. place.value) buffers.old)
         → (result ≡ code_of Status.Memory) ⊎ (result ≡ code_of Status.TooLong) }
-    ensures fits { parts_capacity (map (λ place. place.value) places.old) < 2 ^ 64 → IsDoneUnless result Status.Memory }
-    ensures nothing { length places.old ≡ 0 → result ≡ 0 }
+    ensures fits { parts_capacity (map (λ place. place.value) buffers.old) < 2 ^ 64
+        → IsDoneUnless result Status.Memory }
+    ensures nothing { length buffers.old ≡ 0 → result ≡ 0 }
 {
-    let Ok(row) = take_row(alloc, places) else {
+    let Ok(row) = take_row(alloc, buffers) else {
         return Status::Memory.code();
     };
     match IoBufsMut::from_parts(alloc, row.into_iter()) {

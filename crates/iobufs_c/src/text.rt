@@ -90,11 +90,11 @@ pub unsafe extern "C" fn iobufs_init(alloc: Global, at: *mut u8)
 
 /// Drops the bytes; the empty `IoBufs` is left.
 #[unsafe(no_mangle)]
-pub extern "C" fn iobufs_drop(text: &mut TextAt)
-    ensures at { text.new.at ≡ text.old.at }
-    ensures value { text.new.value ≡ default_text }
+pub extern "C" fn iobufs_drop(bufs: &mut TextAt)
+    ensures at { bufs.new.at ≡ bufs.old.at }
+    ensures value { bufs.new.value ≡ default_text }
 {
-    *text.get() = IoBufs::default();
+    *bufs.get() = IoBufs::default();
 }
 
 /// Makes an `IoBufs` of one view, whose handle is left empty.
@@ -110,26 +110,26 @@ pub extern "C" fn iobufs_from_view(src: &mut ViewAt, out: &mut TextAt)
 
 /// Returns whether two `IoBufs` hold equal bytes, for every chunking.
 #[unsafe(no_mangle)]
-pub extern "C" fn iobufs_eq(text: &mut TextAt, other: &mut TextAt) -> bool
-    ensures same { (text.new.at ≡ text.old.at) × (text.new.value ≡ text.old.value) }
+pub extern "C" fn iobufs_eq(bufs: &mut TextAt, other: &mut TextAt) -> bool
+    ensures same { (bufs.new.at ≡ bufs.old.at) × (bufs.new.value ≡ bufs.old.value) }
     ensures other { (other.new.at ≡ other.old.at) × (other.new.value ≡ other.old.value) }
-    ensures yes { result ≡ true → text.old.value.bytes ≡ other.old.value.bytes }
-    ensures no { text.old.value.bytes ≡ other.old.value.bytes → result ≡ true }
+    ensures yes { result ≡ true → bufs.old.value.bytes ≡ other.old.value.bytes }
+    ensures no { bufs.old.value.bytes ≡ other.old.value.bytes → result ≡ true }
 {
-    text.get() == other.get()
+    bufs.get() == other.get()
 }
 
 /// Clones an `IoBufs`, sharing its storage. Returns `Status::Memory` if an allocation fails; then `out` is unchanged.
 #[unsafe(no_mangle)]
-pub extern "C" fn iobufs_clone(text: &mut TextAt, out: &mut TextAt) -> u8
-    ensures same { (text.new.at ≡ text.old.at) × (text.new.value ≡ text.old.value) }
+pub extern "C" fn iobufs_clone(bufs: &mut TextAt, out: &mut TextAt) -> u8
+    ensures same { (bufs.new.at ≡ bufs.old.at) × (bufs.new.value ≡ bufs.old.value) }
     ensures at { out.new.at ≡ out.old.at }
-    ensures value { out.new.value ≡ (if result == 0 then text.old.value else out.old.value) }
+    ensures value { out.new.value ≡ (if result == 0 then bufs.old.value else out.old.value) }
     ensures memory { IsDoneUnless result Status.Memory }
-    ensures free { is_single text.old.value ≡ true
-        → IsFreelyShared (record { bytes = text.old.value.bytes; mark = text.old.value.mark }) → result ≡ 0 }
+    ensures free { is_single bufs.old.value ≡ true
+        → IsFreelyShared (record { bytes = bufs.old.value.bytes; mark = bufs.old.value.mark }) → result ≡ 0 }
 {
-    match text.get().clone() {
+    match bufs.get().clone() {
         Ok(other) => {
             *out.get() = other;
             Status::Done.code()
@@ -140,30 +140,30 @@ pub extern "C" fn iobufs_clone(text: &mut TextAt, out: &mut TextAt) -> u8
 
 /// Returns the number of bytes.
 #[unsafe(no_mangle)]
-pub extern "C" fn iobufs_len(text: &mut TextAt) -> usize
-    ensures same { (text.new.at ≡ text.old.at) × (text.new.value ≡ text.old.value) }
-    ensures value { result ≡ text_len text.old.value }
+pub extern "C" fn iobufs_len(bufs: &mut TextAt) -> usize
+    ensures same { (bufs.new.at ≡ bufs.old.at) × (bufs.new.value ≡ bufs.old.value) }
+    ensures value { result ≡ text_len bufs.old.value }
 {
-    text.get().len()
+    bufs.get().len()
 }
 
 /// Returns the number of chunks that hold bytes.
 #[unsafe(no_mangle)]
-pub extern "C" fn iobufs_chunk_count(text: &mut TextAt) -> usize
-    ensures same { (text.new.at ≡ text.old.at) × (text.new.value ≡ text.old.value) }
-    ensures value { result ≡ count_of text.old.value }
+pub extern "C" fn iobufs_chunk_count(bufs: &mut TextAt) -> usize
+    ensures same { (bufs.new.at ≡ bufs.old.at) × (bufs.new.value ≡ bufs.old.value) }
+    ensures value { result ≡ count_of bufs.old.value }
 {
-    IoBufs::chunk_count(text.get())
+    IoBufs::chunk_count(bufs.get())
 }
 
 /// Writes the address of the first chunk, and returns its length.
 #[unsafe(no_mangle)]
-pub extern "C" fn iobufs_chunk(text: &mut TextAt, out: &mut *const u8) -> usize
-    ensures same { (text.new.at ≡ text.old.at) × (text.new.value ≡ text.old.value) }
-    ensures value { result ≡ length (first_chunk (text_chunks text.old.value)) }
+pub extern "C" fn iobufs_chunk(bufs: &mut TextAt, out: &mut *const u8) -> usize
+    ensures same { (bufs.new.at ≡ bufs.old.at) × (bufs.new.value ≡ bufs.old.value) }
+    ensures value { result ≡ length (first_chunk (text_chunks bufs.old.value)) }
     ensures address { out.new ≡ null_ptr → ⊥ }
 {
-    let chunk = text.get().chunk();
+    let chunk = bufs.get().chunk();
     *out = address(chunk);
     chunk.len()
 }
@@ -172,22 +172,22 @@ pub extern "C" fn iobufs_chunk(text: &mut TextAt, out: &mut *const u8) -> usize
 /// if the offset isn't within the bytes; then both are unchanged.
 #[unsafe(no_mangle)]
 pub extern "C" fn iobufs_locate(
-    text: &mut TextAt,
+    bufs: &mut TextAt,
     at: usize,
     index: &mut usize,
     offset: &mut usize,
 ) -> u8
-    ensures same { (text.new.at ≡ text.old.at) × (text.new.value ≡ text.old.value) }
-    ensures result { result ≡ (if nat_le (text_len text.old.value) at then code_of Status.OutOfRange else 0) }
-    ensures index { result ≡ 0 → index.new + 1 ≡ keys_upto text.old.value at }
-    ensures offset { result ≡ 0 → greatest_key text.old.value at + offset.new ≡ at }
+    ensures same { (bufs.new.at ≡ bufs.old.at) × (bufs.new.value ≡ bufs.old.value) }
+    ensures result { result ≡ (if nat_le (text_len bufs.old.value) at then code_of Status.OutOfRange else 0) }
+    ensures index { result ≡ 0 → index.new + 1 ≡ keys_upto bufs.old.value at }
+    ensures offset { result ≡ 0 → greatest_key bufs.old.value at + offset.new ≡ at }
     ensures unchanged { (result == 0) ≡ false → (index.new ≡ index.old) × (offset.new ≡ offset.old) }
 {
-    let text = text.get();
-    if at >= text.len() {
+    let bufs = bufs.get();
+    if at >= bufs.len() {
         return Status::OutOfRange.code();
     }
-    let place = text.locate(at);
+    let place = bufs.locate(at);
     *index = place.index;
     *offset = place.offset;
     Status::Done.code()
@@ -196,23 +196,23 @@ pub extern "C" fn iobufs_locate(
 /// Appends a view, and leaves its handle empty. Returns `Status::TooLong` if the length would be above `usize::MAX`, or
 /// `Status::Memory`; then both are unchanged.
 #[unsafe(no_mangle)]
-pub extern "C" fn iobufs_append(alloc: Global, text: &mut TextAt, piece: &mut ViewAt) -> u8
-    ensures at { (text.new.at ≡ text.old.at) × (piece.new.at ≡ piece.old.at) }
-    ensures text { text.new.value ≡
-        (if result == 0 then text_append text.old.value piece.old.value else text.old.value) }
-    ensures piece { piece.new.value ≡ (if result == 0 then default_view else piece.old.value) }
-    ensures too_long { 2 ^ 64 ≤ text_len text.old.value + length piece.old.value.bytes
+pub extern "C" fn iobufs_append(alloc: Global, bufs: &mut TextAt, view: &mut ViewAt) -> u8
+    ensures at { (bufs.new.at ≡ bufs.old.at) × (view.new.at ≡ view.old.at) }
+    ensures bufs { bufs.new.value ≡
+        (if result == 0 then text_append bufs.old.value view.old.value else bufs.old.value) }
+    ensures view { view.new.value ≡ (if result == 0 then default_view else view.old.value) }
+    ensures too_long { 2 ^ 64 ≤ text_len bufs.old.value + length view.old.value.bytes
         → result ≡ code_of Status.TooLong }
-    ensures memory { text_len text.old.value + length piece.old.value.bytes < 2 ^ 64
+    ensures memory { text_len bufs.old.value + length view.old.value.bytes < 2 ^ 64
         → IsDoneUnless result Status.Memory }
-    ensures nothing { length piece.old.value.bytes ≡ 0 → result ≡ 0 }
-    ensures onto_nothing { text_len text.old.value ≡ 0 → result ≡ 0 }
+    ensures nothing { length view.old.value.bytes ≡ 0 → result ≡ 0 }
+    ensures onto_nothing { text_len bufs.old.value ≡ 0 → result ≡ 0 }
 {
-    let view = mem::take(piece.get());
-    match text.get().append(alloc, view) {
+    let taken = mem::take(view.get());
+    match bufs.get().append(alloc, taken) {
         Ok(()) => Status::Done.code(),
         Err(refused) => {
-            *piece.get() = refused.value;
+            *view.get() = refused.value;
             refusal(refused.cause)
         }
     }
@@ -220,23 +220,23 @@ pub extern "C" fn iobufs_append(alloc: Global, text: &mut TextAt, piece: &mut Vi
 
 /// Prepends a view, and leaves its handle empty. Fails as `iobufs_append`.
 #[unsafe(no_mangle)]
-pub extern "C" fn iobufs_prepend(alloc: Global, text: &mut TextAt, piece: &mut ViewAt) -> u8
-    ensures at { (text.new.at ≡ text.old.at) × (piece.new.at ≡ piece.old.at) }
-    ensures text { text.new.value ≡
-        (if result == 0 then text_prepend text.old.value piece.old.value else text.old.value) }
-    ensures piece { piece.new.value ≡ (if result == 0 then default_view else piece.old.value) }
-    ensures too_long { 2 ^ 64 ≤ text_len text.old.value + length piece.old.value.bytes
+pub extern "C" fn iobufs_prepend(alloc: Global, bufs: &mut TextAt, view: &mut ViewAt) -> u8
+    ensures at { (bufs.new.at ≡ bufs.old.at) × (view.new.at ≡ view.old.at) }
+    ensures bufs { bufs.new.value ≡
+        (if result == 0 then text_prepend bufs.old.value view.old.value else bufs.old.value) }
+    ensures view { view.new.value ≡ (if result == 0 then default_view else view.old.value) }
+    ensures too_long { 2 ^ 64 ≤ text_len bufs.old.value + length view.old.value.bytes
         → result ≡ code_of Status.TooLong }
-    ensures memory { text_len text.old.value + length piece.old.value.bytes < 2 ^ 64
+    ensures memory { text_len bufs.old.value + length view.old.value.bytes < 2 ^ 64
         → IsDoneUnless result Status.Memory }
-    ensures nothing { length piece.old.value.bytes ≡ 0 → result ≡ 0 }
-    ensures onto_nothing { text_len text.old.value ≡ 0 → result ≡ 0 }
+    ensures nothing { length view.old.value.bytes ≡ 0 → result ≡ 0 }
+    ensures onto_nothing { text_len bufs.old.value ≡ 0 → result ≡ 0 }
 {
-    let view = mem::take(piece.get());
-    match text.get().prepend(alloc, view) {
+    let taken = mem::take(view.get());
+    match bufs.get().prepend(alloc, taken) {
         Ok(()) => Status::Done.code(),
         Err(refused) => {
-            *piece.get() = refused.value;
+            *view.get() = refused.value;
             refusal(refused.cause)
         }
     }
@@ -247,18 +247,18 @@ pub extern "C" fn iobufs_prepend(alloc: Global, text: &mut TextAt, piece: &mut V
 #[unsafe(no_mangle)]
 pub extern "C" fn iobufs_split_to(
     alloc: Global,
-    text: &mut TextAt,
+    bufs: &mut TextAt,
     at: usize,
     out: &mut TextAt,
 ) -> u8
-    ensures at { (text.new.at ≡ text.old.at) × (out.new.at ≡ out.old.at) }
-    ensures text { text.new.value ≡ (if result == 0 then text_rest text.old.value at else text.old.value) }
-    ensures out { out.new.value ≡ (if result == 0 then text_split_front text.old.value at else out.old.value) }
-    ensures outside { text_len text.old.value < at → result ≡ code_of Status.OutOfRange }
-    ensures inside { at ≤ text_len text.old.value → IsDoneUnless result Status.Memory }
-    ensures free { at ≤ text_len text.old.value → SplitsFree text.old.value at → result ≡ 0 }
+    ensures at { (bufs.new.at ≡ bufs.old.at) × (out.new.at ≡ out.old.at) }
+    ensures bufs { bufs.new.value ≡ (if result == 0 then text_rest bufs.old.value at else bufs.old.value) }
+    ensures out { out.new.value ≡ (if result == 0 then text_split_front bufs.old.value at else out.old.value) }
+    ensures outside { text_len bufs.old.value < at → result ≡ code_of Status.OutOfRange }
+    ensures inside { at ≤ text_len bufs.old.value → IsDoneUnless result Status.Memory }
+    ensures free { at ≤ text_len bufs.old.value → SplitsFree bufs.old.value at → result ≡ 0 }
 {
-    match text.get().try_split_to(alloc, at) {
+    match bufs.get().try_split_to(alloc, at) {
         Some(front) => hand_text(front, out),
         None => Status::OutOfRange.code(),
     }
@@ -269,39 +269,39 @@ pub extern "C" fn iobufs_split_to(
 #[unsafe(no_mangle)]
 pub extern "C" fn iobufs_slice(
     alloc: Global,
-    text: &mut TextAt,
+    bufs: &mut TextAt,
     lo: usize,
     hi: usize,
     out: &mut TextAt,
 ) -> u8
-    ensures same { (text.new.at ≡ text.old.at) × (text.new.value ≡ text.old.value) }
+    ensures same { (bufs.new.at ≡ bufs.old.at) × (bufs.new.value ≡ bufs.old.value) }
     ensures at { out.new.at ≡ out.old.at }
-    ensures value { out.new.value ≡ (if result == 0 then text_split_front (text_rest text.old.value lo)
+    ensures value { out.new.value ≡ (if result == 0 then text_split_front (text_rest bufs.old.value lo)
         (hi - lo) else out.old.value) }
     ensures backwards { hi < lo → result ≡ code_of Status.OutOfRange }
-    ensures outside { text_len text.old.value < hi → result ≡ code_of Status.OutOfRange }
-    ensures inside { lo ≤ hi → hi ≤ text_len text.old.value → IsDoneUnless result Status.Memory }
-    ensures nothing { lo ≡ hi → hi ≤ text_len text.old.value → result ≡ 0 }
-    ensures static_text { lo ≤ hi → hi ≤ text_len text.old.value
-        → (taken_view text.old.value lo (hi - lo)).mark ≡ static_mark → result ≡ 0 }
+    ensures outside { text_len bufs.old.value < hi → result ≡ code_of Status.OutOfRange }
+    ensures inside { lo ≤ hi → hi ≤ text_len bufs.old.value → IsDoneUnless result Status.Memory }
+    ensures nothing { lo ≡ hi → hi ≤ text_len bufs.old.value → result ≡ 0 }
+    ensures static_text { lo ≤ hi → hi ≤ text_len bufs.old.value
+        → (taken_view bufs.old.value lo (hi - lo)).mark ≡ static_mark → result ≡ 0 }
 {
-    match text.get().try_slice(alloc, lo..hi) {
+    match bufs.get().try_slice(alloc, lo..hi) {
         Some(slice) => hand_text(slice, out),
         None => Status::OutOfRange.code(),
     }
 }
 
-/// Keeps at most the first `len` bytes. Returns `Status::Memory` if an allocation fails; then nothing changes.
+/// Keeps at most the first `n` bytes. Returns `Status::Memory` if an allocation fails; then nothing changes.
 #[unsafe(no_mangle)]
-pub extern "C" fn iobufs_truncate(alloc: Global, text: &mut TextAt, len: usize) -> u8
-    ensures at { text.new.at ≡ text.old.at }
-    ensures kept { result ≡ 0 → len < text_len text.old.value → text.new.value ≡ text_split_front text.old.value len }
-    ensures longer { text_len text.old.value ≤ len → (text.new.value ≡ text.old.value) × (result ≡ 0) }
-    ensures unchanged { (result ≡ 0 → ⊥) → text.new.value ≡ text.old.value }
+pub extern "C" fn iobufs_truncate(alloc: Global, bufs: &mut TextAt, n: usize) -> u8
+    ensures at { bufs.new.at ≡ bufs.old.at }
+    ensures kept { result ≡ 0 → n < text_len bufs.old.value → bufs.new.value ≡ text_split_front bufs.old.value n }
+    ensures longer { text_len bufs.old.value ≤ n → (bufs.new.value ≡ bufs.old.value) × (result ≡ 0) }
+    ensures unchanged { (result ≡ 0 → ⊥) → bufs.new.value ≡ bufs.old.value }
     ensures memory { IsDoneUnless result Status.Memory }
-    ensures free { SplitsFree text.old.value len → result ≡ 0 }
+    ensures free { SplitsFree bufs.old.value n → result ≡ 0 }
 {
-    match text.get().truncate(alloc, len) {
+    match bufs.get().truncate(alloc, n) {
         Ok(()) => Status::Done.code(),
         Err(_) => Status::Memory.code(),
     }
@@ -309,125 +309,125 @@ pub extern "C" fn iobufs_truncate(alloc: Global, text: &mut TextAt, len: usize) 
 
 /// Drops the first bytes. Returns `Status::OutOfRange` if there are fewer; then nothing changes.
 #[unsafe(no_mangle)]
-pub extern "C" fn iobufs_advance(text: &mut TextAt, n: usize) -> u8
-    ensures at { text.new.at ≡ text.old.at }
-    ensures value { text.new.value ≡ (if nat_le n
-        (text_len text.old.value) then text_advanced text.old.value n else text.old.value) }
-    ensures result { result ≡ (if nat_le n (text_len text.old.value) then 0 else code_of Status.OutOfRange) }
+pub extern "C" fn iobufs_advance(bufs: &mut TextAt, n: usize) -> u8
+    ensures at { bufs.new.at ≡ bufs.old.at }
+    ensures value { bufs.new.value ≡ (if nat_le n
+        (text_len bufs.old.value) then text_advanced bufs.old.value n else bufs.old.value) }
+    ensures result { result ≡ (if nat_le n (text_len bufs.old.value) then 0 else code_of Status.OutOfRange) }
 {
-    done_or(text.get().try_advance(n), Status::OutOfRange)
+    done_or(bufs.get().try_advance(n), Status::OutOfRange)
 }
 
 /// Copies the first bytes out, and drops them. Returns `Status::EndOfBuffer` if there are fewer; then nothing changes.
 #[unsafe(no_mangle)]
-pub extern "C" fn iobufs_copy_to_slice(text: &mut TextAt, dst: &mut [u8]) -> u8
-    ensures at { text.new.at ≡ text.old.at }
-    ensures value { text.new.value ≡ (if nat_le (length dst.old)
-        (text_len text.old.value) then text_advanced text.old.value (length dst.old) else text.old.value) }
-    ensures bytes { dst.new ≡ (if nat_le (length dst.old) (text_len text.old.value) then take
-        (length dst.old) text.old.value.bytes else dst.old) }
+pub extern "C" fn iobufs_copy_to_slice(bufs: &mut TextAt, dst: &mut [u8]) -> u8
+    ensures at { bufs.new.at ≡ bufs.old.at }
+    ensures value { bufs.new.value ≡ (if nat_le (length dst.old)
+        (text_len bufs.old.value) then text_advanced bufs.old.value (length dst.old) else bufs.old.value) }
+    ensures bytes { dst.new ≡ (if nat_le (length dst.old) (text_len bufs.old.value) then take
+        (length dst.old) bufs.old.value.bytes else dst.old) }
     ensures result { result ≡ (if nat_le (length dst.old)
-        (text_len text.old.value) then 0 else code_of Status.EndOfBuffer) }
+        (text_len bufs.old.value) then 0 else code_of Status.EndOfBuffer) }
 {
-    let is_done = text.get().try_copy_to_slice(dst).is_ok();
+    let is_done = bufs.get().try_copy_to_slice(dst).is_ok();
     done_or(is_done, Status::EndOfBuffer)
 }
 
 /// Copies the bytes after the first `skip` out; none are dropped. Returns `Status::EndOfBuffer` if there are fewer;
 /// then nothing is written.
 #[unsafe(no_mangle)]
-pub extern "C" fn iobufs_peek(text: &mut TextAt, skip: usize, dst: &mut [u8]) -> u8
-    ensures same { (text.new.at ≡ text.old.at) × (text.new.value ≡ text.old.value) }
-    ensures bytes { dst.new ≡ (if nat_le (skip + length dst.old) (text_len text.old.value) then take (length dst.old)
-        (drop skip text.old.value.bytes) else dst.old) }
+pub extern "C" fn iobufs_peek(bufs: &mut TextAt, skip: usize, dst: &mut [u8]) -> u8
+    ensures same { (bufs.new.at ≡ bufs.old.at) × (bufs.new.value ≡ bufs.old.value) }
+    ensures bytes { dst.new ≡ (if nat_le (skip + length dst.old) (text_len bufs.old.value) then take (length dst.old)
+        (drop skip bufs.old.value.bytes) else dst.old) }
     ensures result { result ≡ (if nat_le (skip + length dst.old)
-        (text_len text.old.value) then 0 else code_of Status.EndOfBuffer) }
+        (text_len bufs.old.value) then 0 else code_of Status.EndOfBuffer) }
 {
-    done_or(text.get().try_peek_slice(skip, dst), Status::EndOfBuffer)
+    done_or(bufs.get().try_peek_slice(skip, dst), Status::EndOfBuffer)
 }
 
 /// Takes the first bytes as one view: in the storage of their chunk, or a copy across chunks. Returns
 /// `Status::EndOfBuffer` if there are fewer, or `Status::Memory`; then both are unchanged.
 #[unsafe(no_mangle)]
-pub extern "C" fn iobufs_take(alloc: Global, text: &mut TextAt, n: usize, out: &mut ViewAt) -> u8
-    ensures at { (text.new.at ≡ text.old.at) × (out.new.at ≡ out.old.at) }
-    ensures text { text.new.value ≡ (if result == 0 then text_rest text.old.value n else text.old.value) }
-    ensures out { out.new.value ≡ (if result == 0 then taken_view text.old.value 0 n else out.old.value) }
-    ensures outside { text_len text.old.value < n → result ≡ code_of Status.EndOfBuffer }
-    ensures inside { n ≤ text_len text.old.value → IsDoneUnless result Status.Memory }
+pub extern "C" fn iobufs_take(alloc: Global, bufs: &mut TextAt, n: usize, out: &mut ViewAt) -> u8
+    ensures at { (bufs.new.at ≡ bufs.old.at) × (out.new.at ≡ out.old.at) }
+    ensures bufs { bufs.new.value ≡ (if result == 0 then text_rest bufs.old.value n else bufs.old.value) }
+    ensures out { out.new.value ≡ (if result == 0 then taken_view bufs.old.value 0 n else out.old.value) }
+    ensures outside { text_len bufs.old.value < n → result ≡ code_of Status.EndOfBuffer }
+    ensures inside { n ≤ text_len bufs.old.value → IsDoneUnless result Status.Memory }
     ensures nothing { n ≡ 0 → result ≡ 0 }
-    ensures whole { n ≤ text_len text.old.value → n ≡ length (first_chunk (text_chunks text.old.value)) → result ≡ 0 }
-    ensures static_text { n ≤ text_len text.old.value → (taken_view text.old.value 0 n).mark ≡ static_mark
+    ensures whole { n ≤ text_len bufs.old.value → n ≡ length (first_chunk (text_chunks bufs.old.value)) → result ≡ 0 }
+    ensures static_text { n ≤ text_len bufs.old.value → (taken_view bufs.old.value 0 n).mark ≡ static_mark
         → result ≡ 0 }
 {
-    let text = text.get();
-    if n > text.len() {
+    let bufs = bufs.get();
+    if n > bufs.len() {
         return Status::EndOfBuffer.code();
     }
-    hand(text.take_owned::<IoBuf>(alloc, n), out)
+    hand(bufs.take_owned::<IoBuf>(alloc, n), out)
 }
 
 /// Takes the `n` bytes after the first `skip`, which are dropped too, as `iobufs_take` does.
 #[unsafe(no_mangle)]
 pub extern "C" fn iobufs_take_after(
     alloc: Global,
-    text: &mut TextAt,
+    bufs: &mut TextAt,
     skip: usize,
     n: usize,
     out: &mut ViewAt,
 ) -> u8
-    ensures at { (text.new.at ≡ text.old.at) × (out.new.at ≡ out.old.at) }
-    ensures text { text.new.value ≡ (if result == 0 then text_rest text.old.value (skip + n) else text.old.value) }
-    ensures out { out.new.value ≡ (if result == 0 then taken_view text.old.value skip n else out.old.value) }
-    ensures outside { text_len text.old.value < skip + n → result ≡ code_of Status.EndOfBuffer }
-    ensures inside { skip + n ≤ text_len text.old.value → IsDoneUnless result Status.Memory }
-    ensures nothing { n ≡ 0 → skip ≤ text_len text.old.value → result ≡ 0 }
-    ensures whole { skip + n ≤ text_len text.old.value → skip ≡ 0
-        → n ≡ length (first_chunk (text_chunks text.old.value)) → result ≡ 0 }
-    ensures static_text { skip + n ≤ text_len text.old.value → (taken_view text.old.value skip n).mark ≡ static_mark
+    ensures at { (bufs.new.at ≡ bufs.old.at) × (out.new.at ≡ out.old.at) }
+    ensures bufs { bufs.new.value ≡ (if result == 0 then text_rest bufs.old.value (skip + n) else bufs.old.value) }
+    ensures out { out.new.value ≡ (if result == 0 then taken_view bufs.old.value skip n else out.old.value) }
+    ensures outside { text_len bufs.old.value < skip + n → result ≡ code_of Status.EndOfBuffer }
+    ensures inside { skip + n ≤ text_len bufs.old.value → IsDoneUnless result Status.Memory }
+    ensures nothing { n ≡ 0 → skip ≤ text_len bufs.old.value → result ≡ 0 }
+    ensures whole { skip + n ≤ text_len bufs.old.value → skip ≡ 0
+        → n ≡ length (first_chunk (text_chunks bufs.old.value)) → result ≡ 0 }
+    ensures static_text { skip + n ≤ text_len bufs.old.value → (taken_view bufs.old.value skip n).mark ≡ static_mark
         → result ≡ 0 }
 {
-    let text = text.get();
-    let len = text.len();
+    let bufs = bufs.get();
+    let len = bufs.len();
     if skip > len || n > len - skip {
         return Status::EndOfBuffer.code();
     }
-    hand(text.take_owned_after::<IoBuf>(alloc, skip, n), out)
+    hand(bufs.take_owned_after::<IoBuf>(alloc, skip, n), out)
 }
 
 /// Coalesces the chunks into one view, with a copy of several, and leaves an empty `IoBufs`. Returns
 /// `Status::BadLayout` if several hold more than `isize::MAX` bytes, or `Status::Memory`; then the bytes are dropped:
 /// clone them first to keep them.
 #[unsafe(no_mangle)]
-pub extern "C" fn iobufs_coalesce(alloc: Global, text: &mut TextAt, out: &mut ViewAt) -> u8
-    ensures at { (text.new.at ≡ text.old.at) × (out.new.at ≡ out.old.at) }
-    ensures text { text.new.value ≡ default_text }
-    ensures out { result ≡ 0 → of_view out.new.value ≡ text_coalesced text.old.value }
+pub extern "C" fn iobufs_coalesce(alloc: Global, bufs: &mut TextAt, out: &mut ViewAt) -> u8
+    ensures at { (bufs.new.at ≡ bufs.old.at) × (out.new.at ≡ out.old.at) }
+    ensures bufs { bufs.new.value ≡ default_text }
+    ensures out { result ≡ 0 → of_view out.new.value ≡ text_coalesced bufs.old.value }
     ensures unchanged { (result == 0) ≡ false → out.new.value ≡ out.old.value }
-    ensures single { is_single text.old.value ≡ true → result ≡ 0 }
-    ensures bad_layout { is_single text.old.value ≡ false → 2 ^ 63 ≤ text_len text.old.value
+    ensures single { is_single bufs.old.value ≡ true → result ≡ 0 }
+    ensures bad_layout { is_single bufs.old.value ≡ false → 2 ^ 63 ≤ text_len bufs.old.value
         → result ≡ code_of Status.BadLayout }
-    ensures memory { text_len text.old.value < 2 ^ 63 → IsDoneUnless result Status.Memory }
+    ensures memory { text_len bufs.old.value < 2 ^ 63 → IsDoneUnless result Status.Memory }
 {
-    hand(mem::take(text.get()).coalesce(alloc), out)
+    hand(mem::take(bufs.get()).coalesce(alloc), out)
 }
 
 /// Takes the only chunk as a view. Returns `Status::Declined` if there are more; then both are unchanged.
 #[unsafe(no_mangle)]
-pub extern "C" fn iobufs_try_into_single(text: &mut TextAt, out: &mut ViewAt) -> u8
-    ensures at { (text.new.at ≡ text.old.at) × (out.new.at ≡ out.old.at) }
-    ensures single { result ≡ 0 → (text.old.value ≡ of_view out.new.value) × (text.new.value ≡ default_text) }
+pub extern "C" fn iobufs_try_into_single(bufs: &mut TextAt, out: &mut ViewAt) -> u8
+    ensures at { (bufs.new.at ≡ bufs.old.at) × (out.new.at ≡ out.old.at) }
+    ensures single { result ≡ 0 → (bufs.old.value ≡ of_view out.new.value) × (bufs.new.value ≡ default_text) }
     ensures declined { (result == 0) ≡ false
-        → (is_single text.old.value ≡ false) × (text.new.value ≡ text.old.value) × (out.new.value ≡ out.old.value) }
+        → (is_single bufs.old.value ≡ false) × (bufs.new.value ≡ bufs.old.value) × (out.new.value ≡ out.old.value) }
     ensures result { IsDoneUnless result Status.Declined }
 {
-    match mem::take(text.get()).try_into_single() {
+    match mem::take(bufs.get()).try_into_single() {
         Ok(piece) => {
             *out.get() = piece;
             Status::Done.code()
         }
         Err(whole) => {
-            *text.get() = whole;
+            *bufs.get() = whole;
             Status::Declined.code()
         }
     }
@@ -483,12 +483,12 @@ fn fill_chunks(text: &IoBufs, first: usize, out: &mut [Chunk]) -> usize
 
 /// Fills a list with the chunks from `first` on, and returns how many it filled.
 #[unsafe(no_mangle)]
-pub extern "C" fn iobufs_chunks_from(text: &mut TextAt, first: usize, out: &mut [Chunk]) -> usize
-    ensures same { (text.new.at ≡ text.old.at) × (text.new.value ≡ text.old.value) }
-    ensures count { result ≡ min (length out.old) (length (text_chunks text.old.value) - first) }
+pub extern "C" fn iobufs_chunks_from(bufs: &mut TextAt, first: usize, out: &mut [Chunk]) -> usize
+    ensures same { (bufs.new.at ≡ bufs.old.at) × (bufs.new.value ≡ bufs.old.value) }
+    ensures count { result ≡ min (length out.old) (length (text_chunks bufs.old.value) - first) }
     ensures lengths { map (λ chunk. chunk.len) (take result out.new) ≡ map length
-        (take result (drop first (text_chunks text.old.value))) }
+        (take result (drop first (text_chunks bufs.old.value))) }
     ensures rest { drop result out.new ≡ drop result out.old }
 {
-    fill_chunks(text.get(), first, out)
+    fill_chunks(bufs.get(), first, out)
 }
