@@ -1,4 +1,4 @@
-// Bytes in several chunks, reached by their handles.
+// iobufs (IoBufs): bytes in several chunks, none of which is copied.
 ghost use Rattle.std.specs.Prelude.{◌≡◌, ℕ, ◌+◌, ◌-◌, ◌≤◌, ◌<◌, ◌^◌, ◌==◌, ◌++◌, ◌∷◌, [], List, if◌then◌else◌, length, take, drop, map, min, nat_le, true, false, MatchResult};
 ghost use Rattle.std.specs.Borrow.{sem, Lends, full_share};
 ghost use Rattle.std.specs.Ptr.{lies_at, null_ptr, room_at};
@@ -71,7 +71,7 @@ fn empty(_alloc: Global) -> IoBufs
     IoBufs::default()
 }
 
-/// Returns how many bytes of memory an `IoBufs` takes.
+/// Returns the library's size of a `struct iobufs`.
 #[unsafe(no_mangle)]
 pub extern "C" fn iobufs_size() -> usize
     ensures value { result ≡ 56 }
@@ -79,7 +79,7 @@ pub extern "C" fn iobufs_size() -> usize
     mem::size_of::<IoBufs>()
 }
 
-/// Makes an empty `IoBufs` of memory.
+/// Makes memory an empty iobufs. (IoBufs::default)
 #[unsafe(no_mangle)]
 pub unsafe extern "C" fn iobufs_init(alloc: Global, at: *mut u8)
     requires* { sem 𝓛 (room_at text_row at) }
@@ -88,7 +88,7 @@ pub unsafe extern "C" fn iobufs_init(alloc: Global, at: *mut u8)
     (at as *mut IoBufs).write(empty(alloc));
 }
 
-/// Drops the bytes; the empty `IoBufs` is left.
+/// Drops the bytes; the empty iobufs is left. (Drop)
 #[unsafe(no_mangle)]
 pub extern "C" fn iobufs_drop(bufs: &mut TextAt)
     ensures at { bufs.new.at ≡ bufs.old.at }
@@ -97,7 +97,7 @@ pub extern "C" fn iobufs_drop(bufs: &mut TextAt)
     *bufs.get() = IoBufs::default();
 }
 
-/// Makes an `IoBufs` of one view, whose handle is left empty.
+/// Makes an iobufs of one view, which is left empty. (From<IoBuf>)
 #[unsafe(no_mangle)]
 pub extern "C" fn iobufs_from_view(src: &mut ViewAt, out: &mut TextAt)
     ensures at { (src.new.at ≡ src.old.at) × (out.new.at ≡ out.old.at) }
@@ -108,7 +108,7 @@ pub extern "C" fn iobufs_from_view(src: &mut ViewAt, out: &mut TextAt)
     *out.get() = IoBufs::from(view);
 }
 
-/// Returns whether two `IoBufs` hold equal bytes, for every chunking.
+/// Returns whether both hold the same bytes, for every chunking. (==)
 #[unsafe(no_mangle)]
 pub extern "C" fn iobufs_eq(bufs: &mut TextAt, other: &mut TextAt) -> bool
     ensures same { (bufs.new.at ≡ bufs.old.at) × (bufs.new.value ≡ bufs.old.value) }
@@ -119,7 +119,8 @@ pub extern "C" fn iobufs_eq(bufs: &mut TextAt, other: &mut TextAt) -> bool
     bufs.get() == other.get()
 }
 
-/// Clones an `IoBufs`, sharing its storage. Returns `Status::Memory` if an allocation fails; then `out` is unchanged.
+/// Makes another iobufs of the same bytes, in their storage. (Clone)
+/// Fails: IOBUFS_MEMORY, for the deque of chunks.
 #[unsafe(no_mangle)]
 pub extern "C" fn iobufs_clone(bufs: &mut TextAt, out: &mut TextAt) -> u8
     ensures same { (bufs.new.at ≡ bufs.old.at) × (bufs.new.value ≡ bufs.old.value) }
@@ -138,7 +139,7 @@ pub extern "C" fn iobufs_clone(bufs: &mut TextAt, out: &mut TextAt) -> u8
     }
 }
 
-/// Returns the number of bytes.
+/// Returns the number of bytes. (IoBufs::len)
 #[unsafe(no_mangle)]
 pub extern "C" fn iobufs_len(bufs: &mut TextAt) -> usize
     ensures same { (bufs.new.at ≡ bufs.old.at) × (bufs.new.value ≡ bufs.old.value) }
@@ -147,7 +148,7 @@ pub extern "C" fn iobufs_len(bufs: &mut TextAt) -> usize
     bufs.get().len()
 }
 
-/// Returns the number of chunks that hold bytes.
+/// Returns the number of chunks that hold bytes. (chunk_count)
 #[unsafe(no_mangle)]
 pub extern "C" fn iobufs_chunk_count(bufs: &mut TextAt) -> usize
     ensures same { (bufs.new.at ≡ bufs.old.at) × (bufs.new.value ≡ bufs.old.value) }
@@ -156,7 +157,7 @@ pub extern "C" fn iobufs_chunk_count(bufs: &mut TextAt) -> usize
     IoBufs::chunk_count(bufs.get())
 }
 
-/// Writes the address of the first chunk, and returns its length.
+/// Writes a pointer to the first chunk, as iobuf_chunk does, and returns its length. (Buf::chunk)
 #[unsafe(no_mangle)]
 pub extern "C" fn iobufs_chunk(bufs: &mut TextAt, out: &mut *const u8) -> usize
     ensures same { (bufs.new.at ≡ bufs.old.at) × (bufs.new.value ≡ bufs.old.value) }
@@ -168,8 +169,8 @@ pub extern "C" fn iobufs_chunk(bufs: &mut TextAt, out: &mut *const u8) -> usize
     chunk.len()
 }
 
-/// Writes the index of the chunk that contains an offset, and the distance from its start. Returns `Status::OutOfRange`
-/// if the offset isn't within the bytes; then both are unchanged.
+/// Writes the index of the chunk that contains an offset, and the distance from its start. (own)
+/// Fails: IOBUFS_OUT_OF_RANGE if the offset is at the end, or after it.
 #[unsafe(no_mangle)]
 pub extern "C" fn iobufs_locate(
     bufs: &mut TextAt,
@@ -193,8 +194,9 @@ pub extern "C" fn iobufs_locate(
     Status::Done.code()
 }
 
-/// Appends a view, and leaves its handle empty. Returns `Status::TooLong` if the length would be above `usize::MAX`, or
-/// `Status::Memory`; then both are unchanged.
+/// Adds a view at the end, and leaves its handle empty. (append)
+/// Fails: IOBUFS_TOO_LONG if the length would pass SIZE_MAX; IOBUFS_MEMORY if the list of chunks has to grow.
+/// Keeps: both.
 #[unsafe(no_mangle)]
 pub extern "C" fn iobufs_append(alloc: Global, bufs: &mut TextAt, view: &mut ViewAt) -> u8
     ensures at { (bufs.new.at ≡ bufs.old.at) × (view.new.at ≡ view.old.at) }
@@ -218,7 +220,9 @@ pub extern "C" fn iobufs_append(alloc: Global, bufs: &mut TextAt, view: &mut Vie
     }
 }
 
-/// Prepends a view, and leaves its handle empty. Fails as `iobufs_append`.
+/// Adds a view at the start, and leaves its handle empty. (prepend)
+/// Fails: IOBUFS_TOO_LONG if the length would pass SIZE_MAX; IOBUFS_MEMORY if the list of chunks has to grow.
+/// Keeps: both.
 #[unsafe(no_mangle)]
 pub extern "C" fn iobufs_prepend(alloc: Global, bufs: &mut TextAt, view: &mut ViewAt) -> u8
     ensures at { (bufs.new.at ≡ bufs.old.at) × (view.new.at ≡ view.old.at) }
@@ -242,8 +246,8 @@ pub extern "C" fn iobufs_prepend(alloc: Global, bufs: &mut TextAt, view: &mut Vi
     }
 }
 
-/// Splits the first bytes off. Returns `Status::OutOfRange` if there are fewer, or `Status::Memory`; then both are
-/// unchanged.
+/// Takes the first `at` bytes. (IoBufs::split_to)
+/// Fails: IOBUFS_OUT_OF_RANGE if there are fewer; IOBUFS_MEMORY if the smaller side has several chunks.
 #[unsafe(no_mangle)]
 pub extern "C" fn iobufs_split_to(
     alloc: Global,
@@ -264,8 +268,8 @@ pub extern "C" fn iobufs_split_to(
     }
 }
 
-/// Clones the chunks of a range, in their storage. Returns `Status::OutOfRange` if it isn't within the bytes, or
-/// `Status::Memory`; then `out` is unchanged.
+/// Makes an iobufs of the bytes from offset lo to hi, in their storage. It costs the chunks of that range alone. (own)
+/// Fails: IOBUFS_OUT_OF_RANGE if lo is above hi, or hi above the length; IOBUFS_MEMORY.
 #[unsafe(no_mangle)]
 pub extern "C" fn iobufs_slice(
     alloc: Global,
@@ -291,7 +295,9 @@ pub extern "C" fn iobufs_slice(
     }
 }
 
-/// Keeps at most the first `n` bytes. Returns `Status::Memory` if an allocation fails; then nothing changes.
+/// Keeps at most the first n bytes. (own)
+/// Fails: IOBUFS_MEMORY, unless n is 0 or there are no more.
+/// Keeps: all bytes.
 #[unsafe(no_mangle)]
 pub extern "C" fn iobufs_truncate(alloc: Global, bufs: &mut TextAt, n: usize) -> u8
     ensures at { bufs.new.at ≡ bufs.old.at }
@@ -307,7 +313,8 @@ pub extern "C" fn iobufs_truncate(alloc: Global, bufs: &mut TextAt, n: usize) ->
     }
 }
 
-/// Drops the first bytes. Returns `Status::OutOfRange` if there are fewer; then nothing changes.
+/// Drops the first n bytes. (Buf::advance)
+/// Fails: IOBUFS_OUT_OF_RANGE if there are fewer.
 #[unsafe(no_mangle)]
 pub extern "C" fn iobufs_advance(bufs: &mut TextAt, n: usize) -> u8
     ensures at { bufs.new.at ≡ bufs.old.at }
@@ -318,7 +325,8 @@ pub extern "C" fn iobufs_advance(bufs: &mut TextAt, n: usize) -> u8
     done_or(bufs.get().try_advance(n), Status::OutOfRange)
 }
 
-/// Copies the first bytes out, and drops them. Returns `Status::EndOfBuffer` if there are fewer; then nothing changes.
+/// Copies the first n bytes out and drops them. (Buf::copy_to_slice)
+/// Fails: IOBUFS_END_OF_BUFFER if there are fewer.
 #[unsafe(no_mangle)]
 pub extern "C" fn iobufs_copy_to_slice(bufs: &mut TextAt, dst: &mut [u8]) -> u8
     ensures at { bufs.new.at ≡ bufs.old.at }
@@ -333,8 +341,8 @@ pub extern "C" fn iobufs_copy_to_slice(bufs: &mut TextAt, dst: &mut [u8]) -> u8
     done_or(is_done, Status::EndOfBuffer)
 }
 
-/// Copies the bytes after the first `skip` out; none are dropped. Returns `Status::EndOfBuffer` if there are fewer;
-/// then nothing is written.
+/// Copies the n bytes after the first `skip` out, of which none is dropped. With 0 and iobufs_len it copies all. (own)
+/// Fails: IOBUFS_END_OF_BUFFER if there are fewer, and nothing is written.
 #[unsafe(no_mangle)]
 pub extern "C" fn iobufs_peek(bufs: &mut TextAt, skip: usize, dst: &mut [u8]) -> u8
     ensures same { (bufs.new.at ≡ bufs.old.at) × (bufs.new.value ≡ bufs.old.value) }
@@ -346,8 +354,8 @@ pub extern "C" fn iobufs_peek(bufs: &mut TextAt, skip: usize, dst: &mut [u8]) ->
     done_or(bufs.get().try_peek_slice(skip, dst), Status::EndOfBuffer)
 }
 
-/// Takes the first bytes as one view: in the storage of their chunk, or a copy across chunks. Returns
-/// `Status::EndOfBuffer` if there are fewer, or `Status::Memory`; then both are unchanged.
+/// Takes the first n bytes as one view: shared within a chunk, a copy across chunks. (take_owned, Buf::copy_to_bytes)
+/// Fails: IOBUFS_END_OF_BUFFER if there are fewer; IOBUFS_MEMORY, for the copy.
 #[unsafe(no_mangle)]
 pub extern "C" fn iobufs_take(alloc: Global, bufs: &mut TextAt, n: usize, out: &mut ViewAt) -> u8
     ensures at { (bufs.new.at ≡ bufs.old.at) × (out.new.at ≡ out.old.at) }
@@ -367,7 +375,8 @@ pub extern "C" fn iobufs_take(alloc: Global, bufs: &mut TextAt, n: usize, out: &
     hand(bufs.take_owned::<IoBuf>(alloc, n), out)
 }
 
-/// Takes the `n` bytes after the first `skip`, which are dropped too, as `iobufs_take` does.
+/// Takes the n bytes after the first `skip`, which are dropped too, as one view, as iobufs_take does. (own)
+/// Fails: IOBUFS_END_OF_BUFFER if there are fewer; IOBUFS_MEMORY, for the copy.
 #[unsafe(no_mangle)]
 pub extern "C" fn iobufs_take_after(
     alloc: Global,
@@ -395,9 +404,9 @@ pub extern "C" fn iobufs_take_after(
     hand(bufs.take_owned_after::<IoBuf>(alloc, skip, n), out)
 }
 
-/// Coalesces the chunks into one view, with a copy of several, and leaves an empty `IoBufs`. Returns
-/// `Status::BadLayout` if several hold more than `isize::MAX` bytes, or `Status::Memory`; then the bytes are dropped:
-/// clone them first to keep them.
+/// Makes one view of all bytes, with a copy of several chunks. `bufs` is left empty, also after an error: clone `bufs`
+/// first to keep the bytes. (coalesce)
+/// Fails: IOBUFS_BAD_LAYOUT if several chunks have more than SSIZE_MAX bytes; IOBUFS_MEMORY, for the copy.
 #[unsafe(no_mangle)]
 pub extern "C" fn iobufs_coalesce(alloc: Global, bufs: &mut TextAt, out: &mut ViewAt) -> u8
     ensures at { (bufs.new.at ≡ bufs.old.at) × (out.new.at ≡ out.old.at) }
@@ -412,7 +421,9 @@ pub extern "C" fn iobufs_coalesce(alloc: Global, bufs: &mut TextAt, out: &mut Vi
     hand(mem::take(bufs.get()).coalesce(alloc), out)
 }
 
-/// Takes the only chunk as a view. Returns `Status::Declined` if there are more; then both are unchanged.
+/// Takes the only chunk as a view; `bufs` is left empty. (try_into_single)
+/// Fails: IOBUFS_DECLINED if there are more.
+/// Keeps: the chunks.
 #[unsafe(no_mangle)]
 pub extern "C" fn iobufs_try_into_single(bufs: &mut TextAt, out: &mut ViewAt) -> u8
     ensures at { (bufs.new.at ≡ bufs.old.at) × (out.new.at ≡ out.old.at) }
@@ -481,7 +492,8 @@ fn fill_chunks(text: &IoBufs, first: usize, out: &mut [Chunk]) -> usize
     count + fill_run(&behind, &mut out[count..])
 }
 
-/// Fills a list with the chunks from `first` on, and returns how many it filled.
+/// Fills a list of n with the chunks from chunk first on, counted from 0, and returns how many it filled; 0 if there
+/// are none. So a loop takes many chunks at a time. (own)
 #[unsafe(no_mangle)]
 pub extern "C" fn iobufs_chunks_from(bufs: &mut TextAt, first: usize, out: &mut [Chunk]) -> usize
     ensures same { (bufs.new.at ≡ bufs.old.at) × (bufs.new.value ≡ bufs.old.value) }
