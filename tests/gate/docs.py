@@ -6,7 +6,8 @@ work:
 
 1. generate  Each part between `<!-- generated: NAME -->` and `<!-- end -->` is what the tree gives: docs/API.md,
              tables of figures, the graph of crates, the fields of `Promises`, and the code between `// [docs: NAME]`
-             and `// [docs end]` of a source. --write writes them. No cell of docs/API.md has a notation of contracts.
+             and `// [docs end]` of a source. So are the declarations of c/include/iobufs.h (header.py). --write writes
+             them. No cell of docs/API.md has a notation of contracts.
 2. lint      The rules of docs/CONTRIBUTING.md that a script can see. A page above its aim of words is only told.
 3. checks    Each name in backticks is a file, or a word of the sources or of the kit, or of tests/tables/known_names.
              Each link leads somewhere. Versions, figures and counts are those of their sources (claims.py). The head of
@@ -23,7 +24,7 @@ from pathlib import Path
 
 sys.path.insert(0, str(Path(__file__).resolve().parents[1] / "lib"))
 from common import Checks
-from pages import checks, claims, generate, kept, lint, rests
+from pages import checks, claims, generate, header, kept, lint, rests
 from pages.tree import CRATES, PAGES, ROOT, texts
 
 CITED = "-- Laws.\n\npub bare : 0 ≡ 0\nbare = refl\n"
@@ -32,6 +33,7 @@ ROWS = "-- Rows.\n--     first   one\nabbrev pub first : ℕ\nabbrev pub other :
 PATHS = {"one": ["a/specs/A.antt", "b/specs/B.antt"], "two": ["a/src/a.rt", "a/specs/A.antt"]}
 RELATION = "abbrev pub Holds : ℕ → Type 0\nHolds zero = ⊥\nHolds (suc n) = Unit {0}\n"
 STALE = "<!-- generated: crates -->\n<!-- end -->"
+STALE_HEADER = "/* generated: exports */\n/* end */"
 
 
 def unformatted():
@@ -69,6 +71,7 @@ def false_samples(page):
     one, other = (set(kept.tests(f"const A: [u8; 1] = [{n}];")) for n in (1, 2))
     yield "a changed case", one - other
     yield "a generated part", ["it is made"] if generate.generated(page, STALE) != STALE else []
+    yield "a stale header", ["it is made"] if "iobuf_len(" in header.made(STALE_HEADER) else []
 
 
 def faults_of_generated(file, make, write):
@@ -99,6 +102,8 @@ def results(write):
     """Each check with what it finds."""
     for page in PAGES:
         yield from results_of_page(page, write)
+    declared = partial(header.made, header.HEADER.read_text())
+    yield "declarations of c/include/iobufs.h", faults_of_generated(header.HEADER, declared, write)
     crates = sorted(CRATES.iterdir())
     yield "examples of conditions", generate.faults_of_conditions([*generate.SHORT, *generate.SURE])
     yield "cells of docs/API.md", generate.faults_of_cells((ROOT / "docs/API.md").read_text().splitlines())

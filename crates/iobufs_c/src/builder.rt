@@ -1,4 +1,5 @@
-// Builders, reached by their handles.
+// iobufs_builder (Builder): bytes that are put, and views that are pushed, as one iobufs. The empty one
+// takes views alone.
 ghost use Rattle.std.specs.Prelude.{◌≡◌, ◌≤◌, ◌<◌, ◌==◌, ◌∷◌, [], if◌then◌else◌, ◌^◌, length, replicate, nat_le};
 ghost use Rattle.std.specs.Borrow.{sem, Lends, full_share};
 ghost use Rattle.std.specs.Ptr.{lies_at, room_at};
@@ -48,7 +49,7 @@ impl BuilderAt {
     }
 }
 
-/// Returns how many bytes of memory a `Builder` takes.
+/// Returns the library's size of a `struct iobufs_builder`.
 #[unsafe(no_mangle)]
 pub extern "C" fn iobufs_builder_size() -> usize
     ensures value { result ≡ 112 }
@@ -56,7 +57,7 @@ pub extern "C" fn iobufs_builder_size() -> usize
     mem::size_of::<Builder>()
 }
 
-/// Makes an empty builder of memory.
+/// Makes the empty builder of memory. (own)
 #[unsafe(no_mangle)]
 pub unsafe extern "C" fn iobufs_builder_init(alloc: Global, at: *mut u8)
     requires* { sem 𝓛 (room_at builder_row at) }
@@ -65,7 +66,7 @@ pub unsafe extern "C" fn iobufs_builder_init(alloc: Global, at: *mut u8)
     (at as *mut Builder).write(Builder::empty(alloc));
 }
 
-/// Drops the builder; an empty one is left.
+/// Drops the builder; the empty one is left. (Drop)
 #[unsafe(no_mangle)]
 pub extern "C" fn iobufs_builder_drop(alloc: Global, builder: &mut BuilderAt)
     ensures at { builder.new.at ≡ builder.old.at }
@@ -74,8 +75,8 @@ pub extern "C" fn iobufs_builder_drop(alloc: Global, builder: &mut BuilderAt)
     *builder.get() = Builder::empty(alloc);
 }
 
-/// Makes a builder for `capacity` inline bytes. Returns `Status::BadLayout` above `isize::MAX`, or `Status::Memory` if
-/// an allocation fails; then `out` is unchanged.
+/// Makes a builder for this many bytes that are put. (Builder::new)
+/// Fails: IOBUFS_BAD_LAYOUT if they are above SSIZE_MAX; IOBUFS_MEMORY except for 0.
 #[unsafe(no_mangle)]
 pub extern "C" fn iobufs_builder_new(alloc: Global, capacity: usize, out: &mut BuilderAt) -> u8
     ensures at { out.new.at ≡ out.old.at }
@@ -93,7 +94,7 @@ pub extern "C" fn iobufs_builder_new(alloc: Global, capacity: usize, out: &mut B
     }
 }
 
-/// Returns how many bytes may still be put.
+/// Returns how many bytes may still be put. (BufMut::remaining_mut)
 #[unsafe(no_mangle)]
 pub extern "C" fn iobufs_builder_remaining_mut(builder: &mut BuilderAt) -> usize
     ensures same { (builder.new.at ≡ builder.old.at) × (builder.new.value ≡ builder.old.value) }
@@ -102,7 +103,8 @@ pub extern "C" fn iobufs_builder_remaining_mut(builder: &mut BuilderAt) -> usize
     builder.get().remaining_mut()
 }
 
-/// Writes bytes. Returns `Status::OutOfRange` if they don't fit; then nothing changes.
+/// Puts bytes. (BufMut::put_slice)
+/// Fails: IOBUFS_OUT_OF_RANGE if they don't fit.
 #[unsafe(no_mangle)]
 pub extern "C" fn iobufs_builder_put_slice(builder: &mut BuilderAt, src: &[u8]) -> u8
     ensures at { builder.new.at ≡ builder.old.at }
@@ -114,7 +116,8 @@ pub extern "C" fn iobufs_builder_put_slice(builder: &mut BuilderAt, src: &[u8]) 
     done_or(builder.get().try_put_slice(src), Status::OutOfRange)
 }
 
-/// Writes a byte `n` times. Returns `Status::OutOfRange` if `n` bytes don't fit; then nothing changes.
+/// Puts a byte n times. (BufMut::put_bytes)
+/// Fails: IOBUFS_OUT_OF_RANGE if they don't fit.
 #[unsafe(no_mangle)]
 pub extern "C" fn iobufs_builder_put_bytes(builder: &mut BuilderAt, value: u8, n: usize) -> u8
     ensures at { builder.new.at ≡ builder.old.at }
@@ -125,31 +128,32 @@ pub extern "C" fn iobufs_builder_put_bytes(builder: &mut BuilderAt, value: u8, n
     done_or(builder.get().try_put_bytes(value, n), Status::OutOfRange)
 }
 
-/// Pushes a view without copying, and leaves its handle empty. Returns `Status::TooLong` if the view is longer than
-/// pushes may still add, or `Status::Memory` if an allocation fails; then both are unchanged.
+/// Pushes a view, not copied, and leaves its handle empty. (Builder::push)
+/// Fails: IOBUFS_TOO_LONG if the bytes would pass SIZE_MAX; IOBUFS_MEMORY, for the deque.
+/// Keeps: both.
 #[unsafe(no_mangle)]
-pub extern "C" fn iobufs_builder_push(builder: &mut BuilderAt, piece: &mut ViewAt) -> u8
-    ensures at { (builder.new.at ≡ builder.old.at) × (piece.new.at ≡ piece.old.at) }
+pub extern "C" fn iobufs_builder_push(builder: &mut BuilderAt, view: &mut ViewAt) -> u8
+    ensures at { (builder.new.at ≡ builder.old.at) × (view.new.at ≡ view.old.at) }
     ensures value { builder.new.value ≡ (if result == 0 then building_push builder.old.value
-        piece.old.value else builder.old.value) }
-    ensures piece { piece.new.value ≡ (if result == 0 then default_view else piece.old.value) }
-    ensures too_long { room_for_pushes builder.old.value < length piece.old.value.bytes
+        view.old.value else builder.old.value) }
+    ensures view { view.new.value ≡ (if result == 0 then default_view else view.old.value) }
+    ensures too_long { room_for_pushes builder.old.value < length view.old.value.bytes
         → result ≡ code_of Status.TooLong }
-    ensures memory { length piece.old.value.bytes ≤ room_for_pushes builder.old.value
+    ensures memory { length view.old.value.bytes ≤ room_for_pushes builder.old.value
         → IsDoneUnless result Status.Memory }
-    ensures nothing { length piece.old.value.bytes ≡ 0 → result ≡ 0 }
+    ensures nothing { length view.old.value.bytes ≡ 0 → result ≡ 0 }
 {
-    match builder.get().push(mem::take(piece.get())) {
+    match builder.get().push(mem::take(view.get())) {
         Ok(()) => Status::Done.code(),
         Err(refused) => {
-            *piece.get() = refused.value;
+            *view.get() = refused.value;
             refusal(refused.cause)
         }
     }
 }
 
-/// Finishes the builder to an `IoBufs`; an empty builder is left. Returns `Status::Memory` if an allocation fails; then
-/// the builder is dropped, and `out` unchanged.
+/// Makes an iobufs of all that was put and pushed; the empty builder is left, also after an error. (Builder::finish)
+/// Fails: IOBUFS_MEMORY (reserved).
 #[unsafe(no_mangle)]
 pub extern "C" fn iobufs_builder_finish(
     alloc: Global,

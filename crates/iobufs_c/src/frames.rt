@@ -1,4 +1,5 @@
-// Frames, reached by their handles.
+// iobufs_frames (Frames): frames, each a header and a body, of bytes that come in chunks. The header is a
+// length, unless iobufs_frames_set_layout says otherwise.
 ghost use Rattle.std.specs.Prelude.{◌≡◌, ◌⊎◌, ◌+◌, ◌≤◌, ◌<◌, ◌^◌, ◌==◌, if◌then◌else◌, ◌++◌, length, drop, nat_le, false, true, IfNone, IfSome};
 ghost use Rattle.std.specs.Borrow.{sem, Lends, full_share};
 ghost use Rattle.std.specs.Ptr.{lies_at, room_at};
@@ -59,7 +60,7 @@ fn empty(_alloc: Global) -> Frames
     Frames::default()
 }
 
-/// Returns how many bytes of memory a `Frames` takes.
+/// Returns the library's size of a `struct iobufs_frames`.
 #[unsafe(no_mangle)]
 pub extern "C" fn iobufs_frames_size() -> usize
     ensures value { result ≡ 64 }
@@ -67,7 +68,7 @@ pub extern "C" fn iobufs_frames_size() -> usize
     mem::size_of::<Frames>()
 }
 
-/// Makes frames of memory, to which nothing was fed.
+/// Makes frames of memory, to which nothing was fed, with varint lengths. (own)
 #[unsafe(no_mangle)]
 pub unsafe extern "C" fn iobufs_frames_init(alloc: Global, at: *mut u8)
     requires* { sem 𝓛 (room_at frames_row at) }
@@ -76,7 +77,7 @@ pub unsafe extern "C" fn iobufs_frames_init(alloc: Global, at: *mut u8)
     (at as *mut Frames).write(empty(alloc));
 }
 
-/// Drops what was fed.
+/// Drops what was fed; nothing is left, and lengths are varints. (Drop)
 #[unsafe(no_mangle)]
 pub extern "C" fn iobufs_frames_drop(frames: &mut FramesAt)
     ensures at { frames.new.at ≡ frames.old.at }
@@ -85,7 +86,7 @@ pub extern "C" fn iobufs_frames_drop(frames: &mut FramesAt)
     *frames.get() = Frames::default();
 }
 
-/// Returns how many bytes were fed and not taken.
+/// Returns how many bytes were fed and not taken. (own)
 #[unsafe(no_mangle)]
 pub extern "C" fn iobufs_frames_len(frames: &mut FramesAt) -> usize
     ensures same { (frames.new.at ≡ frames.old.at) × (frames.new.value ≡ frames.old.value) }
@@ -94,8 +95,8 @@ pub extern "C" fn iobufs_frames_len(frames: &mut FramesAt) -> usize
     frames.get().rest().len()
 }
 
-/// Clones the bytes that were fed and not taken, in their storage. Returns `Status::Memory` if an allocation fails;
-/// then `out` is unchanged.
+/// Makes an iobufs of the bytes that were fed and not taken, in their storage. (own)
+/// Fails: IOBUFS_MEMORY, for the deque.
 #[unsafe(no_mangle)]
 pub extern "C" fn iobufs_frames_rest(frames: &mut FramesAt, out: &mut TextAt) -> u8
     ensures same { (frames.new.at ≡ frames.old.at) × (frames.new.value ≡ frames.old.value) }
@@ -115,34 +116,37 @@ pub extern "C" fn iobufs_frames_rest(frames: &mut FramesAt, out: &mut TextAt) ->
     }
 }
 
-/// Feeds a view at the end, and leaves its handle empty. Returns `Status::TooLong` if the length would be above
-/// `usize::MAX`, or `Status::Memory` if an allocation fails; then both are unchanged.
+/// Adds a view at the end, and leaves its handle empty. Each view that is held takes 40 to 120 bytes besides its
+/// storage, even if it has one byte: bound the number of views too, or read into a struct iobufs_received, which has
+/// one block. (own)
+/// Fails: IOBUFS_TOO_LONG if the length would pass SIZE_MAX; IOBUFS_MEMORY if the list of chunks has to grow.
+/// Keeps: both.
 #[unsafe(no_mangle)]
-pub extern "C" fn iobufs_frames_feed(alloc: Global, frames: &mut FramesAt, piece: &mut ViewAt) -> u8
-    ensures at { (frames.new.at ≡ frames.old.at) × (piece.new.at ≡ piece.old.at) }
+pub extern "C" fn iobufs_frames_feed(alloc: Global, frames: &mut FramesAt, view: &mut ViewAt) -> u8
+    ensures at { (frames.new.at ≡ frames.old.at) × (view.new.at ≡ view.old.at) }
     ensures frames { frames.new.value ≡ (if result == 0
-        then record { layout = frames.old.value.layout; rest = text_append frames.old.value.rest piece.old.value }
+        then record { layout = frames.old.value.layout; rest = text_append frames.old.value.rest view.old.value }
         else frames.old.value) }
-    ensures piece { piece.new.value ≡ (if result == 0 then default_view else piece.old.value) }
-    ensures too_long { 2 ^ 64 ≤ text_len frames.old.value.rest + length piece.old.value.bytes
+    ensures view { view.new.value ≡ (if result == 0 then default_view else view.old.value) }
+    ensures too_long { 2 ^ 64 ≤ text_len frames.old.value.rest + length view.old.value.bytes
         → result ≡ code_of Status.TooLong }
-    ensures memory { text_len frames.old.value.rest + length piece.old.value.bytes < 2 ^ 64
+    ensures memory { text_len frames.old.value.rest + length view.old.value.bytes < 2 ^ 64
         → IsDoneUnless result Status.Memory }
-    ensures nothing { length piece.old.value.bytes ≡ 0 → result ≡ 0 }
+    ensures nothing { length view.old.value.bytes ≡ 0 → result ≡ 0 }
     ensures onto_nothing { length frames.old.value.rest.bytes ≡ 0 → result ≡ 0 }
 {
-    let view = mem::take(piece.get());
-    match frames.get().feed(alloc, view) {
+    let taken = mem::take(view.get());
+    match frames.get().feed(alloc, taken) {
         Ok(()) => Status::Done.code(),
         Err(refused) => {
-            *piece.get() = refused.value;
+            *view.get() = refused.value;
             refusal(refused.cause)
         }
     }
 }
 
-/// Sets the layout of the headers, from the next frame on. Returns `Status::BadKind` if the kind of the prefix is
-/// unknown.
+/// Sets the layout of the headers, from the next frame on. (own)
+/// Fails: IOBUFS_BAD_KIND if `layout->prefix` is no `enum iobufs_prefix`.
 #[unsafe(no_mangle)]
 pub extern "C" fn iobufs_frames_set_layout(frames: &mut FramesAt, layout: &LayoutInC) -> u8
     ensures at { frames.new.at ≡ frames.old.at }
@@ -159,9 +163,11 @@ pub extern "C" fn iobufs_frames_set_layout(frames: &mut FramesAt, layout: &Layou
     Status::Done.code()
 }
 
-/// Encodes a length in the form of a prefix, to be sent before a body, and writes how many bytes it has: at most ten.
-/// Returns `Status::BadKind` if the prefix is unknown, `Status::TooLong` if the length doesn't fit the prefix, or
-/// `Status::OutOfRange` if the encoded length doesn't fit into `out`. If it fails, nothing is written.
+/// Writes a body's length n, which is sent before the body, as an `enum iobufs_prefix` to `out`, and its size to `len`:
+/// at most ten bytes. (own)
+/// Fails: IOBUFS_BAD_KIND if the prefix is unknown; IOBUFS_TOO_LONG if no length of this form is n; IOBUFS_OUT_OF_RANGE
+///   if the length doesn't fit into `room` bytes.
+/// Keeps: `out` and `len`.
 #[unsafe(no_mangle)]
 pub extern "C" fn iobufs_frames_length(prefix: u8, n: usize, out: &mut [u8], len: &mut usize) -> u8
     ensures unknown { IfNone (prefix_from_c prefix) (result ≡ code_of Status.BadKind) }
@@ -257,9 +263,13 @@ fn tell_chunks(
     }
 }
 
-/// Takes the first frame, whose body has `lo` to `hi` bytes. Returns `Status::EndOfBuffer` if it is not whole yet,
-/// `Status::InvalidVarint` or `Status::InvalidLength` if no further bytes can make it whole, or `Status::Memory`; an
-/// invalid length is written to `wrong`. Unless a frame is taken, both handles are unchanged.
+/// Takes the body of the first frame, which has from lo to hi bytes: shared within a chunk, a copy across chunks.
+/// Writes the number in the header to `wrong` if the body would be outside, or the number is below `counts`. No further
+/// bytes make a frame whole after IOBUFS_INVALID_VARINT or IOBUFS_INVALID_LENGTH. A loop of iobufs_frames_feed and this
+/// call is `Frames::run`. (own)
+/// Fails: IOBUFS_END_OF_BUFFER if it is not whole yet; IOBUFS_INVALID_VARINT if its length is invalid;
+///   IOBUFS_INVALID_LENGTH if the body's length is outside, or the number below `counts`; IOBUFS_MEMORY, for the copy.
+/// Keeps: both.
 #[unsafe(no_mangle)]
 pub extern "C" fn iobufs_frames_next(
     alloc: Global,
@@ -277,9 +287,11 @@ pub extern "C" fn iobufs_frames_next(
     tell(found, out, wrong)
 }
 
-/// Takes the first frame with its header, and writes how many bytes the header has. Returns the statuses of
-/// `iobufs_frames_next`, `Status::Memory` also for a static frame of several chunks. No byte is copied. Unless a frame
-/// is taken, both handles and `header` are unchanged.
+/// Takes the first frame with its header, as iobufs_frames_next takes its body, and writes how many bytes the header
+/// has to `header`. Its chunks share their storage: no byte is copied. (own)
+/// Fails: IOBUFS_END_OF_BUFFER if it is not whole yet; IOBUFS_INVALID_VARINT if its length is invalid;
+///   IOBUFS_INVALID_LENGTH if the body's length is outside, or the number below `counts`; IOBUFS_MEMORY, for the deque.
+/// Keeps: both, and `header`.
 #[unsafe(no_mangle)]
 pub extern "C" fn iobufs_frames_next_whole(
     alloc: Global,

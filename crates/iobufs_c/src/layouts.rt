@@ -51,11 +51,13 @@ pub(crate) fn layout_of(said: &LayoutInC) -> Option<Layout>
 }
 
 // The bytes around the length are one slice, so that each slice is passed in registers, as rust/c/src/lib.rs needs it.
-/// Encodes the header of a body of `n` bytes, to be sent before it, and writes how many bytes the header has: at most
-/// 32. The first `layout.before` bytes of `around` are before the length, and `layout.after` bytes after it. Returns
-/// `Status::BadKind` if the prefix is unknown, `Status::TooLong` if `around` has another number of bytes, or more than
-/// 22, if the length doesn't fit the prefix, or if header and body are longer than `usize::MAX`, and
-/// `Status::OutOfRange` if the header doesn't fit into `out`. If it fails, nothing is written.
+/// Writes the header of a body of n bytes, which is sent before it, to `out`, and its size to `len`: at most 32 bytes.
+/// The `count` bytes of `around` are those around its length: the first `layout->before` come before it, the others
+/// after. (own)
+/// Fails: IOBUFS_BAD_KIND if `layout->prefix` is unknown; IOBUFS_TOO_LONG if `count` isn't `before` and `after`
+///   together, or is above 22, if no length of this form is n with `counts`, or if header and body would pass SIZE_MAX;
+///   IOBUFS_OUT_OF_RANGE if the header doesn't fit into `room` bytes.
+/// Keeps: `out` and `len`.
 #[unsafe(no_mangle)]
 pub extern "C" fn iobufs_layout_header(
     layout: &LayoutInC,

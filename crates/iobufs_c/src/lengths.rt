@@ -1,4 +1,4 @@
-// Varint lengths, and bytes after their length.
+// Varint lengths: seven bits a byte, lowest first, in the shortest form.
 ghost use Rattle.std.specs.Prelude.{◌≡◌, ℕ, ◌==◌, if◌then◌else◌, length, nat_le, false, Ok, Err};
 ghost use Rattle.iobufs.specs.Building.{building_put, building_room};
 ghost use Rattle.iobufs.specs.Parts.{parts_fill, parts_spare};
@@ -20,7 +20,7 @@ use iobufs_core::buf::IoBuf;
 use iobufs_core::codec::{BufMut, EncodeSize, Error, RangeCfg, Read, Write};
 use std::alloc::Global;
 
-/// Returns how many bytes a varint length has.
+/// Returns the number of bytes of a varint length: at most ten. (usize::encode_size)
 #[unsafe(no_mangle)]
 pub extern "C" fn iobufs_length_size(n: usize) -> usize
     ensures { result ≡ length (spell n) }
@@ -28,7 +28,8 @@ pub extern "C" fn iobufs_length_size(n: usize) -> usize
     n.encode_inline_size()
 }
 
-/// Writes a varint length into an `IoBufMut`. Returns `Status::OutOfRange` if it doesn't fit; then nothing changes.
+/// Appends a varint length (see iobufs_length_size). (usize::write)
+/// Fails: IOBUFS_OUT_OF_RANGE if it doesn't fit.
 #[unsafe(no_mangle)]
 pub extern "C" fn iobufmut_put_length(part: &mut PartAt, n: usize) -> u8
     ensures at { part.new.at ≡ part.old.at }
@@ -44,7 +45,8 @@ pub extern "C" fn iobufmut_put_length(part: &mut PartAt, n: usize) -> u8
     Status::Done.code()
 }
 
-/// Writes a varint length into an `IoBufsMut`. Returns `Status::OutOfRange` if it doesn't fit; then nothing changes.
+/// Puts a varint length, part after part. (usize::write)
+/// Fails: IOBUFS_OUT_OF_RANGE if it doesn't fit.
 #[unsafe(no_mangle)]
 pub extern "C" fn iobufsmut_put_length(parts: &mut PartsAt, n: usize) -> u8
     ensures at { parts.new.at ≡ parts.old.at }
@@ -60,7 +62,8 @@ pub extern "C" fn iobufsmut_put_length(parts: &mut PartsAt, n: usize) -> u8
     Status::Done.code()
 }
 
-/// Writes a varint length into a builder. Returns `Status::OutOfRange` if it doesn't fit; then nothing changes.
+/// Appends a varint length. (usize::write)
+/// Fails: IOBUFS_OUT_OF_RANGE if it doesn't fit.
 #[unsafe(no_mangle)]
 pub extern "C" fn iobufs_builder_put_length(builder: &mut BuilderAt, n: usize) -> u8
     ensures at { builder.new.at ≡ builder.old.at }
@@ -77,31 +80,32 @@ pub extern "C" fn iobufs_builder_put_length(builder: &mut BuilderAt, n: usize) -
     Status::Done.code()
 }
 
-/// Reads the varint length at the front of an `IoBufs`, from `lo` to `hi`, and drops it. Returns `Status::EndOfBuffer`
-/// or `Status::InvalidVarint` if no valid varint is there whole, or `Status::InvalidLength` for another length, which
-/// is written to `out`; then the `IoBufs` is unchanged.
+/// Reads the length at the front, from lo to hi, and drops it. (usize::read_cfg)
+/// Fails: IOBUFS_END_OF_BUFFER if the length may continue after the end; IOBUFS_INVALID_VARINT if the length is
+///   invalid; IOBUFS_INVALID_LENGTH if the length is outside: it is written to `out` then.
+/// Keeps: the bytes.
 #[unsafe(no_mangle)]
 pub extern "C" fn iobufs_read_length(
     alloc: Global,
-    text: &mut TextAt,
+    bufs: &mut TextAt,
     lo: usize,
     hi: usize,
     out: &mut usize,
 ) -> u8
-    ensures at { text.new.at ≡ text.old.at }
-    ensures read { result ≡ 0 → IsLengthRead text.old.value.bytes (record { lo = lo; hi = hi }) (Ok out.new) }
-    ensures rest { result ≡ 0 → text.new.value ≡ text_advanced text.old.value (length (spell out.new)) }
-    ensures unchanged { (result == 0) ≡ false → text.new.value ≡ text.old.value }
+    ensures at { bufs.new.at ≡ bufs.old.at }
+    ensures read { result ≡ 0 → IsLengthRead bufs.old.value.bytes (record { lo = lo; hi = hi }) (Ok out.new) }
+    ensures rest { result ≡ 0 → bufs.new.value ≡ text_advanced bufs.old.value (length (spell out.new)) }
+    ensures unchanged { (result == 0) ≡ false → bufs.new.value ≡ bufs.old.value }
     ensures open { result ≡ code_of Status.EndOfBuffer
-        → IsLengthRead text.old.value.bytes (record { lo = lo; hi = hi }) (Err Error.EndOfBuffer) }
+        → IsLengthRead bufs.old.value.bytes (record { lo = lo; hi = hi }) (Err Error.EndOfBuffer) }
     ensures invalid { result ≡ code_of Status.InvalidVarint
-        → IsLengthRead text.old.value.bytes (record { lo = lo; hi = hi }) (Err Error.InvalidVarint) }
+        → IsLengthRead bufs.old.value.bytes (record { lo = lo; hi = hi }) (Err Error.InvalidVarint) }
     ensures outside { result ≡ code_of Status.InvalidLength
-        → IsLengthRead text.old.value.bytes (record { lo = lo; hi = hi }) (Err (Error.InvalidLength out.new)) }
+        → IsLengthRead bufs.old.value.bytes (record { lo = lo; hi = hi }) (Err (Error.InvalidLength out.new)) }
     ensures out { (result == 0) ≡ false → (result == code_of Status.InvalidLength) ≡ false → out.new ≡ out.old }
     ensures causes { IsReadCode result }
 {
-    match usize::read_cfg(alloc, text.get(), &RangeCfg { lo, hi }) {
+    match usize::read_cfg(alloc, bufs.get(), &RangeCfg { lo, hi }) {
         Ok(n) => {
             *out = n;
             Status::Done.code()
@@ -110,7 +114,10 @@ pub extern "C" fn iobufs_read_length(
     }
 }
 
-/// Reads the varint length at the front of a view, with the statuses of `iobufs_read_length`.
+/// Reads the length at the front of a view, as iobufs_read_length does. (Read)
+/// Fails: IOBUFS_END_OF_BUFFER if the length may continue after the end; IOBUFS_INVALID_VARINT if the length is
+///   invalid; IOBUFS_INVALID_LENGTH if the length is outside: it is written to `out` then.
+/// Keeps: the bytes.
 #[unsafe(no_mangle)]
 pub extern "C" fn iobuf_read_length(
     alloc: Global,
@@ -141,33 +148,35 @@ pub extern "C" fn iobuf_read_length(
     }
 }
 
-/// Reads a varint length from `lo` to `hi` at the front of an `IoBufs`, and the bytes after it as a view. Returns a
-/// status of `iobufs_read_length`, `Status::EndOfBuffer` also if fewer bytes follow, or `Status::Memory`; then both are
-/// unchanged.
+/// Reads a length from lo to hi and the bytes after it, as one view: shared within a chunk, a copy across chunks.
+/// (IoBuf::read_cfg)
+/// Fails: IOBUFS_END_OF_BUFFER if the length may continue after the end, or fewer bytes follow; IOBUFS_INVALID_VARINT
+///   if it is invalid; IOBUFS_INVALID_LENGTH if it is outside; IOBUFS_MEMORY, for the copy.
+/// Keeps: both.
 #[unsafe(no_mangle)]
 pub extern "C" fn iobufs_read_view(
     alloc: Global,
-    text: &mut TextAt,
+    bufs: &mut TextAt,
     lo: usize,
     hi: usize,
     out: &mut ViewAt,
 ) -> u8
-    ensures at { (text.new.at ≡ text.old.at) × (out.new.at ≡ out.old.at) }
-    ensures read { result ≡ 0 → IsViewRead text.old.value (record { lo = lo; hi = hi }) (Ok out.new.value) }
-    ensures rest { result ≡ 0 → text.new.value ≡ text_rest text.old.value (length (view_written out.new.value)) }
-    ensures unchanged { (result == 0) ≡ false → (text.new.value ≡ text.old.value) × (out.new.value ≡ out.old.value) }
+    ensures at { (bufs.new.at ≡ bufs.old.at) × (out.new.at ≡ out.old.at) }
+    ensures read { result ≡ 0 → IsViewRead bufs.old.value (record { lo = lo; hi = hi }) (Ok out.new.value) }
+    ensures rest { result ≡ 0 → bufs.new.value ≡ text_rest bufs.old.value (length (view_written out.new.value)) }
+    ensures unchanged { (result == 0) ≡ false → (bufs.new.value ≡ bufs.old.value) × (out.new.value ≡ out.old.value) }
     ensures open { result ≡ code_of Status.EndOfBuffer
-        → IsViewFault text.old.value (record { lo = lo; hi = hi }) Error.EndOfBuffer }
+        → IsViewFault bufs.old.value (record { lo = lo; hi = hi }) Error.EndOfBuffer }
     ensures invalid { result ≡ code_of Status.InvalidVarint
-        → IsViewFault text.old.value (record { lo = lo; hi = hi }) Error.InvalidVarint }
+        → IsViewFault bufs.old.value (record { lo = lo; hi = hi }) Error.InvalidVarint }
     ensures outside { result ≡ code_of Status.InvalidLength
-        → (n : ℕ) × IsViewFault text.old.value (record { lo = lo; hi = hi }) (Error.InvalidLength n) }
+        → (n : ℕ) × IsViewFault bufs.old.value (record { lo = lo; hi = hi }) (Error.InvalidLength n) }
     ensures memory { result ≡ code_of Status.Memory
-        → IsViewFault text.old.value (record { lo = lo; hi = hi }) Error.Memory }
-    ensures static_text { HasStaticView text.old.value (record { lo = lo; hi = hi }) → result ≡ 0 }
+        → IsViewFault bufs.old.value (record { lo = lo; hi = hi }) Error.Memory }
+    ensures static_text { HasStaticView bufs.old.value (record { lo = lo; hi = hi }) → result ≡ 0 }
     ensures causes { IsViewReadCode result }
 {
-    match IoBuf::read_cfg(alloc, text.get(), &RangeCfg { lo, hi }) {
+    match IoBuf::read_cfg(alloc, bufs.get(), &RangeCfg { lo, hi }) {
         Ok(view) => {
             *out.get() = view;
             Status::Done.code()
@@ -176,7 +185,10 @@ pub extern "C" fn iobufs_read_view(
     }
 }
 
-/// Reads a varint length and the bytes after it from a view, in its storage, with the statuses of `iobufs_read_view`.
+/// Reads a length and the bytes after it from a view, in its storage, as iobufs_read_view does. (IoBuf::read_cfg)
+/// Fails: IOBUFS_END_OF_BUFFER if the length may continue after the end, or fewer bytes follow; IOBUFS_INVALID_VARINT
+///   if it is invalid; IOBUFS_INVALID_LENGTH if it is outside; IOBUFS_MEMORY (reserved).
+/// Keeps: both.
 #[unsafe(no_mangle)]
 pub extern "C" fn iobuf_read_view(
     alloc: Global,

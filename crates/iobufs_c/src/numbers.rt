@@ -52,8 +52,9 @@ fn start_of(size: usize, order: u8) -> usize
     if order == 0 { 8 - size } else { 0 }
 }
 
-/// Writes the lowest `size` bytes of a number into an `IoBufMut`. Returns `Status::BadKind` if the size isn't 1, 2, 4
-/// or 8, or the order unknown, or `Status::OutOfRange` if they don't fit; then nothing changes.
+/// Puts the lowest `size` bytes of a number, in an `enum iobufs_order`. (own)
+/// Fails: IOBUFS_BAD_KIND if `size` isn't 1, 2, 4 or 8, or the order is unknown; IOBUFS_OUT_OF_RANGE if the bytes don't
+///   fit.
 #[unsafe(no_mangle)]
 pub extern "C" fn iobufmut_put_number(part: &mut PartAt, n: u64, size: u8, order: u8) -> u8
     ensures at { part.new.at ≡ part.old.at }
@@ -69,7 +70,9 @@ pub extern "C" fn iobufmut_put_number(part: &mut PartAt, n: u64, size: u8, order
     iobufmut_put_slice(part, &eight_of(n, order)[at..at + size as usize])
 }
 
-/// Writes a number into an `IoBufsMut`, with the statuses of `iobufmut_put_number`.
+/// Puts a number as iobufmut_put_number does, part after part. (own)
+/// Fails: IOBUFS_BAD_KIND if `size` isn't 1, 2, 4 or 8, or the order is unknown; IOBUFS_OUT_OF_RANGE if the bytes don't
+///   fit.
 #[unsafe(no_mangle)]
 pub extern "C" fn iobufsmut_put_number(parts: &mut PartsAt, n: u64, size: u8, order: u8) -> u8
     ensures at { parts.new.at ≡ parts.old.at }
@@ -85,7 +88,9 @@ pub extern "C" fn iobufsmut_put_number(parts: &mut PartsAt, n: u64, size: u8, or
     iobufsmut_put_slice(parts, &eight_of(n, order)[at..at + size as usize])
 }
 
-/// Writes a number into a builder, with the statuses of `iobufmut_put_number`.
+/// Puts a number as iobufmut_put_number does. (own)
+/// Fails: IOBUFS_BAD_KIND if `size` isn't 1, 2, 4 or 8, or the order is unknown; IOBUFS_OUT_OF_RANGE if the bytes don't
+///   fit.
 #[unsafe(no_mangle)]
 pub extern "C" fn iobufs_builder_put_number(
     builder: &mut BuilderAt,
@@ -106,8 +111,10 @@ pub extern "C" fn iobufs_builder_put_number(
     iobufs_builder_put_slice(builder, &eight_of(n, order)[at..at + size as usize])
 }
 
-/// Reads a number of `size` bytes off a view. Returns `Status::BadKind` if the size isn't 1, 2, 4 or 8, or the order
-/// unknown, or `Status::EndOfBuffer` if the view is shorter; then nothing changes.
+/// Reads the number of `size` bytes at the front, and drops it. (own)
+/// Fails: IOBUFS_BAD_KIND if `size` isn't 1, 2, 4 or 8, or the order is unknown; IOBUFS_END_OF_BUFFER if there are
+///   fewer bytes.
+/// Keeps: both.
 #[unsafe(no_mangle)]
 pub extern "C" fn iobuf_get_number(src: &mut ViewAt, size: u8, order: u8, out: &mut u64) -> u8
     ensures at { src.new.at ≡ src.old.at }
@@ -129,14 +136,17 @@ pub extern "C" fn iobuf_get_number(src: &mut ViewAt, size: u8, order: u8, out: &
     status
 }
 
-/// Reads a number of `size` bytes off an `IoBufs`, with the statuses of `iobuf_get_number`.
+/// Reads the number of `size` bytes at the front, as iobuf_get_number does. (own)
+/// Fails: IOBUFS_BAD_KIND if `size` isn't 1, 2, 4 or 8, or the order is unknown; IOBUFS_END_OF_BUFFER if there are
+///   fewer bytes.
+/// Keeps: both.
 #[unsafe(no_mangle)]
-pub extern "C" fn iobufs_get_number(text: &mut TextAt, size: u8, order: u8, out: &mut u64) -> u8
-    ensures at { text.new.at ≡ text.old.at }
-    ensures value { text.new.value ≡ (if result == 0 then text_advanced text.old.value size else text.old.value) }
-    ensures read { result ≡ 0 → number_eight order out.new ≡ number_padded size order (take size text.old.value.bytes) }
+pub extern "C" fn iobufs_get_number(bufs: &mut TextAt, size: u8, order: u8, out: &mut u64) -> u8
+    ensures at { bufs.new.at ≡ bufs.old.at }
+    ensures value { bufs.new.value ≡ (if result == 0 then text_advanced bufs.old.value size else bufs.old.value) }
+    ensures read { result ≡ 0 → number_eight order out.new ≡ number_padded size order (take size bufs.old.value.bytes) }
     ensures unread { (result == 0) ≡ false → out.new ≡ out.old }
-    ensures result { result ≡ (if is_number size order then (if nat_le size (length text.old.value.bytes) then 0 else
+    ensures result { result ≡ (if is_number size order then (if nat_le size (length bufs.old.value.bytes) then 0 else
         code_of Status.EndOfBuffer) else code_of Status.BadKind) }
 {
     if !is_known(size, order) {
@@ -144,7 +154,7 @@ pub extern "C" fn iobufs_get_number(text: &mut TextAt, size: u8, order: u8, out:
     }
     let mut bytes = [0; 8];
     let at = start_of(size as usize, order);
-    let status = iobufs_copy_to_slice(text, &mut bytes[at..at + size as usize]);
+    let status = iobufs_copy_to_slice(bufs, &mut bytes[at..at + size as usize]);
     if status == 0 {
         *out = number_of(bytes, order);
     }

@@ -1,4 +1,4 @@
-// Writable buffers, reached by their handles.
+// iobufmut (IoBufMut): a buffer to write, which never grows. The empty one has capacity 0.
 ghost use Rattle.std.specs.Prelude.{◌≡◌, ◌==◌, if◌then◌else◌, ◌∷◌, [], length, take, replicate, ◌+◌, nat_le, IsTrue, false, MatchResult, Ok, Err};
 ghost use Rattle.std.specs.Borrow.{sem, Lends, full_share};
 ghost use Rattle.std.specs.Ptr.{lies_at, null_ptr, room_at};
@@ -63,7 +63,7 @@ pub(crate) fn hand_part(made: Result<IoBufMut, BufError>, out: &mut PartAt) -> u
     }
 }
 
-/// Returns how many bytes of memory an `IoBufMut` takes.
+/// Returns the library's size of a `struct iobufmut`.
 #[unsafe(no_mangle)]
 pub extern "C" fn iobufmut_size() -> usize
     ensures value { result ≡ 56 }
@@ -71,7 +71,7 @@ pub extern "C" fn iobufmut_size() -> usize
     mem::size_of::<IoBufMut>()
 }
 
-/// Makes an empty buffer of memory.
+/// Makes the empty buffer of memory. (IoBufMut::default)
 #[unsafe(no_mangle)]
 pub unsafe extern "C" fn iobufmut_init(alloc: Global, at: *mut u8)
     requires* { sem 𝓛 (room_at part_row at) }
@@ -80,7 +80,7 @@ pub unsafe extern "C" fn iobufmut_init(alloc: Global, at: *mut u8)
     (at as *mut IoBufMut).write(IoBufMut::new(alloc));
 }
 
-/// Drops the buffer; an empty one is left.
+/// Drops the buffer; the empty one is left. (Drop)
 #[unsafe(no_mangle)]
 pub extern "C" fn iobufmut_drop(alloc: Global, part: &mut PartAt)
     ensures at { part.new.at ≡ part.old.at }
@@ -89,8 +89,8 @@ pub extern "C" fn iobufmut_drop(alloc: Global, part: &mut PartAt)
     *part.get() = IoBufMut::new(alloc);
 }
 
-/// Makes an empty buffer of exactly this capacity. Returns `Status::BadLayout` above `isize::MAX`, or `Status::Memory`
-/// if an allocation fails; then `out` is unchanged.
+/// Makes an empty buffer of capacity n. (IoBufMut::with_capacity)
+/// Fails: IOBUFS_BAD_LAYOUT if n is above SSIZE_MAX; IOBUFS_MEMORY except for 0.
 #[unsafe(no_mangle)]
 pub extern "C" fn iobufmut_with_capacity(alloc: Global, n: usize, out: &mut PartAt) -> u8
     ensures at { out.new.at ≡ out.old.at }
@@ -102,8 +102,8 @@ pub extern "C" fn iobufmut_with_capacity(alloc: Global, n: usize, out: &mut Part
     hand_part(IoBufMut::with_capacity(alloc, n), out)
 }
 
-/// Makes a buffer of `n` zeros. Returns `Status::BadLayout` above `isize::MAX`, or `Status::Memory` if an allocation
-/// fails; then `out` is unchanged.
+/// Makes a buffer of n bytes, all zero. (IoBufMut::zeroed)
+/// Fails: IOBUFS_BAD_LAYOUT if n is above SSIZE_MAX; IOBUFS_MEMORY except for 0.
 #[unsafe(no_mangle)]
 pub extern "C" fn iobufmut_zeroed(alloc: Global, n: usize, out: &mut PartAt) -> u8
     ensures at { out.new.at ≡ out.old.at }
@@ -116,8 +116,8 @@ pub extern "C" fn iobufmut_zeroed(alloc: Global, n: usize, out: &mut PartAt) -> 
     hand_part(IoBufMut::zeroed(alloc, n), out)
 }
 
-/// Copies bytes into a buffer without spare capacity. Returns `Status::Memory` if an allocation fails; then `out` is
-/// unchanged.
+/// Makes a copy of n bytes, without spare capacity. (From<&[u8]>)
+/// Fails: IOBUFS_MEMORY except for 0 bytes.
 #[unsafe(no_mangle)]
 pub extern "C" fn iobufmut_copy_from_slice(alloc: Global, src: &[u8], out: &mut PartAt) -> u8
     ensures at { out.new.at ≡ out.old.at }
@@ -128,8 +128,10 @@ pub extern "C" fn iobufmut_copy_from_slice(alloc: Global, src: &[u8], out: &mut 
     hand_part(IoBufMut::copy_from_slice(alloc, src), out)
 }
 
-/// Makes a writable buffer of a view of native storage that no other handle has, and leaves the empty view. Returns
-/// `Status::Declined` for any other view, except an empty static one; then both are unchanged.
+/// Recovers the storage as a writable buffer, and leaves the empty view. It recovers native storage that no other view
+/// shares: tested, not proved. (IoBuf::try_into_mut)
+/// Fails: IOBUFS_DECLINED if the storage isn't recovered.
+/// Keeps: the view.
 #[unsafe(no_mangle)]
 pub extern "C" fn iobuf_try_into_mut(alloc: Global, src: &mut ViewAt, out: &mut PartAt) -> u8
     ensures at { (src.new.at ≡ src.old.at) × (out.new.at ≡ out.old.at) }
@@ -150,8 +152,10 @@ pub extern "C" fn iobuf_try_into_mut(alloc: Global, src: &mut ViewAt, out: &mut 
     }
 }
 
-/// Makes a writable buffer of a view, recovered as by `iobuf_try_into_mut`, else copied, and leaves the empty view.
-/// Returns `Status::Memory` if an allocation fails; then both are unchanged.
+/// Makes a writable buffer of the bytes of a view: recovered as by iobuf_try_into_mut, else copied; the empty view is
+/// left. (From<IoBuf>)
+/// Fails: IOBUFS_MEMORY, for the copy.
+/// Keeps: both.
 #[unsafe(no_mangle)]
 pub extern "C" fn iobufmut_from_view(alloc: Global, src: &mut ViewAt, out: &mut PartAt) -> u8
     ensures at { (src.new.at ≡ src.old.at) × (out.new.at ≡ out.old.at) }
@@ -172,7 +176,7 @@ pub extern "C" fn iobufmut_from_view(alloc: Global, src: &mut ViewAt, out: &mut 
     }
 }
 
-/// Returns the number of readable bytes.
+/// Returns the number of readable bytes. (len)
 #[unsafe(no_mangle)]
 pub extern "C" fn iobufmut_len(part: &mut PartAt) -> usize
     ensures same { (part.new.at ≡ part.old.at) × (part.new.value ≡ part.old.value) }
@@ -181,7 +185,7 @@ pub extern "C" fn iobufmut_len(part: &mut PartAt) -> usize
     part.get().len()
 }
 
-/// Returns how many bytes fit, counted from the first readable one.
+/// Returns how many bytes fit, counted from the first readable one. (capacity)
 #[unsafe(no_mangle)]
 pub extern "C" fn iobufmut_capacity(part: &mut PartAt) -> usize
     ensures same { (part.new.at ≡ part.old.at) × (part.new.value ≡ part.old.value) }
@@ -190,7 +194,7 @@ pub extern "C" fn iobufmut_capacity(part: &mut PartAt) -> usize
     part.get().capacity()
 }
 
-/// Returns how many bytes may still be written.
+/// Returns how many bytes may still be put. (BufMut::remaining_mut)
 #[unsafe(no_mangle)]
 pub extern "C" fn iobufmut_remaining_mut(part: &mut PartAt) -> usize
     ensures same { (part.new.at ≡ part.old.at) × (part.new.value ≡ part.old.value) }
@@ -199,8 +203,8 @@ pub extern "C" fn iobufmut_remaining_mut(part: &mut PartAt) -> usize
     part.get().remaining_mut()
 }
 
-/// Writes the address of the readable bytes, and returns how many bytes there are. No other buffer shares them, so the
-/// caller may overwrite them; no contract says with which bytes.
+/// Writes a pointer to the readable bytes, as iobuf_chunk does, and returns how many there are. No other buffer shares
+/// them: they may be overwritten there, and no contract says with which bytes. (AsRef, AsMut)
 #[unsafe(no_mangle)]
 pub extern "C" fn iobufmut_chunk(part: &mut PartAt, out: &mut *mut u8) -> usize
     ensures same { (part.new.at ≡ part.old.at) × (part.new.value ≡ part.old.value) }
@@ -212,7 +216,8 @@ pub extern "C" fn iobufmut_chunk(part: &mut PartAt, out: &mut *mut u8) -> usize
     part.len()
 }
 
-/// Writes bytes after the readable ones. Returns `Status::OutOfRange` if they don't fit; then nothing changes.
+/// Appends bytes. (BufMut::put_slice)
+/// Fails: IOBUFS_OUT_OF_RANGE if they don't fit.
 #[unsafe(no_mangle)]
 pub extern "C" fn iobufmut_put_slice(part: &mut PartAt, src: &[u8]) -> u8
     ensures at { part.new.at ≡ part.old.at }
@@ -222,7 +227,8 @@ pub extern "C" fn iobufmut_put_slice(part: &mut PartAt, src: &[u8]) -> u8
     done_or(part.get().try_put_slice(src), Status::OutOfRange)
 }
 
-/// Writes a byte `n` times. Returns `Status::OutOfRange` if `n` bytes don't fit; then nothing changes.
+/// Puts a byte n times. (BufMut::put_bytes)
+/// Fails: IOBUFS_OUT_OF_RANGE if they don't fit.
 #[unsafe(no_mangle)]
 pub extern "C" fn iobufmut_put_bytes(part: &mut PartAt, value: u8, n: usize) -> u8
     ensures at { part.new.at ≡ part.old.at }
@@ -233,8 +239,8 @@ pub extern "C" fn iobufmut_put_bytes(part: &mut PartAt, value: u8, n: usize) -> 
     done_or(part.get().try_put_bytes(value, n), Status::OutOfRange)
 }
 
-/// Makes `n` bytes readable; those that were not are zero. Returns `Status::OutOfRange` above the capacity; then
-/// nothing changes.
+/// Makes n bytes readable; those that were not are zero. (set_len)
+/// Fails: IOBUFS_OUT_OF_RANGE if n is above the capacity.
 #[unsafe(no_mangle)]
 pub extern "C" fn iobufmut_set_len(part: &mut PartAt, n: usize) -> u8
     ensures at { part.new.at ≡ part.old.at }
@@ -244,7 +250,7 @@ pub extern "C" fn iobufmut_set_len(part: &mut PartAt, n: usize) -> u8
     done_or(part.get().try_set_len(n), Status::OutOfRange)
 }
 
-/// Keeps at most the first `n` bytes.
+/// Keeps at most the first n bytes. (truncate)
 #[unsafe(no_mangle)]
 pub extern "C" fn iobufmut_truncate(part: &mut PartAt, n: usize)
     ensures at { part.new.at ≡ part.old.at }
@@ -253,7 +259,8 @@ pub extern "C" fn iobufmut_truncate(part: &mut PartAt, n: usize)
     part.get().truncate(n);
 }
 
-/// Drops the first bytes. Returns `Status::OutOfRange` if there are fewer; then nothing changes.
+/// Drops the first n readable bytes. (Buf::advance)
+/// Fails: IOBUFS_OUT_OF_RANGE if there are fewer.
 #[unsafe(no_mangle)]
 pub extern "C" fn iobufmut_advance(part: &mut PartAt, n: usize) -> u8
     ensures at { part.new.at ≡ part.old.at }
@@ -263,7 +270,8 @@ pub extern "C" fn iobufmut_advance(part: &mut PartAt, n: usize) -> u8
     done_or(part.get().try_advance(n), Status::OutOfRange)
 }
 
-/// Copies the first bytes out, and drops them. Returns `Status::EndOfBuffer` if there are fewer; then nothing changes.
+/// Copies the first n bytes out and drops them. (Buf::copy_to_slice)
+/// Fails: IOBUFS_END_OF_BUFFER if there are fewer.
 #[unsafe(no_mangle)]
 pub extern "C" fn iobufmut_copy_to_slice(part: &mut PartAt, dst: &mut [u8]) -> u8
     ensures at { part.new.at ≡ part.old.at }
@@ -277,7 +285,8 @@ pub extern "C" fn iobufmut_copy_to_slice(part: &mut PartAt, dst: &mut [u8]) -> u
     done_or(is_done, Status::EndOfBuffer)
 }
 
-/// Overwrites readable bytes from an offset on. Returns `Status::OutOfRange` if fewer follow it; then nothing changes.
+/// Writes over n readable bytes from `at` on. (AsMut)
+/// Fails: IOBUFS_OUT_OF_RANGE if they pass the readable bytes.
 #[unsafe(no_mangle)]
 pub extern "C" fn iobufmut_write_at(part: &mut PartAt, at: usize, src: &[u8]) -> u8
     ensures at { part.new.at ≡ part.old.at }
@@ -295,8 +304,8 @@ pub extern "C" fn iobufmut_write_at(part: &mut PartAt, at: usize, src: &[u8]) ->
     Status::Done.code()
 }
 
-/// Freezes the buffer to a view; an empty buffer is left. Returns `Status::Memory` if an allocation fails (only of a
-/// buffer without an `Arc`); then the buffer is dropped, and `out` unchanged.
+/// Makes a view of the bytes, not copied; the empty buffer is left. (freeze)
+/// Fails: IOBUFS_MEMORY (reserved), and the buffer is dropped.
 #[unsafe(no_mangle)]
 pub extern "C" fn iobufmut_freeze(alloc: Global, part: &mut PartAt, out: &mut ViewAt) -> u8
     ensures at { (part.new.at ≡ part.old.at) × (out.new.at ≡ out.old.at) }

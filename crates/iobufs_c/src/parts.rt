@@ -1,4 +1,4 @@
-// Several writable buffers as one, reached by their handles.
+// iobufsmut (IoBufsMut): writable buffers (parts) as one. The empty one has one part, of capacity 0.
 ghost use Rattle.std.specs.Prelude.{◌≡◌, ◌⊎◌, ◌≤◌, ◌<◌, ◌^◌, ◌==◌, ◌∷◌, [], if◌then◌else◌, List, length, map, take, drop, min, replicate, nat_le, IfOk, IsOk, OnOk, OnErr, false};
 ghost use Rattle.std.specs.Borrow.{sem, Lends, full_share};
 ghost use Rattle.std.specs.Ptr.{lies_at, null_ptr, room_at};
@@ -55,7 +55,7 @@ fn empty(alloc: Global) -> IoBufsMut
     IoBufsMut::from(IoBufMut::new(alloc))
 }
 
-/// Returns how many bytes of memory an `IoBufsMut` takes.
+/// Returns the library's size of a `struct iobufsmut`.
 #[unsafe(no_mangle)]
 pub extern "C" fn iobufsmut_size() -> usize
     ensures value { result ≡ 80 }
@@ -63,7 +63,7 @@ pub extern "C" fn iobufsmut_size() -> usize
     mem::size_of::<IoBufsMut>()
 }
 
-/// Makes an empty `IoBufsMut` of memory.
+/// Makes the empty iobufsmut of memory. (IoBufsMut::default)
 #[unsafe(no_mangle)]
 pub unsafe extern "C" fn iobufsmut_init(alloc: Global, at: *mut u8)
     requires* { sem 𝓛 (room_at parts_row at) }
@@ -72,7 +72,7 @@ pub unsafe extern "C" fn iobufsmut_init(alloc: Global, at: *mut u8)
     (at as *mut IoBufsMut).write(empty(alloc));
 }
 
-/// Drops the buffers; an empty one is left.
+/// Drops the buffers; the empty iobufsmut is left. (Drop)
 #[unsafe(no_mangle)]
 pub extern "C" fn iobufsmut_drop(alloc: Global, parts: &mut PartsAt)
     ensures at { parts.new.at ≡ parts.old.at }
@@ -81,7 +81,7 @@ pub extern "C" fn iobufsmut_drop(alloc: Global, parts: &mut PartsAt)
     *parts.get() = empty(alloc);
 }
 
-/// Makes an `IoBufsMut` of one buffer, whose handle is left empty.
+/// Makes an iobufsmut of one buffer, whose handle is left empty. (From<IoBufMut>)
 #[unsafe(no_mangle)]
 pub extern "C" fn iobufsmut_from_mut(alloc: Global, part: &mut PartAt, out: &mut PartsAt)
     ensures at { (part.new.at ≡ part.old.at) × (out.new.at ≡ out.old.at) }
@@ -108,27 +108,31 @@ fn take_row(alloc: Global, places: &mut [PartAt]) -> Result<Vec<IoBufMut>, Alloc
     Ok(row)
 }
 
-/// Makes an `IoBufsMut` of the buffers of several handles, which are left empty. Returns `Status::TooLong` if the
-/// capacities are more than `usize::MAX` in all, or `Status::Memory`; if the first allocation fails, all stay, else the
-/// buffers are dropped.
+/// Makes an iobufsmut of the buffers of n handles in order, without those that can hold no byte; the handles are left
+/// empty. (FromIterator)
+/// Fails: IOBUFS_TOO_LONG if the capacities would pass SIZE_MAX; IOBUFS_MEMORY. After both the buffers may be dropped:
+///   all of them, or none.
 #[unsafe(no_mangle)]
 pub extern "C" fn iobufsmut_from_parts(
     alloc: Global,
-    places: &mut [PartAt],
+    buffers: &mut [PartAt],
     out: &mut PartsAt,
 ) -> u8
-    ensures at { (map (λ place. place.at) places.new ≡ map (λ place. place.at) places.old) × (out.new.at ≡ out.old.at) }
+    ensures at { (map (λ place. place.at) buffers.new ≡ map (λ place. place.at) buffers.old)
+        × (out.new.at ≡ out.old.at) }
     ensures value { out.new.value ≡ (if result == 0 then kept_parts
-        (map (λ place. place.value) places.old) else out.old.value) }
-    ensures taken { result ≡ 0 → map (λ place. place.value) places.new ≡ replicate (length places.old) (empty_part 0) }
-    ensures unchanged { (result == 0) ≡ false → (places.new ≡ places.old) ⊎ (map (λ place. place.value) places.new ≡
-        replicate (length places.old) (empty_part 0)) }
-    ensures too_long { 2 ^ 64 ≤ parts_capacity (map (λ place. place.value) places.old)
+        (map (λ place. place.value) buffers.old) else out.old.value) }
+    ensures taken { result ≡ 0
+        → map (λ place. place.value) buffers.new ≡ replicate (length buffers.old) (empty_part 0) }
+    ensures unchanged { (result == 0) ≡ false → (buffers.new ≡ buffers.old) ⊎ (map (λ place. place.value) buffers.new ≡
+        replicate (length buffers.old) (empty_part 0)) }
+    ensures too_long { 2 ^ 64 ≤ parts_capacity (map (λ place. place.value) buffers.old)
         → (result ≡ code_of Status.Memory) ⊎ (result ≡ code_of Status.TooLong) }
-    ensures fits { parts_capacity (map (λ place. place.value) places.old) < 2 ^ 64 → IsDoneUnless result Status.Memory }
-    ensures nothing { length places.old ≡ 0 → result ≡ 0 }
+    ensures fits { parts_capacity (map (λ place. place.value) buffers.old) < 2 ^ 64
+        → IsDoneUnless result Status.Memory }
+    ensures nothing { length buffers.old ≡ 0 → result ≡ 0 }
 {
-    let Ok(row) = take_row(alloc, places) else {
+    let Ok(row) = take_row(alloc, buffers) else {
         return Status::Memory.code();
     };
     match IoBufsMut::from_parts(alloc, row.into_iter()) {
@@ -140,7 +144,7 @@ pub extern "C" fn iobufsmut_from_parts(
     }
 }
 
-/// Returns the number of readable bytes.
+/// Returns the number of readable bytes. (len)
 #[unsafe(no_mangle)]
 pub extern "C" fn iobufsmut_len(parts: &mut PartsAt) -> usize
     ensures same { (parts.new.at ≡ parts.old.at) × (parts.new.value ≡ parts.old.value) }
@@ -149,7 +153,7 @@ pub extern "C" fn iobufsmut_len(parts: &mut PartsAt) -> usize
     parts.get().len()
 }
 
-/// Returns the sum of the buffers' capacities. A drained buffer counts with its spare capacity.
+/// Returns the sum of the parts' capacities; a drained part counts with its spare capacity. (capacity)
 #[unsafe(no_mangle)]
 pub extern "C" fn iobufsmut_capacity(parts: &mut PartsAt) -> usize
     ensures same { (parts.new.at ≡ parts.old.at) × (parts.new.value ≡ parts.old.value) }
@@ -158,7 +162,7 @@ pub extern "C" fn iobufsmut_capacity(parts: &mut PartsAt) -> usize
     parts.get().capacity()
 }
 
-/// Returns how many bytes may still be written.
+/// Returns how many bytes may still be put. (BufMut::remaining_mut)
 #[unsafe(no_mangle)]
 pub extern "C" fn iobufsmut_remaining_mut(parts: &mut PartsAt) -> usize
     ensures same { (parts.new.at ≡ parts.old.at) × (parts.new.value ≡ parts.old.value) }
@@ -167,7 +171,7 @@ pub extern "C" fn iobufsmut_remaining_mut(parts: &mut PartsAt) -> usize
     parts.get().remaining_mut()
 }
 
-/// Returns the number of buffers.
+/// Returns the number of parts. (own)
 #[unsafe(no_mangle)]
 pub extern "C" fn iobufsmut_part_count(parts: &mut PartsAt) -> usize
     ensures same { (parts.new.at ≡ parts.old.at) × (parts.new.value ≡ parts.old.value) }
@@ -176,8 +180,8 @@ pub extern "C" fn iobufsmut_part_count(parts: &mut PartsAt) -> usize
     parts.get().part_count()
 }
 
-/// Writes the address of the first chunk of the readable bytes, and returns the chunk's length. No other buffer shares
-/// the bytes, so the caller may overwrite them; no contract says with which bytes.
+/// Writes a pointer to the first chunk of the readable bytes, as iobuf_chunk does, and returns the chunk's length. No
+/// other buffer shares its bytes: they may be overwritten there, and no contract says with which bytes. (Buf::chunk)
 #[unsafe(no_mangle)]
 pub extern "C" fn iobufsmut_chunk(parts: &mut PartsAt, out: &mut *mut u8) -> usize
     ensures same { (parts.new.at ≡ parts.old.at) × (parts.new.value ≡ parts.old.value) }
@@ -224,7 +228,8 @@ fn fill_chunks(parts: &mut IoBufsMut, out: &mut [Chunk]) -> usize
     count
 }
 
-/// Fills a list for `readv` or `writev` with the first chunks of the readable bytes, and returns how many it filled.
+/// Fills a list of n for readv (or writev) with the first chunks of the readable bytes, and returns how many it filled.
+/// To read into parts, set their length first. (Buf::chunks_vectored)
 #[unsafe(no_mangle)]
 pub extern "C" fn iobufsmut_chunks(parts: &mut PartsAt, out: &mut [Chunk]) -> usize
     ensures same { (parts.new.at ≡ parts.old.at) × (parts.new.value ≡ parts.old.value) }
@@ -236,8 +241,8 @@ pub extern "C" fn iobufsmut_chunks(parts: &mut PartsAt, out: &mut [Chunk]) -> us
     fill_chunks(parts.get(), out)
 }
 
-/// Writes bytes into the spare capacity, buffer after buffer. Returns `Status::OutOfRange` if they don't fit; then
-/// nothing changes.
+/// Puts bytes, part after part. (BufMut::put_slice)
+/// Fails: IOBUFS_OUT_OF_RANGE if they don't fit.
 #[unsafe(no_mangle)]
 pub extern "C" fn iobufsmut_put_slice(parts: &mut PartsAt, src: &[u8]) -> u8
     ensures at { parts.new.at ≡ parts.old.at }
@@ -248,7 +253,8 @@ pub extern "C" fn iobufsmut_put_slice(parts: &mut PartsAt, src: &[u8]) -> u8
     done_or(parts.get().try_put_slice(src), Status::OutOfRange)
 }
 
-/// Writes a byte `n` times. Returns `Status::OutOfRange` if `n` bytes don't fit; then nothing changes.
+/// Puts a byte n times. (BufMut::put_bytes)
+/// Fails: IOBUFS_OUT_OF_RANGE if they don't fit.
 #[unsafe(no_mangle)]
 pub extern "C" fn iobufsmut_put_bytes(parts: &mut PartsAt, value: u8, n: usize) -> u8
     ensures at { parts.new.at ≡ parts.old.at }
@@ -259,8 +265,9 @@ pub extern "C" fn iobufsmut_put_bytes(parts: &mut PartsAt, value: u8, n: usize) 
     done_or(parts.get().try_put_bytes(value, n), Status::OutOfRange)
 }
 
-/// Makes `n` bytes readable, filling the buffers in order; those that were not are zero. A later buffer loses the
-/// readable bytes that `n` doesn't reach. Returns `Status::OutOfRange` above the capacity; then nothing changes.
+/// Makes n bytes readable, the parts filled in order; those that were not are zero. A part loses readable bytes that
+/// are above its share of the n. (set_len)
+/// Fails: IOBUFS_OUT_OF_RANGE if n is above the capacity.
 #[unsafe(no_mangle)]
 pub extern "C" fn iobufsmut_set_len(parts: &mut PartsAt, n: usize) -> u8
     ensures at { parts.new.at ≡ parts.old.at }
@@ -270,7 +277,8 @@ pub extern "C" fn iobufsmut_set_len(parts: &mut PartsAt, n: usize) -> u8
     done_or(parts.get().try_set_len(n), Status::OutOfRange)
 }
 
-/// Drops the first bytes. Returns `Status::OutOfRange` if there are fewer; then nothing changes.
+/// Drops the first n readable bytes; a drained part keeps its spare capacity. (Buf::advance)
+/// Fails: IOBUFS_OUT_OF_RANGE if there are fewer.
 #[unsafe(no_mangle)]
 pub extern "C" fn iobufsmut_advance(parts: &mut PartsAt, n: usize) -> u8
     ensures at { parts.new.at ≡ parts.old.at }
@@ -281,7 +289,8 @@ pub extern "C" fn iobufsmut_advance(parts: &mut PartsAt, n: usize) -> u8
     done_or(parts.get().try_advance(n), Status::OutOfRange)
 }
 
-/// Copies the first bytes out, and drops them. Returns `Status::EndOfBuffer` if there are fewer; then nothing changes.
+/// Copies the first n bytes out and drops them. (Buf::copy_to_slice)
+/// Fails: IOBUFS_END_OF_BUFFER if there are fewer.
 #[unsafe(no_mangle)]
 pub extern "C" fn iobufsmut_copy_to_slice(parts: &mut PartsAt, dst: &mut [u8]) -> u8
     ensures at { parts.new.at ≡ parts.old.at }
@@ -295,8 +304,8 @@ pub extern "C" fn iobufsmut_copy_to_slice(parts: &mut PartsAt, dst: &mut [u8]) -
     done_or(is_done, Status::EndOfBuffer)
 }
 
-/// Freezes the buffers that hold bytes to the chunks of one `IoBufs`; an empty buffer is left. Returns `Status::Memory`
-/// if an allocation fails; then they are dropped, and `out` unchanged.
+/// Makes the parts that hold bytes the chunks of one iobufs, not copied; the empty iobufsmut is left. (freeze)
+/// Fails: IOBUFS_MEMORY, for the deque, and the parts are dropped.
 #[unsafe(no_mangle)]
 pub extern "C" fn iobufsmut_freeze(alloc: Global, parts: &mut PartsAt, out: &mut TextAt) -> u8
     ensures at { (parts.new.at ≡ parts.old.at) × (out.new.at ≡ out.old.at) }
@@ -308,8 +317,9 @@ pub extern "C" fn iobufsmut_freeze(alloc: Global, parts: &mut PartsAt, out: &mut
     hand_text(mem::replace(parts.get(), empty(alloc)).freeze(alloc), out)
 }
 
-/// Joins the buffers into one, as `IoBufsMut::coalesce` does; an empty one is left. Returns `Status::BadLayout` if two
-/// or more hold more than `isize::MAX` bytes, or `Status::Memory`; then they are dropped, and `out` unchanged.
+/// Makes one buffer of the parts; the bytes of several are copied, perhaps into the first one's storage. The empty
+/// iobufsmut is left, also after an error. (coalesce)
+/// Fails: IOBUFS_BAD_LAYOUT if several have more than SSIZE_MAX bytes; IOBUFS_MEMORY, for the copy.
 #[unsafe(no_mangle)]
 pub extern "C" fn iobufsmut_coalesce(alloc: Global, parts: &mut PartsAt, out: &mut PartAt) -> u8
     ensures at { (parts.new.at ≡ parts.old.at) × (out.new.at ≡ out.old.at) }

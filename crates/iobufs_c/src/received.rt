@@ -1,4 +1,4 @@
-// Receive blocks, reached by their handles.
+// iobufs_received (Received): frames of bytes that are read into one block.
 ghost use Rattle.std.specs.Prelude.{◌≡◌, ◌⊎◌, ◌≤◌, ◌<◌, ◌==◌, if◌then◌else◌, length, nat_le, false, IfNone, IfSome};
 ghost use Rattle.std.specs.Borrow.{sem, Lends, full_share};
 ghost use Rattle.std.specs.Ptr.{lies_at, room_at};
@@ -55,7 +55,7 @@ fn empty(alloc: Global) -> Received
     Received::new(alloc, Prefix::Spelled)
 }
 
-/// Returns how many bytes of memory a `Received` takes.
+/// Returns the library's size of a `struct iobufs_received`.
 #[unsafe(no_mangle)]
 pub extern "C" fn iobufs_received_size() -> usize
     ensures value { result ≡ 112 }
@@ -63,7 +63,7 @@ pub extern "C" fn iobufs_received_size() -> usize
     mem::size_of::<Received>()
 }
 
-/// Makes an empty receive block of memory, of frames whose headers are varint lengths.
+/// Makes an empty receive block of memory, of frames whose headers are varint lengths. (own)
 #[unsafe(no_mangle)]
 pub unsafe extern "C" fn iobufs_received_init(alloc: Global, at: *mut u8)
     requires* { sem 𝓛 (room_at received_row at) }
@@ -72,7 +72,7 @@ pub unsafe extern "C" fn iobufs_received_init(alloc: Global, at: *mut u8)
     (at as *mut Received).write(empty(alloc));
 }
 
-/// Drops the receive block; the one that `iobufs_received_init` makes is left.
+/// Drops what came and was not taken; what iobufs_received_init makes is left. (Drop)
 #[unsafe(no_mangle)]
 pub extern "C" fn iobufs_received_drop(alloc: Global, received: &mut ReceivedAt)
     ensures at { received.new.at ≡ received.old.at }
@@ -81,8 +81,8 @@ pub extern "C" fn iobufs_received_drop(alloc: Global, received: &mut ReceivedAt)
     *received.get() = empty(alloc);
 }
 
-/// Makes an empty receive block of frames with this layout. Allocates nothing. Returns `Status::BadKind` if the kind of
-/// the prefix is unknown.
+/// Makes an empty receive block of frames with this layout. (own)
+/// Fails: IOBUFS_BAD_KIND if `layout->prefix` is no `enum iobufs_prefix`.
 #[unsafe(no_mangle)]
 pub extern "C" fn iobufs_received_with_layout(
     alloc: Global,
@@ -102,8 +102,8 @@ pub extern "C" fn iobufs_received_with_layout(
     Status::Done.code()
 }
 
-/// Sets the layout of the headers, from the next frame on. Returns `Status::BadKind` if the kind of the prefix is
-/// unknown.
+/// Sets the layout of the headers, from the next frame on. (own)
+/// Fails: IOBUFS_BAD_KIND if `layout->prefix` is no `enum iobufs_prefix`.
 #[unsafe(no_mangle)]
 pub extern "C" fn iobufs_received_set_layout(received: &mut ReceivedAt, layout: &LayoutInC) -> u8
     ensures at { received.new.at ≡ received.old.at }
@@ -120,7 +120,7 @@ pub extern "C" fn iobufs_received_set_layout(received: &mut ReceivedAt, layout: 
     Status::Done.code()
 }
 
-/// Returns how many bytes came and were not taken.
+/// Returns how many bytes came and were not taken. (own)
 #[unsafe(no_mangle)]
 pub extern "C" fn iobufs_received_len(received: &mut ReceivedAt) -> usize
     ensures same { (received.new.at ≡ received.old.at) × (received.new.value ≡ received.old.value) }
@@ -129,8 +129,11 @@ pub extern "C" fn iobufs_received_len(received: &mut ReceivedAt) -> usize
     received.get().len()
 }
 
-/// Makes space for a read, of at least one byte, and writes its address and how many bytes it has: zeros, or bytes that
-/// the block held before. Returns `Status::Memory` if an allocation fails; then `n` is unchanged.
+/// Lends the space for a read: writes its address to `out`, and to `n` how many bytes it has, at least one. They are
+/// zeros, or what the block held before. If there is no space, it uses the block again if no body shares it, and else
+/// allocates. It also allocates after a frame above 64 KiB, which has a block of its own. (own)
+/// Fails: IOBUFS_MEMORY if it allocates.
+/// Keeps: what came, and `n`.
 #[unsafe(no_mangle)]
 pub extern "C" fn iobufs_received_space(
     received: &mut ReceivedAt,
@@ -154,8 +157,10 @@ pub extern "C" fn iobufs_received_space(
     }
 }
 
-/// Counts the first `n` bytes of the space as received. Returns `Status::OutOfRange` if the space has fewer; then all
-/// is unchanged.
+/// Counts the first n bytes of the space as received, after they were written there; the space is what is after them.
+/// (own)
+/// Fails: IOBUFS_OUT_OF_RANGE if it has fewer.
+/// Keeps: the block.
 #[unsafe(no_mangle)]
 pub extern "C" fn iobufs_received_filled(received: &mut ReceivedAt, n: usize) -> u8
     ensures at { received.new.at ≡ received.old.at }
@@ -171,10 +176,13 @@ pub extern "C" fn iobufs_received_filled(received: &mut ReceivedAt, n: usize) ->
     Status::Done.code()
 }
 
-/// Takes the first frame, whose body has `lo` to `hi` bytes. Returns `Status::EndOfBuffer` if it is not whole yet,
-/// `Status::InvalidVarint` or `Status::InvalidLength` if no further bytes can make it whole, or `Status::Memory`; an
-/// invalid length is written to `wrong`. Unless a frame is taken, both handles are unchanged. The body is copied only
-/// from a block above 64 KiB that isn't its frame's alone.
+/// Takes the body of the first frame, which has from lo to hi bytes. It shares the block, and keeps at most its own
+/// frame or 64 KiB, whichever is more. It is copied only out of a block above 64 KiB of another size than its frame:
+/// read only after IOBUFS_END_OF_BUFFER, and none is copied. Writes to `wrong` what iobufs_frames_next does. (own)
+/// Fails: IOBUFS_END_OF_BUFFER if it is not whole yet; IOBUFS_INVALID_VARINT if its length is invalid;
+///   IOBUFS_INVALID_LENGTH if the body's length is outside, or the number below `counts`; IOBUFS_MEMORY, for the copy,
+///   and in the kit's build for a count.
+/// Keeps: both.
 #[unsafe(no_mangle)]
 pub extern "C" fn iobufs_received_next(
     received: &mut ReceivedAt,
@@ -191,8 +199,12 @@ pub extern "C" fn iobufs_received_next(
     tell(found, out, wrong)
 }
 
-/// Takes the first frame with its header, as `iobufs_received_next` takes its body, and writes how many bytes the
-/// header has. Unless a frame is taken, both handles and `header` are unchanged.
+/// Takes the first frame with its header, as iobufs_received_next takes its body, and writes how many bytes the header
+/// has to `header`. (own)
+/// Fails: IOBUFS_END_OF_BUFFER if it is not whole yet; IOBUFS_INVALID_VARINT if its length is invalid;
+///   IOBUFS_INVALID_LENGTH if the body's length is outside, or the number below `counts`; IOBUFS_MEMORY, for the copy,
+///   and in the kit's build for a count.
+/// Keeps: both, and `header`.
 #[unsafe(no_mangle)]
 pub extern "C" fn iobufs_received_next_whole(
     received: &mut ReceivedAt,

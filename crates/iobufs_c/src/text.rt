@@ -1,4 +1,4 @@
-// Bytes in several chunks, reached by their handles.
+// iobufs (IoBufs): bytes in several chunks, none of which is copied.
 ghost use Rattle.std.specs.Prelude.{◌≡◌, ℕ, ◌+◌, ◌-◌, ◌≤◌, ◌<◌, ◌^◌, ◌==◌, ◌++◌, ◌∷◌, [], List, if◌then◌else◌, length, take, drop, map, min, nat_le, true, false, MatchResult};
 ghost use Rattle.std.specs.Borrow.{sem, Lends, full_share};
 ghost use Rattle.std.specs.Ptr.{lies_at, null_ptr, room_at};
@@ -71,7 +71,7 @@ fn empty(_alloc: Global) -> IoBufs
     IoBufs::default()
 }
 
-/// Returns how many bytes of memory an `IoBufs` takes.
+/// Returns the library's size of a `struct iobufs`.
 #[unsafe(no_mangle)]
 pub extern "C" fn iobufs_size() -> usize
     ensures value { result ≡ 56 }
@@ -79,7 +79,7 @@ pub extern "C" fn iobufs_size() -> usize
     mem::size_of::<IoBufs>()
 }
 
-/// Makes an empty `IoBufs` of memory.
+/// Makes memory an empty iobufs. (IoBufs::default)
 #[unsafe(no_mangle)]
 pub unsafe extern "C" fn iobufs_init(alloc: Global, at: *mut u8)
     requires* { sem 𝓛 (room_at text_row at) }
@@ -88,16 +88,16 @@ pub unsafe extern "C" fn iobufs_init(alloc: Global, at: *mut u8)
     (at as *mut IoBufs).write(empty(alloc));
 }
 
-/// Drops the bytes; the empty `IoBufs` is left.
+/// Drops the bytes; the empty iobufs is left. (Drop)
 #[unsafe(no_mangle)]
-pub extern "C" fn iobufs_drop(text: &mut TextAt)
-    ensures at { text.new.at ≡ text.old.at }
-    ensures value { text.new.value ≡ default_text }
+pub extern "C" fn iobufs_drop(bufs: &mut TextAt)
+    ensures at { bufs.new.at ≡ bufs.old.at }
+    ensures value { bufs.new.value ≡ default_text }
 {
-    *text.get() = IoBufs::default();
+    *bufs.get() = IoBufs::default();
 }
 
-/// Makes an `IoBufs` of one view, whose handle is left empty.
+/// Makes an iobufs of one view, which is left empty. (From<IoBuf>)
 #[unsafe(no_mangle)]
 pub extern "C" fn iobufs_from_view(src: &mut ViewAt, out: &mut TextAt)
     ensures at { (src.new.at ≡ src.old.at) × (out.new.at ≡ out.old.at) }
@@ -108,28 +108,29 @@ pub extern "C" fn iobufs_from_view(src: &mut ViewAt, out: &mut TextAt)
     *out.get() = IoBufs::from(view);
 }
 
-/// Returns whether two `IoBufs` hold equal bytes, for every chunking.
+/// Returns whether both hold the same bytes, for every chunking. (==)
 #[unsafe(no_mangle)]
-pub extern "C" fn iobufs_eq(text: &mut TextAt, other: &mut TextAt) -> bool
-    ensures same { (text.new.at ≡ text.old.at) × (text.new.value ≡ text.old.value) }
+pub extern "C" fn iobufs_eq(bufs: &mut TextAt, other: &mut TextAt) -> bool
+    ensures same { (bufs.new.at ≡ bufs.old.at) × (bufs.new.value ≡ bufs.old.value) }
     ensures other { (other.new.at ≡ other.old.at) × (other.new.value ≡ other.old.value) }
-    ensures yes { result ≡ true → text.old.value.bytes ≡ other.old.value.bytes }
-    ensures no { text.old.value.bytes ≡ other.old.value.bytes → result ≡ true }
+    ensures yes { result ≡ true → bufs.old.value.bytes ≡ other.old.value.bytes }
+    ensures no { bufs.old.value.bytes ≡ other.old.value.bytes → result ≡ true }
 {
-    text.get() == other.get()
+    bufs.get() == other.get()
 }
 
-/// Clones an `IoBufs`, sharing its storage. Returns `Status::Memory` if an allocation fails; then `out` is unchanged.
+/// Makes another iobufs of the same bytes, in their storage. (Clone)
+/// Fails: IOBUFS_MEMORY, for the deque of chunks.
 #[unsafe(no_mangle)]
-pub extern "C" fn iobufs_clone(text: &mut TextAt, out: &mut TextAt) -> u8
-    ensures same { (text.new.at ≡ text.old.at) × (text.new.value ≡ text.old.value) }
+pub extern "C" fn iobufs_clone(bufs: &mut TextAt, out: &mut TextAt) -> u8
+    ensures same { (bufs.new.at ≡ bufs.old.at) × (bufs.new.value ≡ bufs.old.value) }
     ensures at { out.new.at ≡ out.old.at }
-    ensures value { out.new.value ≡ (if result == 0 then text.old.value else out.old.value) }
+    ensures value { out.new.value ≡ (if result == 0 then bufs.old.value else out.old.value) }
     ensures memory { IsDoneUnless result Status.Memory }
-    ensures free { is_single text.old.value ≡ true
-        → IsFreelyShared (record { bytes = text.old.value.bytes; mark = text.old.value.mark }) → result ≡ 0 }
+    ensures free { is_single bufs.old.value ≡ true
+        → IsFreelyShared (record { bytes = bufs.old.value.bytes; mark = bufs.old.value.mark }) → result ≡ 0 }
 {
-    match text.get().clone() {
+    match bufs.get().clone() {
         Ok(other) => {
             *out.get() = other;
             Status::Done.code()
@@ -138,296 +139,306 @@ pub extern "C" fn iobufs_clone(text: &mut TextAt, out: &mut TextAt) -> u8
     }
 }
 
-/// Returns the number of bytes.
+/// Returns the number of bytes. (IoBufs::len)
 #[unsafe(no_mangle)]
-pub extern "C" fn iobufs_len(text: &mut TextAt) -> usize
-    ensures same { (text.new.at ≡ text.old.at) × (text.new.value ≡ text.old.value) }
-    ensures value { result ≡ text_len text.old.value }
+pub extern "C" fn iobufs_len(bufs: &mut TextAt) -> usize
+    ensures same { (bufs.new.at ≡ bufs.old.at) × (bufs.new.value ≡ bufs.old.value) }
+    ensures value { result ≡ text_len bufs.old.value }
 {
-    text.get().len()
+    bufs.get().len()
 }
 
-/// Returns the number of chunks that hold bytes.
+/// Returns the number of chunks that hold bytes. (chunk_count)
 #[unsafe(no_mangle)]
-pub extern "C" fn iobufs_chunk_count(text: &mut TextAt) -> usize
-    ensures same { (text.new.at ≡ text.old.at) × (text.new.value ≡ text.old.value) }
-    ensures value { result ≡ count_of text.old.value }
+pub extern "C" fn iobufs_chunk_count(bufs: &mut TextAt) -> usize
+    ensures same { (bufs.new.at ≡ bufs.old.at) × (bufs.new.value ≡ bufs.old.value) }
+    ensures value { result ≡ count_of bufs.old.value }
 {
-    IoBufs::chunk_count(text.get())
+    IoBufs::chunk_count(bufs.get())
 }
 
-/// Writes the address of the first chunk, and returns its length.
+/// Writes a pointer to the first chunk, as iobuf_chunk does, and returns its length. (Buf::chunk)
 #[unsafe(no_mangle)]
-pub extern "C" fn iobufs_chunk(text: &mut TextAt, out: &mut *const u8) -> usize
-    ensures same { (text.new.at ≡ text.old.at) × (text.new.value ≡ text.old.value) }
-    ensures value { result ≡ length (first_chunk (text_chunks text.old.value)) }
+pub extern "C" fn iobufs_chunk(bufs: &mut TextAt, out: &mut *const u8) -> usize
+    ensures same { (bufs.new.at ≡ bufs.old.at) × (bufs.new.value ≡ bufs.old.value) }
+    ensures value { result ≡ length (first_chunk (text_chunks bufs.old.value)) }
     ensures address { out.new ≡ null_ptr → ⊥ }
 {
-    let chunk = text.get().chunk();
+    let chunk = bufs.get().chunk();
     *out = address(chunk);
     chunk.len()
 }
 
-/// Writes the index of the chunk that contains an offset, and the distance from its start. Returns `Status::OutOfRange`
-/// if the offset isn't within the bytes; then both are unchanged.
+/// Writes the index of the chunk that contains an offset, and the distance from its start. (own)
+/// Fails: IOBUFS_OUT_OF_RANGE if the offset is at the end, or after it.
 #[unsafe(no_mangle)]
 pub extern "C" fn iobufs_locate(
-    text: &mut TextAt,
+    bufs: &mut TextAt,
     at: usize,
     index: &mut usize,
     offset: &mut usize,
 ) -> u8
-    ensures same { (text.new.at ≡ text.old.at) × (text.new.value ≡ text.old.value) }
-    ensures result { result ≡ (if nat_le (text_len text.old.value) at then code_of Status.OutOfRange else 0) }
-    ensures index { result ≡ 0 → index.new + 1 ≡ keys_upto text.old.value at }
-    ensures offset { result ≡ 0 → greatest_key text.old.value at + offset.new ≡ at }
+    ensures same { (bufs.new.at ≡ bufs.old.at) × (bufs.new.value ≡ bufs.old.value) }
+    ensures result { result ≡ (if nat_le (text_len bufs.old.value) at then code_of Status.OutOfRange else 0) }
+    ensures index { result ≡ 0 → index.new + 1 ≡ keys_upto bufs.old.value at }
+    ensures offset { result ≡ 0 → greatest_key bufs.old.value at + offset.new ≡ at }
     ensures unchanged { (result == 0) ≡ false → (index.new ≡ index.old) × (offset.new ≡ offset.old) }
 {
-    let text = text.get();
-    if at >= text.len() {
+    let bufs = bufs.get();
+    if at >= bufs.len() {
         return Status::OutOfRange.code();
     }
-    let place = text.locate(at);
+    let place = bufs.locate(at);
     *index = place.index;
     *offset = place.offset;
     Status::Done.code()
 }
 
-/// Appends a view, and leaves its handle empty. Returns `Status::TooLong` if the length would be above `usize::MAX`, or
-/// `Status::Memory`; then both are unchanged.
+/// Adds a view at the end, and leaves its handle empty. (append)
+/// Fails: IOBUFS_TOO_LONG if the length would pass SIZE_MAX; IOBUFS_MEMORY if the list of chunks has to grow.
+/// Keeps: both.
 #[unsafe(no_mangle)]
-pub extern "C" fn iobufs_append(alloc: Global, text: &mut TextAt, piece: &mut ViewAt) -> u8
-    ensures at { (text.new.at ≡ text.old.at) × (piece.new.at ≡ piece.old.at) }
-    ensures text { text.new.value ≡
-        (if result == 0 then text_append text.old.value piece.old.value else text.old.value) }
-    ensures piece { piece.new.value ≡ (if result == 0 then default_view else piece.old.value) }
-    ensures too_long { 2 ^ 64 ≤ text_len text.old.value + length piece.old.value.bytes
+pub extern "C" fn iobufs_append(alloc: Global, bufs: &mut TextAt, view: &mut ViewAt) -> u8
+    ensures at { (bufs.new.at ≡ bufs.old.at) × (view.new.at ≡ view.old.at) }
+    ensures bufs { bufs.new.value ≡
+        (if result == 0 then text_append bufs.old.value view.old.value else bufs.old.value) }
+    ensures view { view.new.value ≡ (if result == 0 then default_view else view.old.value) }
+    ensures too_long { 2 ^ 64 ≤ text_len bufs.old.value + length view.old.value.bytes
         → result ≡ code_of Status.TooLong }
-    ensures memory { text_len text.old.value + length piece.old.value.bytes < 2 ^ 64
+    ensures memory { text_len bufs.old.value + length view.old.value.bytes < 2 ^ 64
         → IsDoneUnless result Status.Memory }
-    ensures nothing { length piece.old.value.bytes ≡ 0 → result ≡ 0 }
-    ensures onto_nothing { text_len text.old.value ≡ 0 → result ≡ 0 }
+    ensures nothing { length view.old.value.bytes ≡ 0 → result ≡ 0 }
+    ensures onto_nothing { text_len bufs.old.value ≡ 0 → result ≡ 0 }
 {
-    let view = mem::take(piece.get());
-    match text.get().append(alloc, view) {
+    let taken = mem::take(view.get());
+    match bufs.get().append(alloc, taken) {
         Ok(()) => Status::Done.code(),
         Err(refused) => {
-            *piece.get() = refused.value;
+            *view.get() = refused.value;
             refusal(refused.cause)
         }
     }
 }
 
-/// Prepends a view, and leaves its handle empty. Fails as `iobufs_append`.
+/// Adds a view at the start, and leaves its handle empty. (prepend)
+/// Fails: IOBUFS_TOO_LONG if the length would pass SIZE_MAX; IOBUFS_MEMORY if the list of chunks has to grow.
+/// Keeps: both.
 #[unsafe(no_mangle)]
-pub extern "C" fn iobufs_prepend(alloc: Global, text: &mut TextAt, piece: &mut ViewAt) -> u8
-    ensures at { (text.new.at ≡ text.old.at) × (piece.new.at ≡ piece.old.at) }
-    ensures text { text.new.value ≡
-        (if result == 0 then text_prepend text.old.value piece.old.value else text.old.value) }
-    ensures piece { piece.new.value ≡ (if result == 0 then default_view else piece.old.value) }
-    ensures too_long { 2 ^ 64 ≤ text_len text.old.value + length piece.old.value.bytes
+pub extern "C" fn iobufs_prepend(alloc: Global, bufs: &mut TextAt, view: &mut ViewAt) -> u8
+    ensures at { (bufs.new.at ≡ bufs.old.at) × (view.new.at ≡ view.old.at) }
+    ensures bufs { bufs.new.value ≡
+        (if result == 0 then text_prepend bufs.old.value view.old.value else bufs.old.value) }
+    ensures view { view.new.value ≡ (if result == 0 then default_view else view.old.value) }
+    ensures too_long { 2 ^ 64 ≤ text_len bufs.old.value + length view.old.value.bytes
         → result ≡ code_of Status.TooLong }
-    ensures memory { text_len text.old.value + length piece.old.value.bytes < 2 ^ 64
+    ensures memory { text_len bufs.old.value + length view.old.value.bytes < 2 ^ 64
         → IsDoneUnless result Status.Memory }
-    ensures nothing { length piece.old.value.bytes ≡ 0 → result ≡ 0 }
-    ensures onto_nothing { text_len text.old.value ≡ 0 → result ≡ 0 }
+    ensures nothing { length view.old.value.bytes ≡ 0 → result ≡ 0 }
+    ensures onto_nothing { text_len bufs.old.value ≡ 0 → result ≡ 0 }
 {
-    let view = mem::take(piece.get());
-    match text.get().prepend(alloc, view) {
+    let taken = mem::take(view.get());
+    match bufs.get().prepend(alloc, taken) {
         Ok(()) => Status::Done.code(),
         Err(refused) => {
-            *piece.get() = refused.value;
+            *view.get() = refused.value;
             refusal(refused.cause)
         }
     }
 }
 
-/// Splits the first bytes off. Returns `Status::OutOfRange` if there are fewer, or `Status::Memory`; then both are
-/// unchanged.
+/// Takes the first `at` bytes. (IoBufs::split_to)
+/// Fails: IOBUFS_OUT_OF_RANGE if there are fewer; IOBUFS_MEMORY if the smaller side has several chunks.
 #[unsafe(no_mangle)]
 pub extern "C" fn iobufs_split_to(
     alloc: Global,
-    text: &mut TextAt,
+    bufs: &mut TextAt,
     at: usize,
     out: &mut TextAt,
 ) -> u8
-    ensures at { (text.new.at ≡ text.old.at) × (out.new.at ≡ out.old.at) }
-    ensures text { text.new.value ≡ (if result == 0 then text_rest text.old.value at else text.old.value) }
-    ensures out { out.new.value ≡ (if result == 0 then text_split_front text.old.value at else out.old.value) }
-    ensures outside { text_len text.old.value < at → result ≡ code_of Status.OutOfRange }
-    ensures inside { at ≤ text_len text.old.value → IsDoneUnless result Status.Memory }
-    ensures free { at ≤ text_len text.old.value → SplitsFree text.old.value at → result ≡ 0 }
+    ensures at { (bufs.new.at ≡ bufs.old.at) × (out.new.at ≡ out.old.at) }
+    ensures bufs { bufs.new.value ≡ (if result == 0 then text_rest bufs.old.value at else bufs.old.value) }
+    ensures out { out.new.value ≡ (if result == 0 then text_split_front bufs.old.value at else out.old.value) }
+    ensures outside { text_len bufs.old.value < at → result ≡ code_of Status.OutOfRange }
+    ensures inside { at ≤ text_len bufs.old.value → IsDoneUnless result Status.Memory }
+    ensures free { at ≤ text_len bufs.old.value → SplitsFree bufs.old.value at → result ≡ 0 }
 {
-    match text.get().try_split_to(alloc, at) {
+    match bufs.get().try_split_to(alloc, at) {
         Some(front) => hand_text(front, out),
         None => Status::OutOfRange.code(),
     }
 }
 
-/// Clones the chunks of a range, in their storage. Returns `Status::OutOfRange` if it isn't within the bytes, or
-/// `Status::Memory`; then `out` is unchanged.
+/// Makes an iobufs of the bytes from offset lo to hi, in their storage. It costs the chunks of that range alone. (own)
+/// Fails: IOBUFS_OUT_OF_RANGE if lo is above hi, or hi above the length; IOBUFS_MEMORY.
 #[unsafe(no_mangle)]
 pub extern "C" fn iobufs_slice(
     alloc: Global,
-    text: &mut TextAt,
+    bufs: &mut TextAt,
     lo: usize,
     hi: usize,
     out: &mut TextAt,
 ) -> u8
-    ensures same { (text.new.at ≡ text.old.at) × (text.new.value ≡ text.old.value) }
+    ensures same { (bufs.new.at ≡ bufs.old.at) × (bufs.new.value ≡ bufs.old.value) }
     ensures at { out.new.at ≡ out.old.at }
-    ensures value { out.new.value ≡ (if result == 0 then text_split_front (text_rest text.old.value lo)
+    ensures value { out.new.value ≡ (if result == 0 then text_split_front (text_rest bufs.old.value lo)
         (hi - lo) else out.old.value) }
     ensures backwards { hi < lo → result ≡ code_of Status.OutOfRange }
-    ensures outside { text_len text.old.value < hi → result ≡ code_of Status.OutOfRange }
-    ensures inside { lo ≤ hi → hi ≤ text_len text.old.value → IsDoneUnless result Status.Memory }
-    ensures nothing { lo ≡ hi → hi ≤ text_len text.old.value → result ≡ 0 }
-    ensures static_text { lo ≤ hi → hi ≤ text_len text.old.value
-        → (taken_view text.old.value lo (hi - lo)).mark ≡ static_mark → result ≡ 0 }
+    ensures outside { text_len bufs.old.value < hi → result ≡ code_of Status.OutOfRange }
+    ensures inside { lo ≤ hi → hi ≤ text_len bufs.old.value → IsDoneUnless result Status.Memory }
+    ensures nothing { lo ≡ hi → hi ≤ text_len bufs.old.value → result ≡ 0 }
+    ensures static_text { lo ≤ hi → hi ≤ text_len bufs.old.value
+        → (taken_view bufs.old.value lo (hi - lo)).mark ≡ static_mark → result ≡ 0 }
 {
-    match text.get().try_slice(alloc, lo..hi) {
+    match bufs.get().try_slice(alloc, lo..hi) {
         Some(slice) => hand_text(slice, out),
         None => Status::OutOfRange.code(),
     }
 }
 
-/// Keeps at most the first `len` bytes. Returns `Status::Memory` if an allocation fails; then nothing changes.
+/// Keeps at most the first n bytes. (own)
+/// Fails: IOBUFS_MEMORY, unless n is 0 or there are no more.
+/// Keeps: all bytes.
 #[unsafe(no_mangle)]
-pub extern "C" fn iobufs_truncate(alloc: Global, text: &mut TextAt, len: usize) -> u8
-    ensures at { text.new.at ≡ text.old.at }
-    ensures kept { result ≡ 0 → len < text_len text.old.value → text.new.value ≡ text_split_front text.old.value len }
-    ensures longer { text_len text.old.value ≤ len → (text.new.value ≡ text.old.value) × (result ≡ 0) }
-    ensures unchanged { (result ≡ 0 → ⊥) → text.new.value ≡ text.old.value }
+pub extern "C" fn iobufs_truncate(alloc: Global, bufs: &mut TextAt, n: usize) -> u8
+    ensures at { bufs.new.at ≡ bufs.old.at }
+    ensures kept { result ≡ 0 → n < text_len bufs.old.value → bufs.new.value ≡ text_split_front bufs.old.value n }
+    ensures longer { text_len bufs.old.value ≤ n → (bufs.new.value ≡ bufs.old.value) × (result ≡ 0) }
+    ensures unchanged { (result ≡ 0 → ⊥) → bufs.new.value ≡ bufs.old.value }
     ensures memory { IsDoneUnless result Status.Memory }
-    ensures free { SplitsFree text.old.value len → result ≡ 0 }
+    ensures free { SplitsFree bufs.old.value n → result ≡ 0 }
 {
-    match text.get().truncate(alloc, len) {
+    match bufs.get().truncate(alloc, n) {
         Ok(()) => Status::Done.code(),
         Err(_) => Status::Memory.code(),
     }
 }
 
-/// Drops the first bytes. Returns `Status::OutOfRange` if there are fewer; then nothing changes.
+/// Drops the first n bytes. (Buf::advance)
+/// Fails: IOBUFS_OUT_OF_RANGE if there are fewer.
 #[unsafe(no_mangle)]
-pub extern "C" fn iobufs_advance(text: &mut TextAt, n: usize) -> u8
-    ensures at { text.new.at ≡ text.old.at }
-    ensures value { text.new.value ≡ (if nat_le n
-        (text_len text.old.value) then text_advanced text.old.value n else text.old.value) }
-    ensures result { result ≡ (if nat_le n (text_len text.old.value) then 0 else code_of Status.OutOfRange) }
+pub extern "C" fn iobufs_advance(bufs: &mut TextAt, n: usize) -> u8
+    ensures at { bufs.new.at ≡ bufs.old.at }
+    ensures value { bufs.new.value ≡ (if nat_le n
+        (text_len bufs.old.value) then text_advanced bufs.old.value n else bufs.old.value) }
+    ensures result { result ≡ (if nat_le n (text_len bufs.old.value) then 0 else code_of Status.OutOfRange) }
 {
-    done_or(text.get().try_advance(n), Status::OutOfRange)
+    done_or(bufs.get().try_advance(n), Status::OutOfRange)
 }
 
-/// Copies the first bytes out, and drops them. Returns `Status::EndOfBuffer` if there are fewer; then nothing changes.
+/// Copies the first n bytes out and drops them. (Buf::copy_to_slice)
+/// Fails: IOBUFS_END_OF_BUFFER if there are fewer.
 #[unsafe(no_mangle)]
-pub extern "C" fn iobufs_copy_to_slice(text: &mut TextAt, dst: &mut [u8]) -> u8
-    ensures at { text.new.at ≡ text.old.at }
-    ensures value { text.new.value ≡ (if nat_le (length dst.old)
-        (text_len text.old.value) then text_advanced text.old.value (length dst.old) else text.old.value) }
-    ensures bytes { dst.new ≡ (if nat_le (length dst.old) (text_len text.old.value) then take
-        (length dst.old) text.old.value.bytes else dst.old) }
+pub extern "C" fn iobufs_copy_to_slice(bufs: &mut TextAt, dst: &mut [u8]) -> u8
+    ensures at { bufs.new.at ≡ bufs.old.at }
+    ensures value { bufs.new.value ≡ (if nat_le (length dst.old)
+        (text_len bufs.old.value) then text_advanced bufs.old.value (length dst.old) else bufs.old.value) }
+    ensures bytes { dst.new ≡ (if nat_le (length dst.old) (text_len bufs.old.value) then take
+        (length dst.old) bufs.old.value.bytes else dst.old) }
     ensures result { result ≡ (if nat_le (length dst.old)
-        (text_len text.old.value) then 0 else code_of Status.EndOfBuffer) }
+        (text_len bufs.old.value) then 0 else code_of Status.EndOfBuffer) }
 {
-    let is_done = text.get().try_copy_to_slice(dst).is_ok();
+    let is_done = bufs.get().try_copy_to_slice(dst).is_ok();
     done_or(is_done, Status::EndOfBuffer)
 }
 
-/// Copies the bytes after the first `skip` out; none are dropped. Returns `Status::EndOfBuffer` if there are fewer;
-/// then nothing is written.
+/// Copies the n bytes after the first `skip` out, of which none is dropped. With 0 and iobufs_len it copies all. (own)
+/// Fails: IOBUFS_END_OF_BUFFER if there are fewer, and nothing is written.
 #[unsafe(no_mangle)]
-pub extern "C" fn iobufs_peek(text: &mut TextAt, skip: usize, dst: &mut [u8]) -> u8
-    ensures same { (text.new.at ≡ text.old.at) × (text.new.value ≡ text.old.value) }
-    ensures bytes { dst.new ≡ (if nat_le (skip + length dst.old) (text_len text.old.value) then take (length dst.old)
-        (drop skip text.old.value.bytes) else dst.old) }
+pub extern "C" fn iobufs_peek(bufs: &mut TextAt, skip: usize, dst: &mut [u8]) -> u8
+    ensures same { (bufs.new.at ≡ bufs.old.at) × (bufs.new.value ≡ bufs.old.value) }
+    ensures bytes { dst.new ≡ (if nat_le (skip + length dst.old) (text_len bufs.old.value) then take (length dst.old)
+        (drop skip bufs.old.value.bytes) else dst.old) }
     ensures result { result ≡ (if nat_le (skip + length dst.old)
-        (text_len text.old.value) then 0 else code_of Status.EndOfBuffer) }
+        (text_len bufs.old.value) then 0 else code_of Status.EndOfBuffer) }
 {
-    done_or(text.get().try_peek_slice(skip, dst), Status::EndOfBuffer)
+    done_or(bufs.get().try_peek_slice(skip, dst), Status::EndOfBuffer)
 }
 
-/// Takes the first bytes as one view: in the storage of their chunk, or a copy across chunks. Returns
-/// `Status::EndOfBuffer` if there are fewer, or `Status::Memory`; then both are unchanged.
+/// Takes the first n bytes as one view: shared within a chunk, a copy across chunks. (take_owned, Buf::copy_to_bytes)
+/// Fails: IOBUFS_END_OF_BUFFER if there are fewer; IOBUFS_MEMORY, for the copy.
 #[unsafe(no_mangle)]
-pub extern "C" fn iobufs_take(alloc: Global, text: &mut TextAt, n: usize, out: &mut ViewAt) -> u8
-    ensures at { (text.new.at ≡ text.old.at) × (out.new.at ≡ out.old.at) }
-    ensures text { text.new.value ≡ (if result == 0 then text_rest text.old.value n else text.old.value) }
-    ensures out { out.new.value ≡ (if result == 0 then taken_view text.old.value 0 n else out.old.value) }
-    ensures outside { text_len text.old.value < n → result ≡ code_of Status.EndOfBuffer }
-    ensures inside { n ≤ text_len text.old.value → IsDoneUnless result Status.Memory }
+pub extern "C" fn iobufs_take(alloc: Global, bufs: &mut TextAt, n: usize, out: &mut ViewAt) -> u8
+    ensures at { (bufs.new.at ≡ bufs.old.at) × (out.new.at ≡ out.old.at) }
+    ensures bufs { bufs.new.value ≡ (if result == 0 then text_rest bufs.old.value n else bufs.old.value) }
+    ensures out { out.new.value ≡ (if result == 0 then taken_view bufs.old.value 0 n else out.old.value) }
+    ensures outside { text_len bufs.old.value < n → result ≡ code_of Status.EndOfBuffer }
+    ensures inside { n ≤ text_len bufs.old.value → IsDoneUnless result Status.Memory }
     ensures nothing { n ≡ 0 → result ≡ 0 }
-    ensures whole { n ≤ text_len text.old.value → n ≡ length (first_chunk (text_chunks text.old.value)) → result ≡ 0 }
-    ensures static_text { n ≤ text_len text.old.value → (taken_view text.old.value 0 n).mark ≡ static_mark
+    ensures whole { n ≤ text_len bufs.old.value → n ≡ length (first_chunk (text_chunks bufs.old.value)) → result ≡ 0 }
+    ensures static_text { n ≤ text_len bufs.old.value → (taken_view bufs.old.value 0 n).mark ≡ static_mark
         → result ≡ 0 }
 {
-    let text = text.get();
-    if n > text.len() {
+    let bufs = bufs.get();
+    if n > bufs.len() {
         return Status::EndOfBuffer.code();
     }
-    hand(text.take_owned::<IoBuf>(alloc, n), out)
+    hand(bufs.take_owned::<IoBuf>(alloc, n), out)
 }
 
-/// Takes the `n` bytes after the first `skip`, which are dropped too, as `iobufs_take` does.
+/// Takes the n bytes after the first `skip`, which are dropped too, as one view, as iobufs_take does. (own)
+/// Fails: IOBUFS_END_OF_BUFFER if there are fewer; IOBUFS_MEMORY, for the copy.
 #[unsafe(no_mangle)]
 pub extern "C" fn iobufs_take_after(
     alloc: Global,
-    text: &mut TextAt,
+    bufs: &mut TextAt,
     skip: usize,
     n: usize,
     out: &mut ViewAt,
 ) -> u8
-    ensures at { (text.new.at ≡ text.old.at) × (out.new.at ≡ out.old.at) }
-    ensures text { text.new.value ≡ (if result == 0 then text_rest text.old.value (skip + n) else text.old.value) }
-    ensures out { out.new.value ≡ (if result == 0 then taken_view text.old.value skip n else out.old.value) }
-    ensures outside { text_len text.old.value < skip + n → result ≡ code_of Status.EndOfBuffer }
-    ensures inside { skip + n ≤ text_len text.old.value → IsDoneUnless result Status.Memory }
-    ensures nothing { n ≡ 0 → skip ≤ text_len text.old.value → result ≡ 0 }
-    ensures whole { skip + n ≤ text_len text.old.value → skip ≡ 0
-        → n ≡ length (first_chunk (text_chunks text.old.value)) → result ≡ 0 }
-    ensures static_text { skip + n ≤ text_len text.old.value → (taken_view text.old.value skip n).mark ≡ static_mark
+    ensures at { (bufs.new.at ≡ bufs.old.at) × (out.new.at ≡ out.old.at) }
+    ensures bufs { bufs.new.value ≡ (if result == 0 then text_rest bufs.old.value (skip + n) else bufs.old.value) }
+    ensures out { out.new.value ≡ (if result == 0 then taken_view bufs.old.value skip n else out.old.value) }
+    ensures outside { text_len bufs.old.value < skip + n → result ≡ code_of Status.EndOfBuffer }
+    ensures inside { skip + n ≤ text_len bufs.old.value → IsDoneUnless result Status.Memory }
+    ensures nothing { n ≡ 0 → skip ≤ text_len bufs.old.value → result ≡ 0 }
+    ensures whole { skip + n ≤ text_len bufs.old.value → skip ≡ 0
+        → n ≡ length (first_chunk (text_chunks bufs.old.value)) → result ≡ 0 }
+    ensures static_text { skip + n ≤ text_len bufs.old.value → (taken_view bufs.old.value skip n).mark ≡ static_mark
         → result ≡ 0 }
 {
-    let text = text.get();
-    let len = text.len();
+    let bufs = bufs.get();
+    let len = bufs.len();
     if skip > len || n > len - skip {
         return Status::EndOfBuffer.code();
     }
-    hand(text.take_owned_after::<IoBuf>(alloc, skip, n), out)
+    hand(bufs.take_owned_after::<IoBuf>(alloc, skip, n), out)
 }
 
-/// Coalesces the chunks into one view, with a copy of several, and leaves an empty `IoBufs`. Returns
-/// `Status::BadLayout` if several hold more than `isize::MAX` bytes, or `Status::Memory`; then the bytes are dropped:
-/// clone them first to keep them.
+/// Makes one view of all bytes, with a copy of several chunks. `bufs` is left empty, also after an error: clone `bufs`
+/// first to keep the bytes. (coalesce)
+/// Fails: IOBUFS_BAD_LAYOUT if several chunks have more than SSIZE_MAX bytes; IOBUFS_MEMORY, for the copy.
 #[unsafe(no_mangle)]
-pub extern "C" fn iobufs_coalesce(alloc: Global, text: &mut TextAt, out: &mut ViewAt) -> u8
-    ensures at { (text.new.at ≡ text.old.at) × (out.new.at ≡ out.old.at) }
-    ensures text { text.new.value ≡ default_text }
-    ensures out { result ≡ 0 → of_view out.new.value ≡ text_coalesced text.old.value }
+pub extern "C" fn iobufs_coalesce(alloc: Global, bufs: &mut TextAt, out: &mut ViewAt) -> u8
+    ensures at { (bufs.new.at ≡ bufs.old.at) × (out.new.at ≡ out.old.at) }
+    ensures bufs { bufs.new.value ≡ default_text }
+    ensures out { result ≡ 0 → of_view out.new.value ≡ text_coalesced bufs.old.value }
     ensures unchanged { (result == 0) ≡ false → out.new.value ≡ out.old.value }
-    ensures single { is_single text.old.value ≡ true → result ≡ 0 }
-    ensures bad_layout { is_single text.old.value ≡ false → 2 ^ 63 ≤ text_len text.old.value
+    ensures single { is_single bufs.old.value ≡ true → result ≡ 0 }
+    ensures bad_layout { is_single bufs.old.value ≡ false → 2 ^ 63 ≤ text_len bufs.old.value
         → result ≡ code_of Status.BadLayout }
-    ensures memory { text_len text.old.value < 2 ^ 63 → IsDoneUnless result Status.Memory }
+    ensures memory { text_len bufs.old.value < 2 ^ 63 → IsDoneUnless result Status.Memory }
 {
-    hand(mem::take(text.get()).coalesce(alloc), out)
+    hand(mem::take(bufs.get()).coalesce(alloc), out)
 }
 
-/// Takes the only chunk as a view. Returns `Status::Declined` if there are more; then both are unchanged.
+/// Takes the only chunk as a view; `bufs` is left empty. (try_into_single)
+/// Fails: IOBUFS_DECLINED if there are more.
+/// Keeps: the chunks.
 #[unsafe(no_mangle)]
-pub extern "C" fn iobufs_try_into_single(text: &mut TextAt, out: &mut ViewAt) -> u8
-    ensures at { (text.new.at ≡ text.old.at) × (out.new.at ≡ out.old.at) }
-    ensures single { result ≡ 0 → (text.old.value ≡ of_view out.new.value) × (text.new.value ≡ default_text) }
+pub extern "C" fn iobufs_try_into_single(bufs: &mut TextAt, out: &mut ViewAt) -> u8
+    ensures at { (bufs.new.at ≡ bufs.old.at) × (out.new.at ≡ out.old.at) }
+    ensures single { result ≡ 0 → (bufs.old.value ≡ of_view out.new.value) × (bufs.new.value ≡ default_text) }
     ensures declined { (result == 0) ≡ false
-        → (is_single text.old.value ≡ false) × (text.new.value ≡ text.old.value) × (out.new.value ≡ out.old.value) }
+        → (is_single bufs.old.value ≡ false) × (bufs.new.value ≡ bufs.old.value) × (out.new.value ≡ out.old.value) }
     ensures result { IsDoneUnless result Status.Declined }
 {
-    match mem::take(text.get()).try_into_single() {
+    match mem::take(bufs.get()).try_into_single() {
         Ok(piece) => {
             *out.get() = piece;
             Status::Done.code()
         }
         Err(whole) => {
-            *text.get() = whole;
+            *bufs.get() = whole;
             Status::Declined.code()
         }
     }
@@ -481,14 +492,15 @@ fn fill_chunks(text: &IoBufs, first: usize, out: &mut [Chunk]) -> usize
     count + fill_run(&behind, &mut out[count..])
 }
 
-/// Fills a list with the chunks from `first` on, and returns how many it filled.
+/// Fills a list of n with the chunks from chunk first on, counted from 0, and returns how many it filled; 0 if there
+/// are none. So a loop takes many chunks at a time. (own)
 #[unsafe(no_mangle)]
-pub extern "C" fn iobufs_chunks_from(text: &mut TextAt, first: usize, out: &mut [Chunk]) -> usize
-    ensures same { (text.new.at ≡ text.old.at) × (text.new.value ≡ text.old.value) }
-    ensures count { result ≡ min (length out.old) (length (text_chunks text.old.value) - first) }
+pub extern "C" fn iobufs_chunks_from(bufs: &mut TextAt, first: usize, out: &mut [Chunk]) -> usize
+    ensures same { (bufs.new.at ≡ bufs.old.at) × (bufs.new.value ≡ bufs.old.value) }
+    ensures count { result ≡ min (length out.old) (length (text_chunks bufs.old.value) - first) }
     ensures lengths { map (λ chunk. chunk.len) (take result out.new) ≡ map length
-        (take result (drop first (text_chunks text.old.value))) }
+        (take result (drop first (text_chunks bufs.old.value))) }
     ensures rest { drop result out.new ≡ drop result out.old }
 {
-    fill_chunks(text.get(), first, out)
+    fill_chunks(bufs.get(), first, out)
 }

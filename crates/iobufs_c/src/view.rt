@@ -1,4 +1,4 @@
-// Views, reached by their handles.
+// iobuf (IoBuf): a view of bytes, which shares their storage with its clones and slices.
 ghost use Rattle.std.specs.Prelude.{◌≡◌, ◌≤◌, ◌<◌, ◌==◌, if◌then◌else◌, length, take, nat_le, true, false, IfNone, IfSome, MatchResult};
 ghost use Rattle.std.specs.Borrow.{sem, Lends, full_share};
 ghost use Rattle.std.specs.Ptr.{lies_at, null_ptr, room_at};
@@ -74,7 +74,7 @@ fn empty(_alloc: Global) -> IoBuf
     IoBuf::default()
 }
 
-/// Returns how many bytes of memory an `IoBuf` takes.
+/// Returns the library's size of a `struct iobuf`.
 #[unsafe(no_mangle)]
 pub extern "C" fn iobuf_size() -> usize
     ensures value { result ≡ 48 }
@@ -82,7 +82,7 @@ pub extern "C" fn iobuf_size() -> usize
     mem::size_of::<IoBuf>()
 }
 
-/// Makes an empty view of memory.
+/// Makes the empty view of memory. (IoBuf::default)
 #[unsafe(no_mangle)]
 pub unsafe extern "C" fn iobuf_init(alloc: Global, at: *mut u8)
     requires* { sem 𝓛 (room_at view_row at) }
@@ -91,7 +91,7 @@ pub unsafe extern "C" fn iobuf_init(alloc: Global, at: *mut u8)
     (at as *mut IoBuf).write(empty(alloc));
 }
 
-/// Drops the bytes; the empty view is left.
+/// Drops the bytes; the empty view is left. (Drop)
 #[unsafe(no_mangle)]
 pub extern "C" fn iobuf_drop(src: &mut ViewAt)
     ensures at { src.new.at ≡ src.old.at }
@@ -100,7 +100,31 @@ pub extern "C" fn iobuf_drop(src: &mut ViewAt)
     *src.get() = IoBuf::default();
 }
 
-/// Returns the number of bytes.
+// The contract takes the bytes for static: only buffers made of them have their address, so nothing reads them later.
+/// Makes a view of n bytes, which aren't copied. They have to live, unchanged, until the last buffer made of them is
+/// dropped (duty 4). (From<&'static [u8]>)
+#[unsafe(no_mangle)]
+pub extern "C" fn iobuf_from_static(text: &'static [u8], out: &mut ViewAt)
+    ensures at { out.new.at ≡ out.old.at }
+    ensures value { out.new.value ≡ record { bytes = text.now; mark = static_mark } }
+{
+    *out.get() = IoBuf::from(text);
+}
+
+/// Makes a copy of n bytes. (IoBuf::copy_from_slice)
+/// Fails: IOBUFS_MEMORY except for 0 bytes.
+#[unsafe(no_mangle)]
+pub extern "C" fn iobuf_copy_from_slice(alloc: Global, src: &[u8], out: &mut ViewAt) -> u8
+    ensures at { out.new.at ≡ out.old.at }
+    ensures value { out.new.value ≡ (if result == 0 then if length src.now == 0 then default_view
+        else record { bytes = src.now; mark = native_mark (length src.now) } else out.old.value) }
+    ensures nothing { length src.now ≡ 0 → result ≡ 0 }
+    ensures memory { IsDoneUnless result Status.Memory }
+{
+    hand(IoBuf::copy_from_slice(alloc, src), out)
+}
+
+/// Returns the number of bytes. (IoBuf::len)
 #[unsafe(no_mangle)]
 pub extern "C" fn iobuf_len(src: &mut ViewAt) -> usize
     ensures same { (src.new.at ≡ src.old.at) × (src.new.value ≡ src.old.value) }
@@ -109,7 +133,8 @@ pub extern "C" fn iobuf_len(src: &mut ViewAt) -> usize
     src.get().len()
 }
 
-/// Writes the address of the bytes, and returns how many there are.
+/// Writes a pointer to the bytes, and returns how many there are; of none it isn't NULL, and may not be read. (AsRef,
+/// Buf::chunk)
 #[unsafe(no_mangle)]
 pub extern "C" fn iobuf_chunk(src: &mut ViewAt, out: &mut *const u8) -> usize
     ensures same { (src.new.at ≡ src.old.at) × (src.new.value ≡ src.old.value) }
@@ -121,7 +146,7 @@ pub extern "C" fn iobuf_chunk(src: &mut ViewAt, out: &mut *const u8) -> usize
     chunk.len()
 }
 
-/// Returns whether two views hold equal bytes.
+/// Returns whether two views hold the same bytes. (PartialEq)
 #[unsafe(no_mangle)]
 pub extern "C" fn iobuf_eq(src: &mut ViewAt, other: &mut ViewAt) -> bool
     ensures same { (src.new.at ≡ src.old.at) × (src.new.value ≡ src.old.value) }
@@ -133,8 +158,8 @@ pub extern "C" fn iobuf_eq(src: &mut ViewAt, other: &mut ViewAt) -> bool
     bytes == others
 }
 
-/// Clones a view, sharing its storage. Returns `Status::Memory` if the storage can't count one more owner; then `out`
-/// is unchanged.
+/// Makes another view of the same bytes, in their storage: no byte is copied. (Clone)
+/// Fails: IOBUFS_MEMORY (reserved).
 #[unsafe(no_mangle)]
 pub extern "C" fn iobuf_clone(src: &mut ViewAt, out: &mut ViewAt) -> u8
     ensures same { (src.new.at ≡ src.old.at) × (src.new.value ≡ src.old.value) }
@@ -152,7 +177,8 @@ pub extern "C" fn iobuf_clone(src: &mut ViewAt, out: &mut ViewAt) -> u8
     }
 }
 
-/// Drops the first bytes. Returns `Status::OutOfRange` if there are fewer; then nothing changes.
+/// Drops the first n bytes. (Buf::advance)
+/// Fails: IOBUFS_OUT_OF_RANGE if there are fewer.
 #[unsafe(no_mangle)]
 pub extern "C" fn iobuf_advance(src: &mut ViewAt, n: usize) -> u8
     ensures at { src.new.at ≡ src.old.at }
@@ -163,8 +189,8 @@ pub extern "C" fn iobuf_advance(src: &mut ViewAt, n: usize) -> u8
     done_or(src.get().try_advance(n), Status::OutOfRange)
 }
 
-/// Splits the first bytes off, sharing their storage. Returns `Status::OutOfRange` if there are fewer, or
-/// `Status::Memory`; then both are unchanged.
+/// Takes the first `at` bytes, in the same storage. (IoBuf::split_to)
+/// Fails: IOBUFS_OUT_OF_RANGE if there are fewer; IOBUFS_MEMORY (reserved).
 #[unsafe(no_mangle)]
 pub extern "C" fn iobuf_split_to(src: &mut ViewAt, at: usize, out: &mut ViewAt) -> u8
     ensures at { (src.new.at ≡ src.old.at) × (out.new.at ≡ out.old.at) }
@@ -182,7 +208,8 @@ pub extern "C" fn iobuf_split_to(src: &mut ViewAt, at: usize, out: &mut ViewAt) 
     }
 }
 
-/// Copies the first bytes out, and drops them. Returns `Status::EndOfBuffer` if there are fewer; then nothing changes.
+/// Copies the first n bytes out and drops them. (Buf::copy_to_slice)
+/// Fails: IOBUFS_END_OF_BUFFER if there are fewer.
 #[unsafe(no_mangle)]
 pub extern "C" fn iobuf_copy_to_slice(src: &mut ViewAt, dst: &mut [u8]) -> u8
     ensures at { src.new.at ≡ src.old.at }
@@ -209,8 +236,9 @@ fn bound(kind: u8, n: usize) -> Option<Bound<usize>>
     }
 }
 
-/// Makes a view of a range, sharing its storage. Returns `Status::BadKind` for an unknown kind of bound,
-/// `Status::OutOfRange` if the range isn't within the bytes, or `Status::Memory`; then `out` is unchanged.
+/// Makes a view of the bytes of a range, in the same storage; bounds are `enum iobufs_bound`. (IoBuf::slice)
+/// Fails: IOBUFS_BAD_KIND if a kind is none of these; IOBUFS_OUT_OF_RANGE if the range isn't within the bytes;
+///   IOBUFS_MEMORY (reserved).
 #[unsafe(no_mangle)]
 pub extern "C" fn iobuf_slice(
     src: &mut ViewAt,
@@ -245,26 +273,4 @@ pub extern "C" fn iobuf_slice(
         Some(slice) => hand(slice, out),
         None => Status::OutOfRange.code(),
     }
-}
-
-/// Makes a view of bytes that live, unchanged, until the last buffer made of them is dropped. The contract takes them
-/// for static: only buffers made of them have their address, so nothing reads them after that.
-#[unsafe(no_mangle)]
-pub extern "C" fn iobuf_from_static(text: &'static [u8], out: &mut ViewAt)
-    ensures at { out.new.at ≡ out.old.at }
-    ensures value { out.new.value ≡ record { bytes = text.now; mark = static_mark } }
-{
-    *out.get() = IoBuf::from(text);
-}
-
-/// Copies bytes into a view. Returns `Status::Memory` if an allocation fails; then `out` is unchanged.
-#[unsafe(no_mangle)]
-pub extern "C" fn iobuf_copy_from_slice(alloc: Global, src: &[u8], out: &mut ViewAt) -> u8
-    ensures at { out.new.at ≡ out.old.at }
-    ensures value { out.new.value ≡ (if result == 0 then if length src.now == 0 then default_view
-        else record { bytes = src.now; mark = native_mark (length src.now) } else out.old.value) }
-    ensures nothing { length src.now ≡ 0 → result ≡ 0 }
-    ensures memory { IsDoneUnless result Status.Memory }
-{
-    hand(IoBuf::copy_from_slice(alloc, src), out)
 }

@@ -27,6 +27,7 @@ SCRIPTS = "gate_page rust same trusted gate/[b-d]*s.py gate/[prt]*.py lib/*.py l
 LONG = {
     "crates/*/src/**/*.rt": (120, 1),
     "crates/*/[ps]*/**/*.antt": (140, 0),
+    "c/include/*.h": (120, 0),
     **{f"tests/{name}": (120, 0) for name in [*SCRIPTS.split(), "../bench/compare"]},
 }
 USE = re.compile(r"\s*(?:pub |ghost |unfoldable )*use ")  # pub use Rattle.std.specs.Prelude.{List}
