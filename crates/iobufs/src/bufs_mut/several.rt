@@ -167,7 +167,7 @@ impl Several {
         requires { length src.now ≤ parts_spare self.old }
         ensures { self.new ≡ parts_fill self.old src.now }
     {
-        if self.used == 0 && put_inside(&mut self.row, self.full, src) {
+        if self.used == 0 && put_inside(&mut self.row, &mut self.full, src) {
             self.len += src.len();
             return;
         }
@@ -237,7 +237,9 @@ impl Several {
             let count = self.row.len();
             self.used = drain(&mut self.row, n, self.used);
             // Each buffer that was dropped had no spare capacity.
-            self.full = self.full.saturating_sub(count - self.row.len());
+            if self.row.len() < count {
+                self.full = self.full.saturating_sub(count - self.row.len());
+            }
         }
     }
 
@@ -511,19 +513,24 @@ fn count_full(parts: &VecDeque<IoBufMut>, known: usize) -> usize
 }
 
 // Puts the bytes into the buffer after the first `full` ones, if they fit there, and returns whether they do. The first
-// `full` have no spare capacity.
+// `full` have no spare capacity. If the bytes leave that buffer none, `full` counts it too.
 #[inline(always)]
-fn put_inside(parts: &mut VecDeque<IoBufMut>, full: usize, src: &[u8]) -> bool
-    requires { HaveNoSpare full parts.old.items }
+fn put_inside(parts: &mut VecDeque<IoBufMut>, full: &mut usize, src: &[u8]) -> bool
+    requires { HaveNoSpare full.old parts.old.items }
     ensures put { IsTrue result → parts.new.items ≡ parts_fill parts.old.items src.now }
-    ensures same { result ≡ false → parts.new.items ≡ parts.old.items }
+    ensures full { HaveNoSpare full.new parts.new.items }
+    ensures same { result ≡ false → (parts.new.items ≡ parts.old.items) × (full.new ≡ full.old) }
 {
-    if full >= parts.len() {
+    if *full >= parts.len() {
         return false;
     }
-    let part = &mut parts[full];
-    if src.len() > part.remaining_mut() {
+    let part = &mut parts[*full];
+    let room = part.remaining_mut();
+    if src.len() > room {
         return false;
+    }
+    if src.len() == room {
+        *full += 1;
     }
     part.put_share(src);
     true
