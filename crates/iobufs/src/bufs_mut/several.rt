@@ -104,15 +104,10 @@ impl Several {
     pub(super) fn get(&self, i: usize) -> Option<&IoBufMut>
         ensures { option_copied result ≡ slice_get self.now i }
     {
-        let others = self.row.len() - self.used;
-        if i < self.used {
-            return self.row.get(others + i);
+        if i >= self.row.len() {
+            return None;
         }
-        let at = i - self.used;
-        if at < others {
-            return self.row.get(at);
-        }
-        None
+        self.row.get(place_of(&self.row, self.used, i))
     }
 
     /// The only part, if there is just one.
@@ -290,13 +285,8 @@ impl Several {
         ensures address { result ≡ null_ptr → ⊥ }
         ensures same { self.new ≡ self.old }
     {
-        let others = self.row.len() - self.used;
-        let at = if i < self.used {
-            others + i
-        } else {
-            i - self.used
-        };
-        address_mut(self.row[at].as_mut())
+        let place = place_of(&self.row, self.used, i);
+        address_mut(self.row[place].as_mut())
     }
 
     #[tactic(auto, using(crate::proofs::Parts::PartChunks::reading))]
@@ -413,6 +403,20 @@ impl Several {
         whole.close();
         Ok(whole)
     }
+}
+
+// Where the row has the part with the index `i` in order.
+#[inline(always)]
+fn place_of(row: &VecDeque<IoBufMut>, used: usize, i: usize) -> usize
+    requires used { used ≤ length row.now.items }
+    requires inside { i < length row.now.items }
+    ensures inside { result < length row.now.items }
+    ensures part { slice_get row.now.items result ≡ slice_get (in_order row.now.items used) i }
+{
+    if i < used {
+        return row.len() - used + i;
+    }
+    i - used
 }
 
 // The index of the first part that holds bytes, or 0.
