@@ -130,24 +130,29 @@ left-row b at i o e ps moved front vs inside h seen there cut fits end before jo
       cc (views-take i ps, left-at_edge (views_in ps) at i o h.full place z),
     ))
 
--- the chunks of a row from the one that holds a place on, that one shortened, are a row with its base at the place, of the chunks from
--- there on
-pub right-row : (b at i o c : ℕ) (ps rest behind : List Entry) (ws : List View) → IsRow b ps → views_in ps ≡ ws → IsChunkPlace ws at i o
-    → c ≡ (b + at) % 2 ^ 64 → rest ≡ drop i ps → behind ≡ shortened rest o → IsRow c behind × (views_in behind ≡ right_pieces ws at)
-right-row b at i o c ps rest behind ws h seen there base left cut =
-    let place = subst (λ xs. IsChunkPlace xs at i o) (sym seen) there in
-    let is : behind ≡ shortened (drop i ps) o = cut ∙ ap (λ (xs : List Entry). shortened xs o) left in
-    let vs = views_in ps in
-    let start = piece_start vs i in
-    let short = inside-dropped ps (drop i ps) ws at i o seen there refl in
-    let based = h.based in
-    let sum : ((b + start) % 2 ^ 64 + o) % 2 ^ 64 ≡ c = (let s = place.sum in omega arith) in
-    let dropped = views-drop i ps ∙ drop-cons vs i default_view (index-of_place vs at i o place) in (
-      subst (λ n. IsRow n behind) sum (row-shorten ((b + start) % 2 ^ 64) o (drop i ps) behind (row-drop b i start ps h refl) short is),
-      ap (λ (xs : List Entry). views_in xs) is ∙ right-shortened (drop i ps) o short ∙ ap (λ xs. right_pieces xs o) dropped
-          ∙ right_pieces-within o (piece_at vs i) (drop (suc i) vs) place.inside
-          ∙ sym (right-at_place vs at i o place) ∙ ap (λ xs. right_pieces xs at) seen,
-    )
+-- A deque is cut at the offset `at`, that is, at the byte `offset` of the chunk `index`. The entries from that chunk on, the first of
+-- them without its bytes before the cut, are again a deque. Its base is larger by `at`, and its views are those after the cut.
+module _ {base at index offset : ℕ} {entries rest right : List Entry} {views : List View}
+    (row : IsRow base entries) (seen : views_in entries ≡ views) (there : IsChunkPlace views at index offset)
+    (from : rest ≡ drop index entries) (cut : right ≡ shortened rest offset) where
+  pub right-row : IsRow ((base + at) % 2 ^ 64) right × (views_in right ≡ right_pieces views at)
+  right-row =
+      let place = subst (λ xs. IsChunkPlace xs at index offset) (sym seen) there in
+      let all = views_in entries in
+      let start = piece_start all index in
+      let is : right ≡ shortened (drop index entries) offset = cut ∙ ap (λ (xs : List Entry). shortened xs offset) from in
+      let short = inside-dropped entries (drop index entries) views at index offset seen there refl in
+      let based = row.based in
+      let sum : ((base + start) % 2 ^ 64 + offset) % 2 ^ 64 ≡ (base + at) % 2 ^ 64 = (let s = place.sum in omega arith) in
+      let dropped = views-drop index entries ∙ drop-cons all index default_view (index-of_place all at index offset place) in (
+        subst (λ n. IsRow n right) sum
+            (row-shorten ((base + start) % 2 ^ 64) offset (drop index entries) right (row-drop base index start entries row refl)
+            short is),
+        ap (λ (xs : List Entry). views_in xs) is ∙ right-shortened (drop index entries) offset short
+            ∙ ap (λ xs. right_pieces xs offset) dropped
+            ∙ right_pieces-within offset (piece_at all index) (drop (suc index) all) place.inside
+            ∙ sym (right-at_place all at index offset place) ∙ ap (λ xs. right_pieces xs at) seen,
+      )
 
 -- chunk by chunk, the bytes are those of the views
 pub bytes-in : (ps : List Entry) → map (λ (p : Entry). p.view.bytes) ps ≡ map (λ (v : View). v.bytes) (views_in ps)

@@ -104,15 +104,10 @@ impl Several {
     pub(super) fn get(&self, i: usize) -> Option<&IoBufMut>
         ensures { option_copied result ≡ slice_get self.now i }
     {
-        let others = self.row.len() - self.used;
-        if i < self.used {
-            return self.row.get(others + i);
+        if i >= self.row.len() {
+            return None;
         }
-        let at = i - self.used;
-        if at < others {
-            return self.row.get(at);
-        }
-        None
+        self.row.get(place_of(&self.row, self.used, i))
     }
 
     /// The only part, if there is just one.
@@ -167,7 +162,7 @@ impl Several {
         requires { length src.now ≤ parts_spare self.old }
         ensures { self.new ≡ parts_fill self.old src.now }
     {
-        if self.used == 0 && put_inside(&mut self.row, self.full, src) {
+        if self.used == 0 && put_inside(&mut self.row, &mut self.full, src) {
             self.len += src.len();
             return;
         }
@@ -237,7 +232,9 @@ impl Several {
             let count = self.row.len();
             self.used = drain(&mut self.row, n, self.used);
             // Each buffer that was dropped had no spare capacity.
-            self.full = self.full.saturating_sub(count - self.row.len());
+            if self.row.len() < count {
+                self.full = self.full.saturating_sub(count - self.row.len());
+            }
         }
     }
 
@@ -288,13 +285,8 @@ impl Several {
         ensures address { result ≡ null_ptr → ⊥ }
         ensures same { self.new ≡ self.old }
     {
-        let others = self.row.len() - self.used;
-        let at = if i < self.used {
-            others + i
-        } else {
-            i - self.used
-        };
-        address_mut(self.row[at].as_mut())
+        let place = place_of(&self.row, self.used, i);
+        address_mut(self.row[place].as_mut())
     }
 
     #[tactic(auto, using(crate::proofs::Parts::PartChunks::reading))]
@@ -413,6 +405,20 @@ impl Several {
     }
 }
 
+// Where the row has the part with the index `i` in order.
+#[inline(always)]
+fn place_of(row: &VecDeque<IoBufMut>, used: usize, i: usize) -> usize
+    requires used { used ≤ length row.now.items }
+    requires inside { i < length row.now.items }
+    ensures inside { result < length row.now.items }
+    ensures part { slice_get row.now.items result ≡ slice_get (in_order row.now.items used) i }
+{
+    if i < used {
+        return row.len() - used + i;
+    }
+    i - used
+}
+
 // The index of the first part that holds bytes, or 0.
 fn first_filled(row: &VecDeque<IoBufMut>) -> usize
     requires { 0 < length row.now.items }
@@ -511,19 +517,24 @@ fn count_full(parts: &VecDeque<IoBufMut>, known: usize) -> usize
 }
 
 // Puts the bytes into the buffer after the first `full` ones, if they fit there, and returns whether they do. The first
-// `full` have no spare capacity.
+// `full` have no spare capacity. If the bytes leave that buffer none, `full` counts it too.
 #[inline(always)]
-fn put_inside(parts: &mut VecDeque<IoBufMut>, full: usize, src: &[u8]) -> bool
-    requires { HaveNoSpare full parts.old.items }
+fn put_inside(parts: &mut VecDeque<IoBufMut>, full: &mut usize, src: &[u8]) -> bool
+    requires { HaveNoSpare full.old parts.old.items }
     ensures put { IsTrue result → parts.new.items ≡ parts_fill parts.old.items src.now }
-    ensures same { result ≡ false → parts.new.items ≡ parts.old.items }
+    ensures full { HaveNoSpare full.new parts.new.items }
+    ensures same { result ≡ false → (parts.new.items ≡ parts.old.items) × (full.new ≡ full.old) }
 {
-    if full >= parts.len() {
+    if *full >= parts.len() {
         return false;
     }
-    let part = &mut parts[full];
-    if src.len() > part.remaining_mut() {
+    let part = &mut parts[*full];
+    let room = part.remaining_mut();
+    if src.len() > room {
         return false;
+    }
+    if src.len() == room {
+        *full += 1;
     }
     part.put_share(src);
     true

@@ -1,5 +1,5 @@
 use Rattle.std.proofs.lemmas.List.{drop_all}
-use Rattle.iobufs.proofs.Text.{Inside, List, View, [], ap, append-nil, arith, chunks-kept, chunks-of_empty, drop, length, length-kept, of_pieces, pieced-as, pieces_bytes, sym, text_chunks, views, ℕ, ◌≤◌, ◌∙◌, ◌∷◌, ◌≡◌}
+use Rattle.iobufs.proofs.Text.{Inside, List, View, [], ap, append-nil, arith, chunks-kept, chunks-of_empty, drop, length, length-kept, of_pieces, pieced-as, pieces_bytes, sym, views, ◌∙◌, ◌∷◌, ◌≡◌}
 use Rattle.iobufs.proofs.bufs.IoBufs.chunk_slices_from.Goals as goal
 
 pub returns-then-len-eq0 : goal.returns-then-len-eq0

@@ -1,4 +1,4 @@
-use Rattle.iobufs.proofs.Text.{HaveNoSpare, Part, [], ap, arith, drop, drop_all, length, length-take, part_put, set, subst, suc, sym, take, take_all, ◌+◌, ◌∙◌, ◌≡◌}
+use Rattle.iobufs.proofs.Text.{HaveNoSpare, Part, [], ap, arith, drop, drop_all, length-take, part_put, set, subst, suc, sym, take, take_all, ◌+◌, ◌∙◌, ◌≡◌}
 use Rattle.iobufs.proofs.Parts.{fill-done, fill-turn, full-before, full-set, full-within}
 use Rattle.iobufs.proofs.bufs_mut.several.put.Goals as goal
 

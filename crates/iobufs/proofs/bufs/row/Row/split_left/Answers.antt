@@ -15,8 +15,8 @@ invariant_of-result c =
 
 pub invariant_of-self : goal.invariant_of-self
 invariant_of-self c =
-    (right-row c.self.inside.base _ _ _ _ _ _ _ _ c.self.invariant (ap (λ (r : ViewRow). r.views) c.self.view_is) c.requires.place refl
-    c.move_front.ensures.left c.cut.ensures.behind).0
+    (right-row c.self.invariant (ap (λ (r : ViewRow). r.views) c.self.view_is) c.requires.place c.move_front.ensures.left
+    c.cut.ensures.behind).0
 
 pub returns-clause-answer : goal.returns-clause-answer
 returns-clause-answer c =
@@ -28,5 +28,5 @@ returns-clause-answer c =
 
 pub returns-clause-left : goal.returns-clause-left
 returns-clause-left c =
-    (right-row c.self.inside.base _ _ _ _ _ _ _ _ c.self.invariant (ap (λ (r : ViewRow). r.views) c.self.view_is) c.requires.place refl
-    c.move_front.ensures.left c.cut.ensures.behind).1
+    (right-row c.self.invariant (ap (λ (r : ViewRow). r.views) c.self.view_is) c.requires.place c.move_front.ensures.left
+    c.cut.ensures.behind).1

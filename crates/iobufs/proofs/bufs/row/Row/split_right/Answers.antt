@@ -16,8 +16,8 @@ invariant_of-self-2 c =
 
 pub invariant_of-replace : goal.invariant_of-replace
 invariant_of-replace c =
-    (right-row c.self.inside.base _ _ _ _ _ _ _ _ c.self.invariant (ap (λ (r : ViewRow). r.views) c.self.view_is) c.requires.place refl
-    c.in_ok-entries.ensures.tail c.cut.ensures.behind).0
+    (right-row c.self.invariant (ap (λ (r : ViewRow). r.views) c.self.view_is) c.requires.place c.in_ok-entries.ensures.tail
+    c.cut.ensures.behind).0
 
 pub returns-clause-answer : goal.returns-clause-answer
 returns-clause-answer c =
@@ -29,5 +29,5 @@ returns-clause-answer c =
 pub returns-clause-left : goal.returns-clause-left
 returns-clause-left c =
     ap (λ (r : ViewRow). r.views) c.replace.ensures.after
-    ∙ (right-row c.self.inside.base _ _ _ _ _ _ _ _ c.self.invariant (ap (λ (r : ViewRow). r.views) c.self.view_is) c.requires.place refl
-    c.in_ok-entries.ensures.tail c.cut.ensures.behind).1
+    ∙ (right-row c.self.invariant (ap (λ (r : ViewRow). r.views) c.self.view_is) c.requires.place c.in_ok-entries.ensures.tail
+    c.cut.ensures.behind).1

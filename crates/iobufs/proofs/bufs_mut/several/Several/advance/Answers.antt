@@ -48,6 +48,15 @@ invariant_of-self c =
       ap length (c.if-not-shorten.ensures.same refl),
     ))
 
+pub invariant_of-self-else-len-count : goal.invariant_of-self-else-len-count
+invariant_of-self-else-len-count c =
+    let s = c.self.inside in
+    let left = c.drain-self-inside.ensures in
+    let same = ap (λ row. parts_drained (in_order row s.used) c.args.n) (c.if-not-shorten.ensures.same refl) in
+    kept-drained-row s.row.items _ s.used _ c.args.n s.full _ s.len s.capacity c.self.invariant
+    (omega (arith, c.requires, ap (λ ps. length (parts_filled ps)) c.self.view_is)) (left.drained ∙ same) left.behind
+    (omega (arith, c.len-count.ensures, c.len.ensures, c.if-len-count.false, ap length (c.if-not-shorten.ensures.same refl)))
+
 pub invariant_of-self-else-not-shorten : goal.invariant_of-self-else-not-shorten
 invariant_of-self-else-not-shorten c =
     let s = c.self.inside in

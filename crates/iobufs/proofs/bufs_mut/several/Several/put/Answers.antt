@@ -1,5 +1,5 @@
-use Rattle.iobufs.proofs.Text.{HaveNoSpare, ap, arith, in_order, parts_fill, parts_spare, refl, subst, sym, ◌∙◌}
-use Rattle.iobufs.proofs.Parts.{full-fill, kept-filled, order-none, spare-summed}
+use Rattle.iobufs.proofs.Text.{ap, arith, in_order, parts_fill, parts_spare, refl, sym, ◌∙◌}
+use Rattle.iobufs.proofs.Parts.{kept-filled, order-none, spare-summed}
 use Rattle.iobufs.proofs.bufs_mut.several.Several.put.Goals as goal
 
 pub overflow_add-self : goal.overflow_add-self
@@ -18,6 +18,5 @@ invariant_of-self c =
     let src = c.args.src.now in
     let none = c.if-self-eq0.true in
     let is = c.if-put_inside.ensures.put refl ∙ ap (λ ps. parts_fill ps src) (sym (order-none s.row.items s.used none)) in
-    kept-filled s.row.items _ s.used s.used s.full s.full s.len s.capacity src c.self.invariant none is
-    (subst (λ ps. HaveNoSpare s.full ps) (sym is) (full-fill s.full _ src c.self.invariant.no_spare))
+    kept-filled s.row.items _ s.used s.used s.full _ s.len s.capacity src c.self.invariant none is c.if-put_inside.ensures.full
     (omega (arith, ap parts_spare c.self.view_is, c.requires))
