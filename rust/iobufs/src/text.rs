@@ -4,6 +4,7 @@ use crate::calls::{bounds, equals_bytes, gets, outside, reads, shown, split_outs
 use crate::error::{fault, made, shared};
 use crate::io::Honest;
 use crate::kit::{Clone as _, Global};
+use crate::proved::iobufs::bufs::row::NewRow;
 use crate::proved::iobufs_core::codec as core;
 use crate::proved::{iobufs as inner, iobufs_frames};
 use crate::{Error, IoBuf, IoBufMut, Layout, Whole};
@@ -546,10 +547,25 @@ impl From<IoBufs> for Bytes {
     }
 }
 
+/// The most further chunks of an iterator for which a list has space at once.
+const MOST_HINTED: usize = 4094;
+
 impl FromIterator<IoBuf> for IoBufs {
     fn from_iter<I: IntoIterator<Item = IoBuf>>(chunks: I) -> Self {
         let mut chunks = chunks.into_iter();
-        let mut bufs = chunks.find(|chunk| !chunk.is_empty()).map_or_else(IoBufs::default, IoBufs::from);
+        let Some(first) = chunks.find(|chunk| !chunk.is_empty()) else {
+            return IoBufs::default();
+        };
+        let Some(second) = chunks.find(|chunk| !chunk.is_empty()) else {
+            return first.into();
+        };
+        // At once the space that appends would come to; a hint may be too high.
+        let n = 2 + chunks.size_hint().0.min(MOST_HINTED);
+        let mut row = shared(NewRow::with_room(Global, n.next_power_of_two()));
+        // Two lengths, each at most `isize::MAX`, have a sum.
+        row.add(first.0);
+        row.add(second.0);
+        let mut bufs = IoBufs(inner::IoBufs::from_row(row.finish()));
         bufs.extend(chunks);
         bufs
     }
@@ -684,8 +700,15 @@ impl From<Vec<Bytes>> for IoBufs {
 }
 
 impl<const N: usize> From<[IoBuf; N]> for IoBufs {
+    #[inline]
     fn from(views: [IoBuf; N]) -> Self {
-        views.into_iter().collect()
+        let sum = views.iter().try_fold(0_usize, |sum, view| sum.checked_add(view.len()));
+        if sum.is_none() || views.iter().filter(|view| !view.is_empty()).count() < 2 {
+            return views.into_iter().collect();
+        }
+        let mut row = shared(NewRow::with_room(Global, N));
+        views.into_iter().for_each(|view| row.add(view.0));
+        IoBufs(inner::IoBufs::from_row(row.finish()))
     }
 }
 
