@@ -376,6 +376,7 @@ impl IoBufs {
     ///
     /// # Panics
     /// Panics if the bytes pass `isize::MAX`. If the copy can't be allocated, the process ends.
+    #[inline]
     #[track_caller]
     #[must_use]
     pub fn coalesce(self) -> IoBuf {

@@ -207,7 +207,7 @@ impl IoBuf {
     ///
     /// # Panics
     /// Panics if there are fewer bytes.
-    #[inline]
+    #[inline(always)]
     #[track_caller]
     #[must_use = "`advance` drops the front"]
     pub fn split_to(&mut self, at: usize) -> Self {
