@@ -369,6 +369,7 @@ impl From<&'static str> for IoBuf {
 
 /// Keeps the `Vec`.
 impl From<Vec<u8>> for IoBuf {
+    #[inline]
     fn from(bytes: Vec<u8>) -> Self {
         IoBuf(shared(inner::IoBuf::from_vec(kit::prelude::Vec(bytes))))
     }
