@@ -411,7 +411,7 @@ impl IoBufs {
     pub fn chunks_vectored<'a>(&'a self, dst: &mut [IoSlice<'a>]) -> usize {
         let (front, rest) = self.0.chunk_slices_from(0);
         let n = fill(dst, &front);
-        n + fill(&mut dst[n..], &rest)
+        if rest.len() == 0 { n } else { n + fill(&mut dst[n..], &rest) }
     }
 
     /// Returns the first chunks, at most `N`, as they are handed to `writev`, and how many they are.
