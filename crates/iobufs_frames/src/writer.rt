@@ -86,7 +86,8 @@ impl<W: Drop> FrameWriter<W> {
     /// bytes may be copied if others aren't sent, and is then dropped here. The chunks of any other aren't copied.
     /// Fails with `BufError::TooLong` if the body's length is outside the range, if the length in the header doesn't
     /// fit (see `Prefix::fits`), if more than `usize::MAX` bytes would wait with it, or if the layout has bytes around
-    /// the length. Fails with `BufError::Memory` if allocation fails; nothing is allocated if all is sent.
+    /// the length. Fails with `BufError::Memory` if the list `more` can't grow; a body that can't be copied goes there.
+    /// Nothing is allocated if all is sent.
     pub fn put(&mut self, body: IoBufs) -> Result<(), Refused<IoBufs>>
         ensures { PutsFrame [] [] self.old body result self.new }
     {

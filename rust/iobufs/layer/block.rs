@@ -346,11 +346,14 @@ impl Block {
     #[inline(never)]
     unsafe fn free(head: NonNull<Head>) {
         // SAFETY: as the caller says, and `acquire` makes all that the handles did happen before.
-        let (_, _, apart) = unsafe {
+        let (bytes, _, apart) = unsafe {
             head.as_ref().handles.acquire();
             Block::joined(head)
         };
-        keep(apart);
+        match apart {
+            Some(apart) => free_apart(bytes, apart),
+            None => drop(bytes),
+        }
     }
 }
 
@@ -385,4 +388,11 @@ fn keep(apart: Option<Apart>) {
         // At its end a thread keeps none.
         let _ = SPARE.try_with(|spare| spare.set(apart));
     }
+}
+
+// Frees bytes, and keeps the place of their head. Stands apart, as `new_apart`.
+#[inline(never)]
+fn free_apart(bytes: vec::Vec<u8>, apart: Apart) {
+    drop(bytes);
+    keep(Some(apart));
 }

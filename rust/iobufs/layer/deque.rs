@@ -133,18 +133,22 @@ impl<T> VecDeque<T> {
         Ok(())
     }
 
-    /// Appends an item to a deque that isn't full.
+    /// Appends an item to a deque that isn't full. Panics if it is.
     #[inline]
     pub fn push_back_reserved(&mut self, item: T) {
-        debug_assert!(self.0.len() < self.0.capacity());
-        self.0.push_back(item);
+        // As in `Vec::push_reserved`.
+        let item = ManuallyDrop::new(item);
+        assert!(self.0.len() < self.0.capacity(), "the capacity has no space for it");
+        self.0.push_back(ManuallyDrop::into_inner(item));
     }
 
-    /// Prepends an item to a deque that isn't full.
+    /// Prepends an item to a deque that isn't full. Panics if it is.
     #[inline]
     pub fn push_front_reserved(&mut self, item: T) {
-        debug_assert!(self.0.len() < self.0.capacity());
-        self.0.push_front(item);
+        // As in `Vec::push_reserved`.
+        let item = ManuallyDrop::new(item);
+        assert!(self.0.len() < self.0.capacity(), "the capacity has no space for it");
+        self.0.push_front(ManuallyDrop::into_inner(item));
     }
 
     /// Takes the first item, if there is one.
@@ -187,10 +191,11 @@ impl<T> VecDeque<T> {
 impl<T> Drop for VecDeque<T> {
     #[inline]
     fn drop(&mut self) {
+        let is_few = few::fits::<T>() && self.0.capacity() == few::FEW;
         // SAFETY: a deque is dropped once and not used any more, and `into_items` drops none, so the items are taken once.
         let items = unsafe { ManuallyDrop::take(&mut self.0) };
         // Others are dropped where they are: a vector has them from its front on.
-        if few::fits::<T>() && items.capacity() <= few::FEW {
+        if is_few {
             few::keep(items.into());
         }
     }
@@ -200,18 +205,24 @@ impl<T> Drop for VecDeque<T> {
 impl<T: base::Clone> base::Clone for VecDeque<T> {
     #[inline]
     fn clone(&self) -> Result<VecDeque<T>, AllocError> {
-        let (front, rest) = self.0.as_slices();
-        let mut items = Vec::with_capacity(Global, self.0.len())?;
-        if few::fits::<T>() && self.0.len() <= few::FEW {
-            for item in front {
-                items.push_reserved(item.clone()?);
-            }
-            for item in rest {
-                items.push_reserved(item.clone()?);
-            }
-            return Ok(VecDeque::from_vec(items));
+        let n = self.0.len();
+        if !few::fits::<T>() || n == 0 || n > few::FEW {
+            return Ok(VecDeque::from_vec(self.clone_any()?));
         }
-        let mut items = items.0;
+        let mut items = Vec::with_capacity(Global, few::FEW)?;
+        for i in 0..n {
+            items.push_reserved(self.0[i].clone()?);
+        }
+        Ok(VecDeque::from_vec(items))
+    }
+}
+
+impl<T: base::Clone> VecDeque<T> {
+    // Stands apart, so that a clone of few is short.
+    #[inline(never)]
+    fn clone_any(&self) -> Result<Vec<T>, AllocError> {
+        let (front, rest) = self.0.as_slices();
+        let mut items = Vec::with_capacity(Global, self.0.len())?.0;
         if ENDS_IF_REFUSED {
             // Std trusts the length of these iterators: no test of the capacity for each item.
             let cloned = |item: &T| item.clone().unwrap_or_else(|_| process::abort());
@@ -219,12 +230,12 @@ impl<T: base::Clone> base::Clone for VecDeque<T> {
             if !rest.is_empty() {
                 items.extend(rest.iter().map(cloned));
             }
-            return Ok(VecDeque::of(items.into()));
+            return Ok(Vec(items));
         }
         for item in front.iter().chain(rest) {
             items.push(item.clone()?);
         }
-        Ok(VecDeque::of(items.into()))
+        Ok(Vec(items))
     }
 }
 

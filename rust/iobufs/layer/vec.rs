@@ -5,6 +5,7 @@
 use super::base::{AllocError, AllocFailed, Global};
 use super::few;
 use std::alloc::{Layout, alloc};
+use std::mem::ManuallyDrop;
 use std::ops::{Deref, DerefMut, RangeFrom};
 use std::{fmt, io, vec};
 
@@ -96,11 +97,13 @@ impl<T> Vec<T> {
     /// Appends an item to a vector that isn't full. Panics if it is.
     #[inline]
     pub fn push_reserved(&mut self, item: T) {
+        // If the test fails, the item is leaked: a drop for that case would keep it in memory each time.
+        let item = ManuallyDrop::new(item);
         let len = self.0.len();
         assert!(len < self.0.capacity(), "the capacity has no space for it");
         // SAFETY: the capacity has space for an item after the others.
         unsafe {
-            self.0.as_mut_ptr().add(len).write(item);
+            self.0.as_mut_ptr().add(len).write(ManuallyDrop::into_inner(item));
             self.0.set_len(len + 1);
         }
     }

@@ -429,6 +429,7 @@ impl<const N: usize> From<[u8; N]> for IoBufMut {
 
 /// Keeps the `Vec`, and its capacity.
 impl From<Vec<u8>> for IoBufMut {
+    #[inline]
     fn from(bytes: Vec<u8>) -> Self {
         IoBufMut(inner::IoBufMut::from(kit::prelude::Vec(bytes)))
     }

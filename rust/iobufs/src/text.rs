@@ -4,6 +4,7 @@ use crate::calls::{bounds, equals_bytes, gets, outside, reads, shown, split_outs
 use crate::error::{fault, made, shared};
 use crate::io::Honest;
 use crate::kit::{Clone as _, Global};
+use crate::proved::iobufs::bufs::row::{ChunkSlice, NewRow};
 use crate::proved::iobufs_core::codec as core;
 use crate::proved::{iobufs as inner, iobufs_frames};
 use crate::{Error, IoBuf, IoBufMut, Layout, Whole};
@@ -375,6 +376,7 @@ impl IoBufs {
     ///
     /// # Panics
     /// Panics if the bytes pass `isize::MAX`. If the copy can't be allocated, the process ends.
+    #[inline]
     #[track_caller]
     #[must_use]
     pub fn coalesce(self) -> IoBuf {
@@ -407,7 +409,9 @@ impl IoBufs {
     /// assert_eq!(&slices[1][..], b"cde");
     /// ```
     pub fn chunks_vectored<'a>(&'a self, dst: &mut [IoSlice<'a>]) -> usize {
-        self.0.fill_slices(dst)
+        let (front, rest) = self.0.chunk_slices_from(0);
+        let n = fill(dst, &front);
+        if rest.len() == 0 { n } else { n + fill(&mut dst[n..], &rest) }
     }
 
     /// Returns the first chunks, at most `N`, as they are handed to `writev`, and how many they are.
@@ -546,10 +550,25 @@ impl From<IoBufs> for Bytes {
     }
 }
 
+/// The most further chunks of an iterator for which a list has space at once.
+const MOST_HINTED: usize = 4094;
+
 impl FromIterator<IoBuf> for IoBufs {
     fn from_iter<I: IntoIterator<Item = IoBuf>>(chunks: I) -> Self {
         let mut chunks = chunks.into_iter();
-        let mut bufs = chunks.find(|chunk| !chunk.is_empty()).map_or_else(IoBufs::default, IoBufs::from);
+        let Some(first) = chunks.find(|chunk| !chunk.is_empty()) else {
+            return IoBufs::default();
+        };
+        let Some(second) = chunks.find(|chunk| !chunk.is_empty()) else {
+            return first.into();
+        };
+        // At once the space that appends would come to; a hint may be too high.
+        let n = 2 + chunks.size_hint().0.min(MOST_HINTED);
+        let mut row = shared(NewRow::with_room(Global, n.next_power_of_two()));
+        // Two lengths, each at most `isize::MAX`, have a sum.
+        row.add(first.0);
+        row.add(second.0);
+        let mut bufs = IoBufs(inner::IoBufs::from_row(row.finish()));
         bufs.extend(chunks);
         bufs
     }
@@ -566,6 +585,17 @@ impl Extend<Bytes> for IoBufs {
     fn extend<I: IntoIterator<Item = Bytes>>(&mut self, chunks: I) {
         self.extend(chunks.into_iter().map(IoBuf::from));
     }
+}
+
+/// Fills slots with the first of these chunks, and returns how many.
+#[inline]
+fn fill<'a>(dst: &mut [IoSlice<'a>], chunks: &ChunkSlice<'a>) -> usize {
+    let mut n = 0;
+    while let (Some(slot), Some(chunk)) = (dst.get_mut(n), chunks.get(n)) {
+        *slot = IoSlice::new(chunk);
+        n += 1;
+    }
+    n
 }
 
 /// Whether chunks, of which the first is cut, begin with these bytes.
@@ -684,8 +714,15 @@ impl From<Vec<Bytes>> for IoBufs {
 }
 
 impl<const N: usize> From<[IoBuf; N]> for IoBufs {
+    #[inline]
     fn from(views: [IoBuf; N]) -> Self {
-        views.into_iter().collect()
+        let sum = views.iter().try_fold(0_usize, |sum, view| sum.checked_add(view.len()));
+        if sum.is_none() || views.iter().filter(|view| !view.is_empty()).count() < 2 {
+            return views.into_iter().collect();
+        }
+        let mut row = shared(NewRow::with_room(Global, N));
+        views.into_iter().for_each(|view| row.add(view.0));
+        IoBufs(inner::IoBufs::from_row(row.finish()))
     }
 }
 

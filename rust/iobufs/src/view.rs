@@ -207,7 +207,7 @@ impl IoBuf {
     ///
     /// # Panics
     /// Panics if there are fewer bytes.
-    #[inline]
+    #[inline(always)]
     #[track_caller]
     #[must_use = "`advance` drops the front"]
     pub fn split_to(&mut self, at: usize) -> Self {
@@ -369,6 +369,7 @@ impl From<&'static str> for IoBuf {
 
 /// Keeps the `Vec`.
 impl From<Vec<u8>> for IoBuf {
+    #[inline]
     fn from(bytes: Vec<u8>) -> Self {
         IoBuf(shared(inner::IoBuf::from_vec(kit::prelude::Vec(bytes))))
     }

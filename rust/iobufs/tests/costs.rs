@@ -192,6 +192,16 @@ fn small_lists() {
     thread::spawn(run).join().unwrap();
 }
 
+/// A list of an array, of a vector, or of an iterator that knows its length is allocated once; a single chunk has none.
+#[test]
+fn lists_of_many() {
+    let view = |_| IoBuf::from_static(b"chunk");
+    let arrays = [allocations(|| IoBufs::from([1; 9].map(view))), allocations(|| IoBufs::from_iter([1; 9].map(view)))];
+    assert_eq!((arrays, allocations(|| (0..4096).map(view).collect::<IoBufs>())), ([1, 1], 1));
+    let one = [IoBuf::new(), view(1), IoBuf::new()];
+    assert_eq!([allocations(|| IoBufs::from(one.clone())), allocations(|| IoBufs::from_iter(one.clone()))], [0, 0]);
+}
+
 /// If an owner panics as it is dropped, its list's space is freed.
 #[test]
 fn a_list_of_an_owner_that_panics() {

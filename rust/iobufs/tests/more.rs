@@ -2,8 +2,9 @@
 use bytes::{BufMut, Bytes, BytesMut};
 use iobufs::{Builder, IoBuf, IoBufMut, IoBufs, IoBufsMut};
 use std::fmt::Write as _;
-use std::io::{BufRead, Read, Write};
+use std::io::{BufRead, IoSlice, Read, Write};
 use std::panic::{AssertUnwindSafe, catch_unwind};
+use std::vec::IntoIter;
 
 /// Nine bytes in three chunks.
 fn text() -> IoBufs {
@@ -41,8 +42,39 @@ fn clones_of_chunks_in_any_order() {
         (0..n).for_each(|i| text.prepend(vec![i].into()));
         let bytes: Vec<u8> = (0..n).rev().chain([n]).chain(0..n).collect();
         assert_eq!((text.clone(), text.chunk_count()), (bytes.into(), text.clone().chunks().len()));
+        for m in 0..=text.chunk_count() {
+            let mut slices = vec![IoSlice::new(&[]); m];
+            assert_eq!(text.chunks_vectored(&mut slices), m);
+            assert!(slices.iter().map(|slice| &**slice).eq(text.chunks().take(m)), "{m} of {n}");
+        }
     }
     assert!(IoBufs::from([IoBuf::new(), IoBuf::new()]).is_empty());
+}
+
+/// An iterator that hints at more items than it has.
+struct Boasts(IntoIter<IoBuf>);
+
+impl Iterator for Boasts {
+    type Item = IoBuf;
+
+    fn next(&mut self) -> Option<IoBuf> {
+        self.0.next()
+    }
+
+    fn size_hint(&self) -> (usize, Option<usize>) {
+        (usize::MAX, None)
+    }
+}
+
+#[test]
+fn hints_of_iterators() {
+    for n in 0..6 {
+        let views = || vec![IoBuf::from("ab"); n];
+        let boasted: IoBufs = Boasts(views().into_iter()).collect();
+        let hidden: IoBufs = views().into_iter().filter(|_| true).collect();
+        assert_eq!((&boasted, boasted.chunk_count()), (&IoBufs::from(views()), n));
+        assert_eq!((&hidden, hidden.chunk_count()), (&boasted, n));
+    }
 }
 
 // Each call works within the fixed capacity.

@@ -347,7 +347,6 @@ impl Pieces {
     }
 
     // Drops the first `n` bytes, all of the first chunk among them.
-    #[inline(never)]
     fn drop_pieces(&mut self, n: usize)
         requires some { 0 < n }
         requires inside { n ≤ length (pieces_bytes self.old) }

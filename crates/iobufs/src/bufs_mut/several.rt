@@ -355,7 +355,6 @@ impl Several {
     }
 
     /// Freezes the buffers that hold bytes, in order. A single chunk needs no deque.
-    #[inline(never)]
     #[tactic(auto, using(crate::proofs::Parts::Frozen::freezing))]
     pub(super) fn freeze(self, alloc: Global) -> Result<IoBufs, BufError>
         ensures ok { IfOk result (λ text. text ≡ parts_frozen self) }
