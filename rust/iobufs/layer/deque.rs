@@ -169,7 +169,12 @@ impl<T> VecDeque<T> {
     pub fn split_off(&mut self, at: usize) -> Result<VecDeque<T>, AllocError> {
         if few::fits::<T>() && self.0.len() - at <= few::FEW {
             let mut rest = VecDeque::with_capacity(Global, self.0.len() - at)?;
-            rest.0.extend(self.0.drain(at..));
+            // The last one first: shorter than a `drain` for so few.
+            for _ in at..self.0.len() {
+                if let Some(item) = self.0.pop_back() {
+                    rest.push_front_reserved(item);
+                }
+            }
             return Ok(rest);
         }
         if ENDS_IF_REFUSED {
