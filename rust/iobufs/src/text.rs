@@ -4,7 +4,7 @@ use crate::calls::{bounds, equals_bytes, gets, outside, reads, shown, split_outs
 use crate::error::{fault, made, shared};
 use crate::io::Honest;
 use crate::kit::{Clone as _, Global};
-use crate::proved::iobufs::bufs::row::{ChunkSlice, NewRow};
+use crate::proved::iobufs::bufs::row::NewRow;
 use crate::proved::iobufs_core::codec as core;
 use crate::proved::{iobufs as inner, iobufs_frames};
 use crate::{Error, IoBuf, IoBufMut, Layout, Whole};
@@ -409,9 +409,7 @@ impl IoBufs {
     /// assert_eq!(&slices[1][..], b"cde");
     /// ```
     pub fn chunks_vectored<'a>(&'a self, dst: &mut [IoSlice<'a>]) -> usize {
-        let (front, rest) = self.0.chunk_slices_from(0);
-        let n = fill(dst, &front);
-        if rest.len() == 0 { n } else { n + fill(&mut dst[n..], &rest) }
+        self.0.fill_slices(dst)
     }
 
     /// Returns the first chunks, at most `N`, as they are handed to `writev`, and how many they are.
@@ -585,17 +583,6 @@ impl Extend<Bytes> for IoBufs {
     fn extend<I: IntoIterator<Item = Bytes>>(&mut self, chunks: I) {
         self.extend(chunks.into_iter().map(IoBuf::from));
     }
-}
-
-/// Fills slots with the first of these chunks, and returns how many.
-#[inline]
-fn fill<'a>(dst: &mut [IoSlice<'a>], chunks: &ChunkSlice<'a>) -> usize {
-    let mut n = 0;
-    while let (Some(slot), Some(chunk)) = (dst.get_mut(n), chunks.get(n)) {
-        *slot = IoSlice::new(chunk);
-        n += 1;
-    }
-    n
 }
 
 /// Whether chunks, of which the first is cut, begin with these bytes.
