@@ -32,7 +32,7 @@ mod lengths;
 mod lent;
 mod part;
 mod parts;
-/// The proved sources, without their contracts.
+/// The proved sources, without their contracts, and the modules of `spare` in them.
 #[allow(dead_code, unreachable_pub, unstable_name_collisions, unused, missing_docs, clippy::all, clippy::pedantic)]
 mod proved {
     include!(concat!(env!("OUT_DIR"), "/proved.rs"));
