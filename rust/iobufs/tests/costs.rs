@@ -33,20 +33,27 @@ struct Counting;
 #[global_allocator]
 static COUNTING: Counting = Counting;
 
-// SAFETY: it hands each call on.
+/// Bytes are at odd addresses: no allocator has to give others.
+fn at_odd(layout: Layout) -> Layout {
+    let shift = usize::from(layout.align() == 1);
+    Layout::from_size_align(layout.size() + shift, layout.align() + 15 * shift).expect("it is a byte longer")
+}
+
+// SAFETY: it hands each call on, by the layout of `at_odd`, whose last bytes are for such a layout.
 unsafe impl GlobalAlloc for Counting {
     unsafe fn alloc(&self, layout: Layout) -> *mut u8 {
         COUNT.set(COUNT.get() + 1);
         ALLOCATED.set(ALLOCATED.get() + layout.size());
         hold(layout.size() as isize);
         // SAFETY: the caller's duty.
-        unsafe { System.alloc(layout) }
+        let at = unsafe { System.alloc(at_odd(layout)) };
+        if at.is_null() { at } else { at.wrapping_add(at_odd(layout).size() - layout.size()) }
     }
 
     unsafe fn dealloc(&self, at: *mut u8, layout: Layout) {
         hold(-(layout.size() as isize));
         // SAFETY: the caller's duty.
-        unsafe { System.dealloc(at, layout) }
+        unsafe { System.dealloc(at.wrapping_sub(at_odd(layout).size() - layout.size()), at_odd(layout)) }
     }
 }
 
@@ -95,6 +102,16 @@ const CHUNK: usize = 6;
 fn many() -> IoBufs {
     let view = IoBuf::from_owner(vec![1; CHUNK]);
     (0..CHUNKS).map(|_| view.clone()).collect()
+}
+
+// A buffer begins at a multiple of its alignment, whatever gap that takes in the storage.
+#[test]
+fn aligned_bytes_of_storage_at_odd_addresses() {
+    for n in [2, 4, 16, 64, 4096] {
+        let mut part = IoBufMut::with_alignment(8, n.try_into().unwrap());
+        part.put_bytes(7, 8);
+        assert_eq!((part.as_mut_ptr().addr() % n, part.capacity()), (0, 8), "{n}");
+    }
 }
 
 #[test]

@@ -149,6 +149,10 @@ fn frames_are_iterated_over() {
     assert_eq!(given(&mut from), "ok B");
     from.set_range(..=9);
     assert_eq!(given(&mut from), "123456789 -");
+    let mut from = FrameReader::new(&b"\x09\0ok"[..], ..=8);
+    assert_eq!(given(&mut from), "B");
+    from.set_layout(Layout::new(Prefix::U16Le).counts(7));
+    assert_eq!(given(&mut from), "ok");
 }
 
 // The offset after the last frame that was taken, for reads of every size.

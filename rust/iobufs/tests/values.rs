@@ -4,6 +4,7 @@ use bytes::Bytes;
 use iobufs::codec::{ByParts, Decode, Encode, Input, RangeCfg, Written, proved};
 use iobufs::{Builder, Error, IoBuf, IoBufMut, IoBufs, IoBufsMut};
 use std::fmt::Debug;
+use std::panic::{AssertUnwindSafe, catch_unwind};
 
 // A view as a value: it comes back, its bytes stay where they are in one chunk, and are copied once across chunks.
 #[test]
@@ -307,10 +308,15 @@ fn writable_buffers_are_read() {
     assert_eq!([read(parts), read(part), read(bytes)], [const { Ok(0x0102_0304) }; 3]);
 }
 
+// Bytes that don't fit: a value isn't put in part.
 #[test]
-#[should_panic(expected = "cannot advance past end of buffer")]
 fn written_without_room() {
-    7u64.write(&mut Builder::new(7));
+    for write in [|to: &mut Builder| (7u8, 7u64).write(to), |to: &mut Builder| (7u8, 7u64).write_bufs(to)] {
+        let mut to = Builder::new(8);
+        let panic = catch_unwind(AssertUnwindSafe(|| write(&mut to))).unwrap_err();
+        assert_eq!(panic.downcast_ref::<String>().unwrap(), "cannot advance past end of buffer");
+        assert_eq!(to.len(), 0);
+    }
 }
 
 #[test]
