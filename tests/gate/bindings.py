@@ -250,7 +250,7 @@ def recorder(checks):
 def unmet(lines, build):
     """Statuses that a call's clauses list and no test met, and those that were met, but are reserved or in UNMET."""
     codes = {code: name for name, code in CODE.findall(HEADER)}
-    met = {(name, codes[code]) for name, code in map(str.split, lines.splitlines())}
+    met = {(name, codes[code]) for name, code in map(str.split, lines)}
     wanted = {(name, it) for name, statuses in statuses_in_contracts().items() for it in {"OK", *statuses}}
     left = {(name, status) for status, names in UNMET.items() for name in names.split()}
     for name, statuses in statuses_in_comments().items():
@@ -496,7 +496,9 @@ def of_c(checks, calls):
             print(f"{name}: {lines[0] if len(lines) == 1 else 'passed'}", flush=True)
     if program := checks.build("frames", [*STRICT, "-D_POSIX_C_SOURCE=200809L"], TOP / "c/examples/frames.c"):
         checks.run("frames", [program], wanted="5 hello\n0 \n", input="\x05hello\0")
-    checks.say("statuses that tests meet", [*unmet(met.read_text() if met.is_file() else "", checks.build_by)])
+    lines = sorted({*met.read_text().splitlines()} if met.is_file() else ())
+    checks.say("statuses that tests meet", [*unmet(lines, checks.build_by)])
+    checks.find("a status that tests meet", [*unmet(lines[1:], checks.build_by)])
     if checks.has("valgrind"):
         races = ["valgrind", "--tool=helgrind", "--error-exitcode=1", "-q", checks.prefix / "threads", 40]
         passed = checks.run("threads under helgrind", races) is not None

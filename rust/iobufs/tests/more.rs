@@ -114,9 +114,9 @@ fn filled_bytes_of_several_buffers() {
         [(1, 1, "0"), (2, 1, "0011"), (3, 4, "0011"), (4, 4, "0011122"), (6, 8, "011122233")]
     {
         let mut parts: IoBufsMut = (0..count).map(|_| IoBufMut::with_capacity(3)).collect();
+        assert!(parts.io_slices_mut().is_empty(), "{count}");
         parts.put_bytes(b'.', 3 * count - 1);
         parts.advance(dropped);
-        assert!(parts.io_slices_mut().iter().all(|slice| !slice.is_empty()), "{count}");
         parts.io_slices_mut().iter_mut().zip(b'0'..).for_each(|(slice, digit)| slice.fill(digit));
         assert_eq!(parts.freeze(), *wanted, "{count}");
     }
