@@ -284,7 +284,7 @@ fn frames_that_are_cut() {
 /// A name, and what returns where bytes are before a call and after it.
 type Stays = (&'static str, fn() -> (*const u8, *const u8));
 
-const STAY: [Stays; 8] = [
+const STAY: [Stays; 9] = [
     ("a String", || {
         let text = "hello".to_string();
         (text.as_ptr(), IoBuf::from(text).as_ptr())
@@ -296,6 +296,10 @@ const STAY: [Stays; 8] = [
     ("a BytesMut", || {
         let bytes = BytesMut::from("hello");
         (bytes.as_ptr(), IoBuf::from(bytes).as_ptr())
+    }),
+    ("a Bytes of a writable buffer", || {
+        let part = IoBufMut::from(b"hello");
+        (part.as_ptr(), Bytes::from(part).as_ptr())
     }),
     ("a Bytes that is added", || {
         let (mut bufs, bytes) = (IoBufs::from("-"), Bytes::from(vec![1, 2, 3]));

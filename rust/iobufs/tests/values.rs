@@ -308,6 +308,43 @@ fn writable_buffers_are_read() {
     assert_eq!([read(parts), read(part), read(bytes)], [const { Ok(0x0102_0304) }; 3]);
 }
 
+const ERRORS: [Error; 7] = [
+    Error::EndOfBuffer,
+    Error::InvalidVarint,
+    Error::InvalidLength(7),
+    Error::InvalidBool,
+    Error::InvalidEnum(7),
+    Error::Invalid("Refused", "as it says"),
+    Error::ExtraData(7),
+];
+
+/// A value that no byte is: each is refused for another reason.
+#[derive(Debug, PartialEq)]
+struct Refused;
+
+impl ByParts for Refused {
+    type Parts = u8;
+    type Cfg = ();
+
+    fn cfg(_: &()) {}
+
+    fn from_parts(n: u8) -> Result<Self, Error> {
+        Err(ERRORS[usize::from(n)])
+    }
+
+    fn parts(&self) -> impl Written {
+        0u8
+    }
+}
+iobufs::by_parts! { Refused }
+
+#[test]
+fn reasons_of_a_type() {
+    for (n, error) in (0..).zip(ERRORS) {
+        assert_eq!(Refused::decode_cfg(IoBuf::from(vec![n]), &()), Err(error));
+    }
+}
+
 // Bytes that don't fit: a value isn't put in part.
 #[test]
 fn written_without_room() {
