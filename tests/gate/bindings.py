@@ -250,7 +250,7 @@ def recorder(checks):
 def unmet(lines, build):
     """Statuses that a call's clauses list and no test met, and those that were met, but are reserved or in UNMET."""
     codes = {code: name for name, code in CODE.findall(HEADER)}
-    met = {(name, codes[code]) for name, code in map(str.split, lines.splitlines())}
+    met = {(name, codes[code]) for name, code in map(str.split, lines)}
     wanted = {(name, it) for name, statuses in statuses_in_contracts().items() for it in {"OK", *statuses}}
     left = {(name, status) for status, names in UNMET.items() for name in names.split()}
     for name, statuses in statuses_in_comments().items():
@@ -379,24 +379,28 @@ def neighbours(checks, archive):
     shared = checks.prefix / "with shared"
     place = {**os.environ, "ARCHIVE": str(archive)}
     checks.run("install --shared", [*checks.install, "--shared", shared], env=place)
+    version = re.search(r'IOBUFS_VERSION "(\d+\.\d+)', HEADER)[1]
+    link = os.readlink(shared / "lib/libiobufs.so")
+    checks.say("the link libiobufs.so", [] if link == f"libiobufs.so.{version}" else [link])
     words = [include, checks.prefix / "link.c", f"-L{shared}/lib", "-liobufs", "-o", checks.prefix / "shared"]
     checks.run("cc with libiobufs.so", ["cc", *words])
     needed = checks.run("readelf", ["readelf", "-d", checks.prefix / "shared"]) or ""
-    version = re.search(r'IOBUFS_VERSION "(\d+\.\d+)', HEADER)[1]
     checks.say("SONAME", [] if f"[libiobufs.so.{version}]" in needed else [needed])
     found = {**os.environ, "LD_LIBRARY_PATH": str(shared / "lib")}
     checks.run("a program with libiobufs.so", [checks.prefix / "shared"], env=found, cwd="/")
 
 
 def versions(checks):
-    """Header, manifests and pkg-config have one version."""
+    """Header, manifests and pkg-config have one version. The last says who built the library, and what it needs."""
     files = [TOP / "rust/Cargo.toml", TOP / "rust/iobufs/Cargo.toml", TOP / "rust/tokio/Cargo.toml"]
     found = {re.search(r'^version = "(.*)"', file.read_text(), re.M)[1] for file in files}
     found |= {*re.findall(r'IOBUFS_VERSION "(.*)"', HEADER)}
-    found |= {*re.findall(r"^Version: (.*)", (checks.prefix / "lib/pkgconfig/iobufs.pc").read_text(), re.M)}
+    lines = (checks.prefix / "lib/pkgconfig/iobufs.pc").read_text()
+    found |= {*re.findall(r"^Version: (.*)", lines, re.M)}
     checks.say("versions", [] if len(found) == 1 else [sorted(found)])
     libs = ["-lpthread", "-lm", "-ldl"] if checks.build_by == "cargo" else []
-    said = re.search(r"^Libs: (.*)", (checks.prefix / "lib/pkgconfig/iobufs.pc").read_text(), re.M)[1]
+    checks.say("the builder in iobufs.pc", [] if f"\nbuild={checks.build_by}\n" in lines else [lines])
+    said = re.search(r"^Libs: (.*)", lines, re.M)[1]
     checks.say("libraries of iobufs.pc", [] if said.split()[1:] == ["-liobufs", *libs] else [said])
 
 
@@ -404,17 +408,19 @@ def installs(checks, archive):
     """A folder with any name gets the library, and nothing else; a damaged archive is refused."""
     damaged = checks.prefix / "damaged.a"
     damaged.write_bytes(Path(archive).read_bytes()[:1000])
-    outer = checks.prefix / "others"
+    outer, room = checks.prefix / "others", checks.prefix / "room"
     outer.mkdir()
+    room.mkdir()
     cases = [("in st", archive, True), ("ü", archive, True), ("no", damaged, False)]
     cases += [(name, archive, False) for name in ("ha#sh", 'quo"te', "new\nline", "dol$lar")]
     for name, source, wanted in cases:
-        place = {**os.environ, "ARCHIVE": str(source)}
+        place = {**os.environ, "ARCHIVE": str(source), "TMPDIR": str(room)}
         status = subprocess.run([*checks.install, outer / name], env=place, capture_output=True).returncode
         is_there = (outer / name / "lib/libiobufs.a").is_file()
         good = (status == 0) == is_there == wanted
         checks.say(f"install below {name!r}", [] if good else [f"status {status}, there: {is_there}"])
     checks.say("files of install", {it.name for it in outer.iterdir()} - {"in st", "ü"})
+    checks.say("temporary files of install", [*room.iterdir()])
 
 
 # A status that nobody looks at, of an export and of an inline call.
@@ -490,7 +496,9 @@ def of_c(checks, calls):
             print(f"{name}: {lines[0] if len(lines) == 1 else 'passed'}", flush=True)
     if program := checks.build("frames", [*STRICT, "-D_POSIX_C_SOURCE=200809L"], TOP / "c/examples/frames.c"):
         checks.run("frames", [program], wanted="5 hello\n0 \n", input="\x05hello\0")
-    checks.say("statuses that tests meet", [*unmet(met.read_text() if met.is_file() else "", checks.build_by)])
+    lines = sorted({*met.read_text().splitlines()} if met.is_file() else ())
+    checks.say("statuses that tests meet", [*unmet(lines, checks.build_by)])
+    checks.find("a status that tests meet", [*unmet(lines[1:], checks.build_by)])
     if checks.has("valgrind"):
         races = ["valgrind", "--tool=helgrind", "--error-exitcode=1", "-q", checks.prefix / "threads", 40]
         passed = checks.run("threads under helgrind", races) is not None

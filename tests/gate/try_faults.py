@@ -126,8 +126,10 @@ def main():
         for by in dict.fromkeys(it[0] for it in chosen.values()):
             passes, said = run(room, by)
             checks.say(f"{by} without a fault", [] if passes else [said[-1000:]])
-        harmless = "//! A deque.", "//! Another deque."
-        checks.find("a fault", try_fault(room, "kit", "rust/iobufs/layer/deque.rs", *harmless))
+        file, old = "rust/iobufs/layer/deque.rs", "/// A deque, whose capacity never shrinks."
+        for new, wanted in ("/// A list.", "passes: True"), ("A list.", "passes: False"):
+            found = try_fault(room, "kit", file, old, new)
+            checks.find(f"the fault {new!r}", [it for it in found if it.startswith(wanted)])
         for name, fault in chosen.items():
             checks.say(f"the fault {name}", try_fault(room, *fault))
             print(f"{fault[0]}: {name}", flush=True)

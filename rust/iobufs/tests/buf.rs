@@ -414,6 +414,7 @@ fn spare_capacity_begins_with_the_next_byte() {
         // SAFETY: by no bytes it may always be called, and by more than fit it panics.
         let mut advance = |n| outcome(|| unsafe { buf.advance_mut(n) });
         assert_eq!([0, 5, usize::MAX].map(|n| advance(n).is_ok()), [true, false, false], "{name}");
+        assert!(buf.written().is_empty(), "{name}");
     }
 }
 

@@ -1,7 +1,8 @@
 //! Allocations of calls: no more than what they take, give or drop needs, also of many chunks. What a thread keeps.
 use bytes::{Bytes, BytesMut};
-use iobufs::{FrameCodec, FrameReader, FrameWriter, Frames, IoBuf, IoBufMut, IoBufs, IoBufsMut, Prefix};
-use std::alloc::{GlobalAlloc, Layout, System};
+use iobufs::codec::Encode as _;
+use iobufs::{FrameCodec, FrameReader, FrameWriter, Frames, IoBuf, IoBufMut, IoBufs, IoBufsMut, Layout, Prefix, Whole};
+use std::alloc::{self, GlobalAlloc, System};
 use std::cell::Cell;
 use std::io::Read;
 use std::panic::{catch_unwind, resume_unwind};
@@ -33,20 +34,27 @@ struct Counting;
 #[global_allocator]
 static COUNTING: Counting = Counting;
 
-// SAFETY: it hands each call on.
+/// Bytes are at odd addresses: no allocator has to give others.
+fn at_odd(layout: alloc::Layout) -> alloc::Layout {
+    let shift = usize::from(layout.align() == 1);
+    alloc::Layout::from_size_align(layout.size() + shift, layout.align() + 15 * shift).expect("it is a byte longer")
+}
+
+// SAFETY: it hands each call on, by the layout of `at_odd`, whose last bytes are for such a layout.
 unsafe impl GlobalAlloc for Counting {
-    unsafe fn alloc(&self, layout: Layout) -> *mut u8 {
+    unsafe fn alloc(&self, layout: alloc::Layout) -> *mut u8 {
         COUNT.set(COUNT.get() + 1);
         ALLOCATED.set(ALLOCATED.get() + layout.size());
         hold(layout.size() as isize);
         // SAFETY: the caller's duty.
-        unsafe { System.alloc(layout) }
+        let at = unsafe { System.alloc(at_odd(layout)) };
+        if at.is_null() { at } else { at.wrapping_add(at_odd(layout).size() - layout.size()) }
     }
 
-    unsafe fn dealloc(&self, at: *mut u8, layout: Layout) {
+    unsafe fn dealloc(&self, at: *mut u8, layout: alloc::Layout) {
         hold(-(layout.size() as isize));
         // SAFETY: the caller's duty.
-        unsafe { System.dealloc(at, layout) }
+        unsafe { System.dealloc(at.wrapping_sub(at_odd(layout).size() - layout.size()), at_odd(layout)) }
     }
 }
 
@@ -95,6 +103,16 @@ const CHUNK: usize = 6;
 fn many() -> IoBufs {
     let view = IoBuf::from_owner(vec![1; CHUNK]);
     (0..CHUNKS).map(|_| view.clone()).collect()
+}
+
+// A buffer begins at a multiple of its alignment, whatever gap that takes in the storage.
+#[test]
+fn aligned_bytes_of_storage_at_odd_addresses() {
+    for n in [2, 4, 16, 64, 4096] {
+        let mut part = IoBufMut::with_alignment(8, n.try_into().unwrap());
+        part.put_bytes(7, 8);
+        assert_eq!((part.as_mut_ptr().addr() % n, part.capacity()), (0, 8), "{n}");
+    }
 }
 
 #[test]
@@ -260,6 +278,76 @@ fn encoded_frames() {
     assert_eq!(allocations(|| codec.encode(&body, &mut dst).unwrap()), 1);
     assert_eq!((dst.len(), dst.capacity() < dst.len() + 64), (4 + (1 << 20), true));
     assert_eq!(allocations(|| codec.encode_slice(&[7; 1 << 20], &mut BytesMut::new()).unwrap()), 1);
+}
+
+/// Of a frame that isn't whole nothing is reserved, however long it says that it is.
+#[test]
+fn frames_that_are_cut() {
+    for wire in [&b"\0\x0f"[..], b"\0\x0f\xff\xff", b"\x7f\xff\xff\xff-"] {
+        let (codec, mut src) = (FrameCodec::new(Prefix::U32Be, ..), BytesMut::from(wire));
+        assert_eq!(allocations(|| assert_eq!(codec.decode(&mut src), Ok(None))), 0, "{wire:?}");
+        assert_eq!(allocations(|| assert!(codec.decode_whole(&mut src).unwrap().is_none())), 0, "{wire:?}");
+        assert_eq!(src, wire);
+    }
+}
+
+/// A name, and what returns where bytes are before a call and after it.
+type Stays = (&'static str, fn() -> (*const u8, *const u8));
+
+const STAY: [Stays; 9] = [
+    ("a String", || {
+        let text = "hello".to_string();
+        (text.as_ptr(), IoBuf::from(text).as_ptr())
+    }),
+    ("a box", || {
+        let bytes: Box<[u8]> = [1, 2, 3].into();
+        (bytes.as_ptr(), IoBuf::from(bytes).as_ptr())
+    }),
+    ("a BytesMut", || {
+        let bytes = BytesMut::from("hello");
+        (bytes.as_ptr(), IoBuf::from(bytes).as_ptr())
+    }),
+    ("a Bytes of a writable buffer", || {
+        let part = IoBufMut::from(b"hello");
+        (part.as_ptr(), Bytes::from(part).as_ptr())
+    }),
+    ("a Bytes that is added", || {
+        let (mut bufs, bytes) = (IoBufs::from("-"), Bytes::from(vec![1, 2, 3]));
+        bufs.extend([bytes.clone()]);
+        (bytes.as_ptr(), bufs.chunk_at(1).unwrap().as_ptr())
+    }),
+    ("a chunk that is taken", || {
+        let bufs = IoBufs::from([IoBuf::from(vec![1, 2]), "-".into()]);
+        (bufs.chunk().as_ptr(), bufs.into_iter().next().unwrap().as_ptr())
+    }),
+    ("a Bytes that is written", || {
+        let bytes = Bytes::from(vec![1, 2, 3]);
+        (bytes.as_ptr(), bytes.encode_iobufs().chunk_at(1).unwrap().as_ptr())
+    }),
+    ("what is before a length", || {
+        let (at, whole) = whole();
+        (at, whole.before().chunk().as_ptr())
+    }),
+    ("what is after a length", || {
+        let (at, whole) = whole();
+        (at.wrapping_add(2), whole.after().chunk().as_ptr())
+    }),
+];
+
+/// A frame, and where it is.
+fn whole() -> (*const u8, Whole<IoBufs>) {
+    let (mut frames, bytes) = (Frames::new(Layout::new(Prefix::U8).before(1).after(1)), IoBuf::from(vec![9, 1, 8, 7]));
+    let at = bytes.as_ptr();
+    frames.feed(bytes);
+    (at, frames.next_whole(..).unwrap().unwrap())
+}
+
+#[test]
+fn bytes_stay_where_they_are() {
+    for (name, places) in STAY {
+        let (before, after) = places();
+        assert_eq!(before, after, "{name}");
+    }
 }
 
 /// What a reader holds is handed out without a copy.

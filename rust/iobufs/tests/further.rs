@@ -149,6 +149,14 @@ fn frames_are_iterated_over() {
     assert_eq!(given(&mut from), "ok B");
     from.set_range(..=9);
     assert_eq!(given(&mut from), "123456789 -");
+    let mut from = FrameReader::new(&b"\x09\0ok"[..], ..=8);
+    assert_eq!(given(&mut from), "B");
+    from.set_layout(Layout::new(Prefix::U16Le).counts(7));
+    assert_eq!(given(&mut from), "ok");
+    let mut from = FrameReader::new(&b"\x02ok\x02no\x03yes"[..], ..);
+    assert_eq!(from.next().unwrap().unwrap(), "ok");
+    from.set_range(3..);
+    assert_eq!(from.try_next(), Err(Error::InvalidLength(2)));
 }
 
 // The offset after the last frame that was taken, for reads of every size.

@@ -1,8 +1,8 @@
 //! Conversions, iterators, writers and formats beyond the original's.
 use bytes::{BufMut, Bytes, BytesMut};
-use iobufs::{Builder, IoBuf, IoBufMut, IoBufs, IoBufsMut};
+use iobufs::{Builder, Error, IoBuf, IoBufMut, IoBufs, IoBufsMut};
 use std::fmt::Write as _;
-use std::io::{BufRead, IoSlice, Read, Write};
+use std::io::{self, BufRead, ErrorKind, IoSlice, Read, Write};
 use std::panic::{AssertUnwindSafe, catch_unwind};
 use std::vec::IntoIter;
 
@@ -25,7 +25,9 @@ fn chunks_of_an_iobufs() {
 
     let mut chunks = text.chunks();
     assert_eq!((chunks.len(), chunks.next_back(), chunks.len()), (3, Some(&b"fghi"[..]), 2));
-    assert_eq!((chunks.clone().nth(1), chunks.next(), chunks.len()), (Some(&b"de"[..]), Some(&b"abc"[..]), 1));
+    let mut others = chunks.clone();
+    assert_eq!((others.nth(1), others.len(), others.next()), (Some(&b"de"[..]), 0, None));
+    assert_eq!((chunks.next(), chunks.len()), (Some(&b"abc"[..]), 1));
     assert_eq!(format!("{chunks:?}"), "Chunks { left: 1, .. }");
     assert_eq!((chunks.next_back(), chunks.next(), chunks.next_back()), (Some(&b"de"[..]), None, None));
     let mut views = text.into_iter();
@@ -144,6 +146,7 @@ fn filled_bytes_of_several_buffers() {
         [(1, 1, "0"), (2, 1, "0011"), (3, 4, "0011"), (4, 4, "0011122"), (6, 8, "011122233")]
     {
         let mut parts: IoBufsMut = (0..count).map(|_| IoBufMut::with_capacity(3)).collect();
+        assert!(parts.io_slices_mut().is_empty(), "{count}");
         parts.put_bytes(b'.', 3 * count - 1);
         parts.advance(dropped);
         parts.io_slices_mut().iter_mut().zip(b'0'..).for_each(|(slice, digit)| slice.fill(digit));
@@ -246,6 +249,18 @@ fn spare_capacity_stays_where_it_is() {
 }
 
 // An error is that of `bytes`, where it has one: then this compiles with either, and both have the lengths.
+#[test]
+fn errors_as_those_of_std() {
+    for (error, kind) in [
+        (Error::EndOfBuffer, ErrorKind::UnexpectedEof),
+        (Error::InvalidLength(7), ErrorKind::InvalidData),
+        (Error::ExtraData(1), ErrorKind::InvalidData),
+    ] {
+        let told = io::Error::from(error);
+        assert_eq!((told.kind(), told.downcast::<Error>().unwrap()), (kind, error));
+    }
+}
+
 #[test]
 fn errors_of_short_reads() {
     let mut view = IoBuf::from(b"abc");

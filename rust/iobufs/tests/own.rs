@@ -95,7 +95,7 @@ impl Buf for Hidden {
 }
 
 /// Bytes, what a length at their front is in the range up to 1024, and how many bytes it has.
-const LENGTHS: [(&[u8], Result<usize, Error>, usize); 9] = [
+const LENGTHS: [(&[u8], Result<usize, Error>, usize); 10] = [
     (b"", Err(Error::EndOfBuffer), 0),
     (b"\x05", Ok(5), 1),
     (b"\x05hello", Ok(5), 1),
@@ -105,6 +105,7 @@ const LENGTHS: [(&[u8], Result<usize, Error>, usize); 9] = [
     (b"\x81", Err(Error::EndOfBuffer), 1),
     (b"\x80\x00-", Err(Error::InvalidVarint), 2),
     (b"\xff\xff\xff\xff\xff\xff\xff\xff\xff\x02-", Err(Error::InvalidVarint), 10),
+    (b"\xff\xff\xff\xff\xff\xff\xff\xff\xff\x01-", Err(Error::InvalidLength(usize::MAX)), 10),
 ];
 
 // A length is read from any buffer, however its bytes are cut. After an error nothing changes, unless bytes are hidden.
@@ -116,7 +117,7 @@ fn lengths_at_the_front_of_any_buffer() {
     for (bytes, wanted, len) in LENGTHS {
         let left = |is_hidden| bytes.len() - if wanted.is_ok() || is_hidden { len } else { 0 };
         assert_eq!([read(bytes), read(BytesMut::from(bytes)), read(IoBufMut::from(bytes))], [(wanted, left(false)); 3]);
-        for n in 1..4 {
+        for n in [1, 2, 3, 9] {
             let bufs: IoBufs = bytes.chunks(n).map(IoBuf::from).collect();
             let (front, back) = bytes.split_at(n.min(bytes.len()));
             assert_eq!([read(bufs), read(front.chain(back))], [(wanted, left(false)); 2], "{bytes:?}, chunks of {n}");

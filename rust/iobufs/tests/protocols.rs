@@ -158,7 +158,8 @@ fn whole_frames_are_not_copied() {
     let at = piece.as_ptr();
     let mut frames = Frames::new(Layout::new(Prefix::U8).counts(1));
     frames.feed(piece);
-    assert_eq!(frames.next_whole(..).unwrap().unwrap().get_ref().chunk().as_ptr(), at);
+    let whole = frames.next_whole(..).unwrap().unwrap();
+    assert_eq!((whole.get_ref().chunk().as_ptr(), whole.into_body().chunk().as_ptr()), (at, at.wrapping_add(1)));
 }
 
 /// A PostgreSQL server reads a message without a type, and then such as have one, which may have come with it.
@@ -172,7 +173,7 @@ fn a_layout_is_set_within_a_stream() {
     from.set_layout(POSTGRES);
     for (kind, _, body, _) in SESSIONS[1].1 {
         let whole = from.try_next_whole().unwrap().unwrap();
-        assert_eq!((&whole.header()[..1], whole.clone().into_body()), (*kind, IoBuf::from(*body)));
+        assert_eq!((whole.before(), whole.clone().into_body()), (*kind, IoBuf::from(*body)));
     }
     let mut to = FrameWriter::with_prefix(Vec::new(), STARTUP, ..);
     to.put(SESSIONS[0].1[0].2).unwrap();
@@ -228,9 +229,12 @@ fn headers_that_are_not_written() {
     let mut to = FrameWriter::with_prefix(Vec::<u8>::new(), Layout::new(Prefix::U8).counts(2), ..);
     assert_eq!(to.put(vec![0; 254]), Err(Error::InvalidLength(254)));
     to.put(vec![7; 253]).unwrap();
-    for (around, is_written) in [(22, true), (23, false)] {
-        to.set_layout(Layout::new(Prefix::U64Be).before(around));
-        assert_eq!(to.put_with(&[0; 23][..around.into()], &[], "").is_ok(), is_written);
+    for (around, wanted) in [(22, Ok(())), (23, Err(Error::InvalidLength(1)))] {
+        let layout = Layout::new(Prefix::U64Be).before(around);
+        to.set_layout(layout);
+        let before = &[0; 23][..around.into()];
+        assert_eq!(to.put_with(before, &[], "-"), wanted);
+        assert_eq!(FrameCodec::new(layout, ..).encode_with(before, &[], &"-".into(), &mut BytesMut::new()), wanted);
     }
 }
 

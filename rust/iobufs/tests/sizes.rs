@@ -23,6 +23,7 @@ fn assert_cut<'a>(text: &IoBufs, chunks: impl IntoIterator<Item = &'a [u8]>) {
     assert!(seen == wanted && text.chunks().eq(wanted.iter().copied()));
     assert!(wanted.iter().enumerate().all(|(i, chunk)| text.chunk_at(i) == Some(*chunk)));
     assert_eq!((text.chunk_count(), text.chunk_at(wanted.len())), (wanted.len(), None));
+    assert!(text.io_slices().iter().map(|slice| &**slice).eq(wanted.iter().copied()));
 }
 
 #[test]

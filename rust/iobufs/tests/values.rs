@@ -4,6 +4,7 @@ use bytes::Bytes;
 use iobufs::codec::{ByParts, Decode, Encode, Input, RangeCfg, Written, proved};
 use iobufs::{Builder, Error, IoBuf, IoBufMut, IoBufs, IoBufsMut};
 use std::fmt::Debug;
+use std::panic::{AssertUnwindSafe, catch_unwind};
 
 // A view as a value: it comes back, its bytes stay where they are in one chunk, and are copied once across chunks.
 #[test]
@@ -307,10 +308,52 @@ fn writable_buffers_are_read() {
     assert_eq!([read(parts), read(part), read(bytes)], [const { Ok(0x0102_0304) }; 3]);
 }
 
+const ERRORS: [Error; 7] = [
+    Error::EndOfBuffer,
+    Error::InvalidVarint,
+    Error::InvalidLength(7),
+    Error::InvalidBool,
+    Error::InvalidEnum(7),
+    Error::Invalid("Refused", "as it says"),
+    Error::ExtraData(7),
+];
+
+/// A value that no byte is: each is refused for another reason.
+#[derive(Debug, PartialEq)]
+struct Refused;
+
+impl ByParts for Refused {
+    type Parts = u8;
+    type Cfg = ();
+
+    fn cfg(_: &()) {}
+
+    fn from_parts(n: u8) -> Result<Self, Error> {
+        Err(ERRORS[usize::from(n)])
+    }
+
+    fn parts(&self) -> impl Written {
+        0u8
+    }
+}
+iobufs::by_parts! { Refused }
+
 #[test]
-#[should_panic(expected = "cannot advance past end of buffer")]
+fn reasons_of_a_type() {
+    for (n, error) in (0..).zip(ERRORS) {
+        assert_eq!(Refused::decode_cfg(IoBuf::from(vec![n]), &()), Err(error));
+    }
+}
+
+// Bytes that don't fit: a value isn't put in part.
+#[test]
 fn written_without_room() {
-    7u64.write(&mut Builder::new(7));
+    for write in [|to: &mut Builder| (7u8, 7u64).write(to), |to: &mut Builder| (7u8, 7u64).write_bufs(to)] {
+        let mut to = Builder::new(8);
+        let panic = catch_unwind(AssertUnwindSafe(|| write(&mut to))).unwrap_err();
+        assert_eq!(panic.downcast_ref::<String>().unwrap(), "cannot advance past end of buffer");
+        assert_eq!(to.len(), 0);
+    }
 }
 
 #[test]

@@ -188,9 +188,10 @@ fn blocks_are_shared() {
 #[test]
 fn an_iobufs_is_a_reader() {
     let mut from = Reader(["abc", "de"].into_iter().map(IoBuf::from).collect());
-    let mut block = [0; 4];
-    for (wanted, left) in [("abcd", 1), ("e", 0), ("", 0)] {
+    let mut block = [0; 5];
+    for (wanted, left) in [("-abcd", 1), ("-e", 0), ("-", 0)] {
         let mut to = ReadBuf::new(&mut block);
+        to.put_slice(b"-"); // of another reader
         ready(|cx| Pin::new(&mut from).poll_read(cx, &mut to)).unwrap();
         assert_eq!((to.filled(), from.0.len()), (wanted.as_bytes(), left));
     }

@@ -302,4 +302,54 @@ fn writers_that_fail() {
     let mut bytes = Vec::new();
     BufWriter::with_capacity(Global, 10, &mut bytes).unwrap().write_all(b"abcdef").unwrap();
     assert_eq!(bytes, b"");
+    // What the calls return, and how often the writer is flushed.
+    for (turns, flushes) in [
+        (vec![Ok(2), Err(ErrorKind::StorageFull), Ok(4)], 1),
+        (vec![Ok(2), Ok(0), Ok(3), Err(ErrorKind::Other), Ok(1)], 1),
+        (vec![Ok(6)], 1),
+        (vec![Ok(9)], 1), // A writer that says so took all.
+    ] {
+        let mut told = Told { bytes: Vec::new(), flushes: 0, turns };
+        let mut writer = BufWriter::with_capacity(Global, 10, &mut told).unwrap();
+        writer.write_all(b"abcdef").unwrap();
+        while writer.flush().is_err() {}
+        drop(writer);
+        assert_eq!((&told.bytes[..], told.flushes, told.turns), (&b"abcdef"[..], flushes, Vec::new()));
+    }
+}
+
+/// A stream whose calls return these in turn, and which counts its flushes.
+struct Told {
+    bytes: Vec<u8>,
+    flushes: usize,
+    turns: Vec<Result<usize, ErrorKind>>,
+}
+
+impl io::Read for Told {
+    fn read(&mut self, _: &mut [u8]) -> io::Result<usize> {
+        Ok(self.turns.remove(0)?)
+    }
+}
+
+impl io::Write for Told {
+    fn write(&mut self, bytes: &[u8]) -> io::Result<usize> {
+        let n = self.turns.remove(0)?;
+        self.bytes.extend_from_slice(&bytes[..n.min(bytes.len())]);
+        Ok(n)
+    }
+
+    fn flush(&mut self) -> io::Result<()> {
+        self.flushes += 1;
+        Ok(())
+    }
+}
+
+/// A reader that says that it read more than its space has filled it.
+#[test]
+fn readers_that_lie() {
+    let told = Told { bytes: Vec::new(), flushes: 0, turns: vec![Ok(5), Ok(0)] };
+    let mut reader = BufReader::with_capacity(Global, 4, told).unwrap();
+    assert_eq!(reader.fill_buf().unwrap(), [0; 4]);
+    reader.consume(4);
+    assert_eq!(reader.fill_buf().unwrap(), []);
 }

@@ -16,6 +16,8 @@ struct Refusing;
 thread_local! {
     /// How many allocations of this thread succeed until one is refused.
     static LEFT: Cell<u64> = const { Cell::new(u64::MAX) };
+    /// How many of its blocks are held.
+    static HELD: Cell<i64> = const { Cell::new(0) };
 }
 
 fn is_refused() -> bool {
@@ -24,14 +26,19 @@ fn is_refused() -> bool {
     left == 0
 }
 
+fn hold(at: *mut u8) -> *mut u8 {
+    HELD.set(HELD.get() + i64::from(!at.is_null()));
+    at
+}
+
 // SAFETY: null says that there is no memory; all else is the system's.
 unsafe impl GlobalAlloc for Refusing {
     unsafe fn alloc(&self, layout: Layout) -> *mut u8 {
-        if is_refused() { ptr::null_mut() } else { unsafe { System.alloc(layout) } }
+        if is_refused() { ptr::null_mut() } else { hold(unsafe { System.alloc(layout) }) }
     }
 
     unsafe fn alloc_zeroed(&self, layout: Layout) -> *mut u8 {
-        if is_refused() { ptr::null_mut() } else { unsafe { System.alloc_zeroed(layout) } }
+        if is_refused() { ptr::null_mut() } else { hold(unsafe { System.alloc_zeroed(layout) }) }
     }
 
     unsafe fn realloc(&self, block: *mut u8, layout: Layout, n: usize) -> *mut u8 {
@@ -39,6 +46,7 @@ unsafe impl GlobalAlloc for Refusing {
     }
 
     unsafe fn dealloc(&self, block: *mut u8, layout: Layout) {
+        HELD.set(HELD.get() - 1);
         unsafe { System.dealloc(block, layout) }
     }
 }
@@ -47,7 +55,7 @@ unsafe impl GlobalAlloc for Refusing {
 static ALLOCATOR: Refusing = Refusing;
 
 /// Makes a value, and calls it with its first allocation refused, then its second, up to the number that it makes. The
-/// call returns whether it succeeded; after an error the value has to be as it was.
+/// call returns whether it succeeded; after an error the value has to be as it was. No block stays without it.
 fn refuse<T>(
     name: &str,
     allocations: u64,
@@ -56,12 +64,15 @@ fn refuse<T>(
     is_same: impl Fn(&T) -> bool,
 ) {
     for n in 0..=allocations {
+        let held = HELD.get();
         let mut value = make();
         LEFT.set(n);
         let is_done = call(&mut value);
         LEFT.set(u64::MAX);
         assert_eq!(is_done, n == allocations, "{name}, {n} allocations");
         assert!(is_done || is_same(&value), "{name}, {n} allocations: it changed");
+        drop(value);
+        assert_eq!(HELD.get(), held, "{name}, {n} allocations: blocks stay");
     }
 }
 
@@ -136,9 +147,10 @@ fn shared() {
         let make = || {
             let mut storage = KitVec::with_capacity(Global, 5 + spare).unwrap();
             storage.extend_from_slice(b"hello").unwrap();
-            Block::new(Global, Shell::none(), Space::of(storage, 5)).ok()
+            Block::new(Global, Shell::none(), Space::of(storage, 5 + spare / 2)).ok()
         };
-        let is_same = |it: &Option<Block>| it.as_ref().unwrap().as_slice() == b"hello";
+        let parts = |it: &Block| (it.as_slice() == b"hello", it.capacity());
+        let is_same = |it: &Option<Block>| it.as_ref().map(parts) == Some((true, 5 + spare / 2));
         refuse("Block::into_bytes", 1, make, convert, is_same);
     }
     let is_same = |it: &Option<KitVec<u8>>| it.as_ref().unwrap().as_slice() == b"hello";

@@ -7,7 +7,7 @@ const CRATES: [&str; 2] = ["one", "two"];
 const HEAD: &str = "use crate::kit::prelude::*; ";
 
 /// A source, and what is left of it, but for the import before its first item. `\n` where lines stay empty.
-const LEFT: [(&str, &str); 42] = [
+const LEFT: [(&str, &str); 44] = [
     ("fn f() {\n    g();\n    h();\n}\n", "#[inline] fn f() {\n    g();\n    h();\n}\n"),
     (
         "fn f(n: u8) -> u8\n    requires { n < 9 }\n{\n    n\n}\n",
@@ -35,6 +35,11 @@ const LEFT: [(&str, &str); 42] = [
     ),
     ("trait T {\n    final fn f(&self) {}\n}\n", "trait T {\n    #[inline] fn f(&self) {}\n}\n"),
     ("#[inline(never)]\npub fn f() {}\n", "#[inline(never)]\npub fn f() {}\n"),
+    ("#[inline(never)]\nfn f() {}\nfn g() {}\n", "#[inline(never)]\nfn f() {}\n#[inline] fn g() {}\n"),
+    (
+        "fn f() {\n    g(\"\\\\\", \"ghost use a;\");\n}\n",
+        "#[inline] fn f() {\n    g(\"\\\\\", \"ghost use a;\");\n}\n",
+    ),
     ("#[cold]\npub(crate) fn f() {}\n", "#[cold]\n#[inline] pub(crate) fn f() {}\n"),
     ("#[unsafe(no_mangle)]\npub extern \"C\" fn f() {}\n", "#[unsafe(no_mangle)]\npub extern \"C\" fn f() {}\n"),
     ("const F: fn(u8) -> u8 = g;\n", "const F: fn(u8) -> u8 = g;\n"),

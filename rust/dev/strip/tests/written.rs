@@ -401,7 +401,8 @@ const PACKAGE: [(&str, &str); 5] = [
     ),
 ];
 
-/// A build after a change of a source, and after a further one, has the change.
+/// A build after a change of a source, and after a further one, has the change. One after the table of crates has lost the
+/// crate fails.
 #[test]
 fn a_changed_source_is_built_again() {
     let room = Room::new("again");
@@ -410,13 +411,18 @@ fn a_changed_source_is_built_again() {
         fs::create_dir_all(file.parent().unwrap()).unwrap();
         fs::write(file, text.replace("STRIP", &format!("{:?}", env!("CARGO_MANIFEST_DIR")))).unwrap();
     }
+    let run = || {
+        let words = ["run", "--quiet", "--offline", "--target-dir", "target"];
+        Command::new(env!("CARGO")).args(words).current_dir(&room.0).output().unwrap()
+    };
     for n in 1..=3 {
         let source = format!("pub const N: u8 = M;\nconst M: u8 = {n};\n");
         fs::write(room.0.join("crates/one/src/lib.rt"), source).unwrap();
-        let words = ["run", "--quiet", "--offline", "--target-dir", "target"];
-        let ran = Command::new(env!("CARGO")).args(words).current_dir(&room.0).output().unwrap();
+        let ran = run();
         assert_eq!(String::from_utf8_lossy(&ran.stdout), n.to_string(), "{}", String::from_utf8_lossy(&ran.stderr));
     }
+    fs::write(room.0.join("crates.txt"), "two:\n").unwrap();
+    assert!(String::from_utf8_lossy(&run().stderr).contains("no crate one"));
 }
 
 /// Sources that are packed may not be beside those of the repository: then nobody sees which are built.
