@@ -351,14 +351,21 @@ def believe():
     )
     functions, goals = of_gate("functions proved, without those of tests"), of_gate("goals left open")
     tried = of_gate("mutants tried, and refused by the prover")
-    said = f"proved {functions} functions, and left {goals} goals open. Mutants that it tried, and refused: {tried}"
-    yield f"The [last recorded gate](docs/GATE.md) {said if functions and goals and tried else 'says what it ran'}."
+    if not (functions and goals and tried):
+        yield "The [last recorded gate](docs/GATE.md) says what it ran."
+        return
+    mutants, refused = tried.split(", ")
+    yield (
+        f"The [last recorded gate](docs/GATE.md) proved {functions} functions, left {goals} goals open, and refused"
+        f" {refused} of {mutants} mutants."
+    )
 
 
 def unseen():
     """The bug that no test sees, as the last recorded gate met it."""
     found = UNSEEN.search(GATE)
-    yield f"{found[1].strip()}\n\nThe second command needs the kit." if found else "The next recorded gate shows it."
+    shown = re.sub(r"; `search`.*|^fn .*\n", "", found[1].strip(), flags=re.M) if found else ""
+    yield f"{shown}\n\nThe second command needs the kit, and says more." if found else "The next recorded gate shows it."
 
 
 def faults_of_results():
