@@ -364,7 +364,7 @@ def believe():
 def unseen():
     """The bug that no test sees, as the last recorded gate met it."""
     found = UNSEEN.search(GATE)
-    shown = re.sub(r"; `search`.*|^fn .*\n", "", found[1].strip(), flags=re.M) if found else ""
+    shown = re.sub(r"^(fn|note: src/).*\n", "", found[1].strip(), flags=re.M) if found else ""
     yield f"{shown}\n\nThe second needs the kit, and says more." if found else "The next recorded gate shows it."
 
 
