@@ -365,7 +365,8 @@ def unseen():
     """The bug that no test sees, as the last recorded gate met it."""
     found = UNSEEN.search(GATE)
     shown = re.sub(r"^(fn|note: src/).*\n", "", found[1].strip(), flags=re.M) if found else ""
-    yield f"{shown}\n\nThe second needs the kit, and says more." if found else "The next recorded gate shows it."
+    said = f"{shown}\n\nFrom the last recorded gate; the second needs the kit."
+    yield said if found else "The next recorded gate shows it."
 
 
 def faults_of_results():
