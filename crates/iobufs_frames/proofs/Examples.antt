@@ -1,4 +1,4 @@
--- What an error leaves, and what calls after it do, by the definitions.
+-- Calls that fail, and calls after them, by the definitions.
 use Rattle.std.specs.Prelude.{◌≡◌, ◌⊎◌, ℕ, false, Option, Result, Ok, Err, List, [], ◌++◌}
 use Rattle.std.proofs.Common.{ap, inl, inr, ◌∙◌}
 use Rattle.std.specs.Io.KnownBytes.{Appends}
@@ -44,7 +44,7 @@ nothing_sent : {W : Type 0} (contents : W → Option (List ℕ)) (old new : Fram
     → SendsRest contents old result new → IsIdle old → contents new.to ≡ contents old.to
 nothing_sent contents old new result sends idle = ap (λ writer. contents writer.to) (sends.idle idle)
 
--- a body that can wait is handed back for want of memory, and one that can't is too long
+-- a body that can wait is handed back with `Memory`, and one that cannot with `TooLong`
 cause_of_refusal : {W : Type 0} (before after : List ℕ) (old new : FrameWriter W) (body : MarkedText) (refused : Refused MarkedText)
     → PutsFrame before after old body (Err refused) new
     → (CanWait before after old body → refused.cause ≡ Memory) × ((CanWait before after old body → ⊥) → refused.cause ≡ TooLong)
