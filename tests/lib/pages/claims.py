@@ -47,10 +47,12 @@ def claims():
     everywhere = [*pages, "rust/iobufs/CHANGELOG.md", "c/include/iobufs.h", "bench/README.md"]
     yield "the original", original, everywhere, r"commonware-runtime (\d+\.\d+\.\d+)"
     yield "the version", version, manifests, r'^version = "(.*)"'
+    yield "the version", version, pages[:1], r"Version (\S+) is"
     yield "the version", version, ["c/include/iobufs.h"], r'#define IOBUFS_VERSION "(.*)"'
     yield "the version", version, ["rust/iobufs/CHANGELOG.md"], r"\A# Changes\n[^#]*## (\S+)"
     yield "the kit", kit_logic(), pages[:1], r"`rt version` ends in `([^`]*)`"
-    yield "answers", lines_of("original"), ["docs/DIFFERENCES.md"], r"compares (\d+) answers"
+    yield "answers", lines_of("original"), ["docs/DIFFERENCES.md", "README.md"], r"compares? (\d+) answers"
+    yield "unsafe files", str(len(unsafe_files()[1])), pages[:1], r"`unsafe` in \[(\d+) files\]"
     yield "uses", lines_of("uses"), ["docs/DIFFERENCES.md"], r"compiles (\d+) uses"
     batch = first("crates/iobufs/src/bufs/writing.rt", r"const BATCH: usize = (\d+);")
     yield "a batch", batch, ["docs/GUIDE.md", "rust/iobufs/src/text.rs"], r"(?:each of )?up to (\d+) (?:of them|chunks)"
