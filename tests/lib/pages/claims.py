@@ -52,7 +52,8 @@ def claims():
     yield "the version", version, ["rust/iobufs/CHANGELOG.md"], r"\A# Changes\n[^#]*## (\S+)"
     yield "the kit", kit_logic(), pages[:1], r"`rt version` ends in `([^`]*)`"
     yield "answers", lines_of("original"), ["docs/DIFFERENCES.md", "README.md"], r"compares? (\d+) answers"
-    yield "unsafe files", str(len(unsafe_files()[1])), pages[:1], r"`unsafe` in \[(\d+) files\]"
+    with_unsafe = str(len(unsafe_files()[1]) - 1)  # src/lib.rs only names the others
+    yield "unsafe files", with_unsafe, pages[:1], r"`unsafe` in \[(\d+) files\]"
     yield "uses", lines_of("uses"), ["docs/DIFFERENCES.md"], r"compiles (\d+) uses"
     batch = first("crates/iobufs/src/bufs/writing.rt", r"const BATCH: usize = (\d+);")
     yield "a batch", batch, ["docs/GUIDE.md", "rust/iobufs/src/text.rs"], r"(?:each of )?up to (\d+) (?:of them|chunks)"
