@@ -218,7 +218,7 @@ def chunks(rows):
     yield from ("", "## By number of chunks", "")
     yield "Instructions a call; `iobufs` is the Rust crate. The caller of a `VecDeque<Bytes>` walks to the chunk, and"
     yield "takes bytes by `pop_front` and `Bytes::split_to`."
-    yield from ("", "![instructions by number of chunks](chunks.svg)", "")
+    yield ""
     counts = {name: [it for it in rows if it.name == name] for name in dict.fromkeys(it.name for it in rows)}
     of = lambda row: number(next(it for it in row.instructions() if it is not None), 0)
     yield from table(["call", *(f"{int(it):,}" for it in sizes)], ([name, *map(of, counts[name])] for name in counts))
@@ -237,9 +237,6 @@ def page():
     lines = ([it.name, number(it.least()[1], 0), ratio(it.least()), ratio(it.instructions())] for it in of("program"))
     columns = ["lines", "ns a line", "time, over the original's driver", "instructions, over them"]
     yield from ("", "## The program, by lines", "", *table(columns, lines))
-    few = ([it.name, *(number(ns, 0) for ns in it.least()), ratio(it.least())] for it in of("machine"))
-    yield from ("", "## The machine, by lines", "", "Least of five runs.", "")
-    yield from table(["lines", "ns a line with few", "with many", "ratio"], few)
     yield from ("", "## The Rust crate", "", *summary("rust", rows), "", PROFILES, "", *compared("rust", rows))
     columns = ["call, also of `bytes`", "instructions, over those of `bytes`"]
     yield from ("", "## Beside bytes", "", *table(columns, ([name, number(it)] for name, it in beside(rows))))
