@@ -13,7 +13,7 @@ import results  # noqa: E402
 
 SUBJECTS = (ROOT / "tests/lib/pages/subjects").read_text().splitlines()
 API = dict(line.split(": ") for line in SUBJECTS if not line.startswith("#"))
-FOR_LAYERS, LAWS = set(API.pop("for layers").split()), API.pop("laws")
+FOR_LAYERS = API.pop("for layers").split()
 COLUMNS = re.compile(r" {2,}")  # Between two columns: len  text_len self\.old
 # The rows of conditions: what a caller knows a part of a condition by, and when a call cannot fail.
 SHORT, SURE = (
@@ -138,31 +138,25 @@ def row(comment, owner, name, declared):
     return call, "".join(returns[:1]), does(comment), conditions, *about
 
 
-def is_for_layers(owner, name):
-    """Whether a call is for layers, by its name alone or after that of its type."""
-    return name in FOR_LAYERS or f"{owner}::{name}" in FOR_LAYERS
-
-
-def calls(files, are_for_layers=False):
-    """The rows of the calls in these files, for users or for layers, and those that have nothing to say in them. Each
-    has its type's name, if the files have calls of several. Laws aren't among them."""
+def calls(files):
+    """The rows of the calls in these files but those for layers, and those that have nothing to say in them. Each has
+    its type's name, if the files have calls of several. Laws aren't among them."""
     found = [it for file in files.split() for it in declarations((CRATES / file).read_text())]
-    found = [it for it in found if not it[2].endswith("_law")]
-    owners = {owner for _, owner, name, _ in found if not is_for_layers(owner, name)}
+    found = [it for it in found if not it[2].endswith("_law") and not {it[2], f"{it[1]}::{it[2]}"} & {*FOR_LAYERS}]
+    has_several = len({owner for _, owner, *_ in found}) > 1
     rows, plain = [], []
     for comment, owner, name, declared in found:
-        if is_for_layers(owner, name) == are_for_layers:
-            named = f"{owner}::{name}" if owner and (len(owners) > 1 or are_for_layers) else name
-            made = row(comment, owner, named, declared)
-            is_plain = not any(made[3:6]) and "alloc" not in arguments(declared) and not are_for_layers
-            plain.append(named) if is_plain else rows.append(made)
+        named = f"{owner}::{name}" if owner and has_several else name
+        made = row(comment, owner, named, declared)
+        is_plain = not any(made[3:6]) and "alloc" not in arguments(declared)
+        plain.append(named) if is_plain else rows.append(made)
     return dict.fromkeys(rows), dict.fromkeys(plain)
 
 
-def types(files, are_for_layers=False):
-    """The public types of these files, for users or for layers."""
+def types(files):
+    """The public types of these files but those for layers."""
     found = [it for file in files.split() for it in TYPE.findall((CRATES / file).read_text())]
-    return [f"`{name}`" for comment, name in found if ("for layers" in comment) == are_for_layers]
+    return [f"`{name}`" for comment, name in found if "for layers" not in comment]
 
 
 def traits(files):
@@ -177,37 +171,20 @@ def table(rows):
     yield from (f"|`{row[0]}`|" + "|".join(row[1:]) + "|" for row in rows)
 
 
-def linked(files):
-    """A link to each of these files."""
-    return ", ".join(f"[{it.rsplit('/', 1)[1]}](../crates/{it})" for it in files)
-
-
-def laws():
-    """The laws, which do nothing, and their files."""
-    for file in LAWS.split():
-        found = [name for _, _, name, _ in declarations((CRATES / file).read_text()) if name.endswith("_law")]
-        yield f"{linked([file])}: " + ", ".join(f"`{name}`" for name in found)
-
-
 def api():
-    """The tables of the public calls, by subject, and the names of those for layers."""
+    """The tables of the public calls, by subject."""
     for title, files in API.items():
         rows, plain = calls(files)
         shown = [it for it in files.split() if any(calls(it)) or types(it)]
         named = types(files)
-        yield f"\n## {title}\n\nIn {linked(shown)}." + (f" Types: {', '.join(named)}." if named else "")
+        linked = ", ".join(f"[{it.rsplit('/', 1)[1]}](../crates/{it})" for it in shown)
+        yield f"\n## {title}\n\nIn {linked}." + (f" Types: {', '.join(named)}." if named else "")
         if rows:
             yield from table(rows)
         if plain:
             yield "\nNeither condition nor error: " + ", ".join(f"`{name}`" for name in plain) + "."
         if not rows and not plain:
             yield "\nIts calls are those of " + ", ".join(f"`{name}`" for name in traits(files)) + "."
-    named = ", ".join(name for files in API.values() for name in types(files, are_for_layers=True))
-    rows = [row[0].partition("(")[0] for files in API.values() for row in calls(files, are_for_layers=True)[0]]
-    yield "\n## For layers\n\nOther crates, C or the Rust crate call these; a user needs none."
-    yield f"\nTypes: {named}. Calls: " + ", ".join(f"`{name}`" for name in rows) + "."
-    yield "\n## Laws\n\nThese calls do nothing; the contract of each is the law.\n"
-    yield from (f"- {line}" for line in laws())
 
 
 # ---- crates
@@ -320,16 +297,14 @@ def speed():
         f" with the same steps, and {everyday.time:.2f} over everyday calls; the slowest are"
         f" {results.slowest('rust', rows)}."
     )
-    if beside := ", ".join(f"{name} {ratio:.2f}" for name, ratio in results.beside(rows)):
-        yield f"Of the instructions of `bytes` it takes: {beside}."
+    calls_of_both = ", ".join(f"{name} {ratio:.2f}" for name, ratio in results.beside(rows))
+    yield f"Of the instructions of `bytes` it takes: {calls_of_both}."
 
 
 def beside():
     """The calls that `bytes` has too, with the instructions of the Rust crate over those of `bytes`."""
-    found = list(results.beside(results.read()[1]))
-    head = "|call|instructions, over those of `bytes`|\n|---|--:|"
-    yield head if found else "The next measurement compares instructions with those of `bytes`."
-    yield from (f"|{name}|{ratio:.2f}|" for name, ratio in found)
+    yield "|call|instructions, over those of `bytes`|\n|---|--:|"
+    yield from (f"|{name}|{ratio:.2f}|" for name, ratio in results.beside(results.read()[1]))
 
 
 GATE = (ROOT / "docs/GATE.md").read_text()
@@ -337,9 +312,8 @@ UNSEEN = re.compile(r"^## A bug that no test sees\n\n(.*?)(?=\n## )", re.M | re.
 
 
 def of_gate(what):
-    """What a row of docs/GATE.md says, if it is there."""
-    found = re.search(rf"^\|{re.escape(what)}\|(.*)\|$", GATE, re.M)
-    return found and found[1]
+    """What a row of docs/GATE.md says."""
+    return re.search(rf"^\|{re.escape(what)}\|(.*)\|$", GATE, re.M)[1]
 
 
 def believe():
@@ -351,9 +325,6 @@ def believe():
     )
     functions, goals = of_gate("functions proved, without those of tests"), of_gate("goals left open")
     tried = of_gate("mutants tried, and refused by the prover")
-    if not (functions and goals and tried):
-        yield "The [last recorded gate](docs/GATE.md) says what it ran."
-        return
     mutants, refused = tried.split(", ")
     yield (
         f"The [last recorded gate](docs/GATE.md) proved {functions} functions, left {goals} goals open, and refused"
@@ -363,10 +334,8 @@ def believe():
 
 def unseen():
     """The bug that no test sees, as the last recorded gate met it."""
-    found = UNSEEN.search(GATE)
-    shown = re.sub(r"^(fn|note: src/).*\n", "", found[1].strip(), flags=re.M) if found else ""
-    said = f"{shown}\n\nFrom the last recorded gate; the second needs the kit."
-    yield said if found else "The next recorded gate shows it."
+    yield re.sub(r"^(fn|note: src/).*\n", "", UNSEEN.search(GATE)[1].strip(), flags=re.M)
+    yield "\nFrom the last recorded gate; the second needs the kit."
 
 
 def faults_of_results():
