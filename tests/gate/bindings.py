@@ -37,6 +37,7 @@ from pathlib import Path
 sys.path.insert(0, str(Path(__file__).resolve().parents[1] / "lib"))
 import common
 from common import CRATES, TOP, arguments, below, kit, rattle
+from pages.header import HANDLES
 
 C = TOP / "c/tests"
 HEADER = (TOP / "c/include/iobufs.h").read_text()
@@ -162,10 +163,6 @@ IN_C = {
     "&[u8]": "const uint8_t *, size_t", "&'static [u8]": "const uint8_t *, size_t", "&mut [u8]": "uint8_t *, size_t",
     "&mut [Chunk]": "struct iobufs_iovec *, size_t", "&mut [PartAt]": "struct iobufmut_at *, size_t",
     "&LayoutInC": "const struct iobufs_layout *",
-}
-HANDLES = {
-    "ViewAt": "iobuf", "PartAt": "iobufmut", "TextAt": "iobufs", "PartsAt": "iobufsmut", "BuilderAt": "iobufs_builder",
-    "FramesAt": "iobufs_frames", "ReceivedAt": "iobufs_received",
 }
 LENDING = ("iobufmut_chunk", "iobufsmut_chunk")
 # The parameters of an export, its result and its clauses: (src: &mut ViewAt) -> usize\n    ensures ..
