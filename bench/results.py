@@ -167,11 +167,12 @@ def compared(name, rows):
     known, cells = causes(), []
     for row in (it for it in rows if it.table == name):
         shown = f"`{row.name}`{' *' if row.name in FOLDED_OF[name] else ''}"
-        allocated = " / ".join(filter(None, (row.original_allocations, row.ours_allocations)))
+        counts = [f"{float(it):g}" for it in (row.original_allocations, row.ours_allocations) if it]
+        allocated = " / ".join(counts) if len({*counts}) == len(counts) else ""
         both = [ratio(row.least()), ratio(row.instructions())]
         alone = [row.ours_ns and f"{row.least()[1]:.2f} ns", f"{row.ours_instructions} instr."]
         cells.append([shown, *(both if row.has_both() else alone), allocated, known.get(row.name, "")])
-    return table(["workload", "time", "instructions", "allocations, there / here", "cause"], cells)
+    return table(["workload", "time", "instructions", "allocations, there / here, if they differ", "cause"], cells)
 
 
 def summary(name, rows):

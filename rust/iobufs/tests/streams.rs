@@ -1,4 +1,5 @@
 //! Frames over readers and writers, which move few bytes at a time, are interrupted, fail, lie, panic, and are counted.
+use iobufs::bytes::BytesMut;
 use iobufs::{Error, FrameError, FrameReader, FrameWriter, Frames, IoBuf, IoBufs, Prefix};
 use std::cell::Cell;
 use std::error::Error as _;
@@ -241,6 +242,19 @@ fn bodies_are_shared() {
     let bodies = [from.next(), from.next(), from.next()].map(|body| body.unwrap().unwrap());
     let first = bodies[0].as_ptr();
     assert_eq!(bodies.map(|body| body.as_ptr()), [first, first.wrapping_add(4), first.wrapping_add(7)]);
+}
+
+/// What `src/spare/block.rs` takes of the crate `bytes`: a block that gets its space back stays in its allocation.
+#[test]
+fn a_reclaimed_block_ends_where_it_ended() {
+    for (n, taken, kept) in [(64, 40, 10), (4096, 4095, 0), (65536, 1000, 500)] {
+        let mut block = BytesMut::zeroed(n);
+        let end = block.as_ptr_range().end;
+        drop(block.split_to(taken));
+        block.truncate(kept);
+        assert!(block.try_reclaim(n - kept), "{n} {taken} {kept}");
+        assert_eq!(block.as_ptr().wrapping_add(block.capacity()), end);
+    }
 }
 
 /// A body of nine bytes in three chunks.
