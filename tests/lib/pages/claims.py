@@ -51,9 +51,11 @@ def claims():
     yield "the version", version, ["c/include/iobufs.h"], r'#define IOBUFS_VERSION "(.*)"'
     yield "the version", version, ["rust/iobufs/CHANGELOG.md"], r"\A# Changes\n[^#]*## (\S+)"
     yield "the kit", kit_logic(), pages[:1], r"`rt version` ends in `([^`]*)`"
-    yield "answers", lines_of("original"), ["docs/DIFFERENCES.md", "README.md"], r"compares? (\d+) answers"
-    with_unsafe = str(len(unsafe_files()[1]) - 1)  # src/lib.rs only names the others
-    yield "unsafe files", with_unsafe, pages[:1], r"`unsafe` in \[(\d+) files\]"
+    yield "answers", lines_of("original"), ["docs/DIFFERENCES.md", "README.md"], r"(\d+) answers"
+    with_unsafe = [RUST / it for it in unsafe_files()[1] if it != "src/lib.rs"]  # That one only names the others.
+    lines = re.findall(r"^(?! *//).*\bunsafe\b", "\n".join(it.read_text() for it in with_unsafe), re.M)
+    yield "unsafe files", str(len(with_unsafe)), pages[:1], r"`unsafe` in \[(\d+) files\]"
+    yield "unsafe lines", str(len(lines)), pages[:1], r"(\d+) lines of `unsafe`"
     yield "uses", lines_of("uses"), ["docs/DIFFERENCES.md"], r"compiles (\d+) uses"
     batch = first("crates/iobufs/src/bufs/writing.rt", r"const BATCH: usize = (\d+);")
     yield "a batch", batch, ["docs/GUIDE.md", "rust/iobufs/src/text.rs"], r"(?:each of )?up to (\d+) (?:of them|chunks)"

@@ -293,12 +293,12 @@ def speed():
     sets = {said: results.means(some) for said, some in results.sets_of("rust", rows)}
     same, everyday = sets["with the same steps"], sets["everyday calls"]
     yield (
-        f"The Rust crate takes {same.time:.2f} of the original's time over [{same.count} workloads](bench/RESULTS.md)"
-        f" with the same steps, and {everyday.time:.2f} over everyday calls; the slowest are"
+        f"The Rust crate's mean time is {same.time:.2f} of the original's in [{same.count} workloads](bench/RESULTS.md)"
+        f" with the same steps, {everyday.time:.2f} in {everyday.count} everyday calls; the slowest are"
         f" {results.slowest('rust', rows)}."
     )
     calls_of_both = ", ".join(f"{name} {ratio:.2f}" for name, ratio in results.beside(rows))
-    yield f"Of the instructions of `bytes` it takes: {calls_of_both}."
+    yield f"Instructions over those of `bytes` (queue8: of a `VecDeque<Bytes>`): {calls_of_both}. C has no figures."
 
 
 def beside():
@@ -320,22 +320,22 @@ def believe():
     """How much a reader has to believe of one contract, and what the last recorded gate proved."""
     number, lines = next((number, lines) for name, number, lines in contracts() if name == "`IoBufs::split_to`")
     yield (
-        f"To believe `IoBufs::split_to`, read {number} definitions of {lines} lines, which `tests/trusted"
-        " iobufs/src/bufs.rt split_to` lists by Python alone."
+        f"The contract of `IoBufs::split_to` rests on {number} definitions ({lines} lines) besides std's, which"
+        " `tests/trusted iobufs/src/bufs.rt split_to` lists."
     )
     functions, goals = of_gate("functions proved, without those of tests"), of_gate("goals left open")
     tried = of_gate("mutants tried, and refused by the prover")
     mutants, refused = tried.split(", ")
     yield (
         f"The [last recorded gate](docs/GATE.md) proved {functions} functions, left {goals} goals open, and refused"
-        f" {refused} of {mutants} mutants."
+        f" {refused} of {mutants} planted bugs."
     )
 
 
 def unseen():
     """The bug that no test sees, as the last recorded gate met it."""
     yield re.sub(r"^(fn|note: src/).*\n", "", UNSEEN.search(GATE)[1].strip(), flags=re.M)
-    yield "\nFrom the last recorded gate; the second needs the kit."
+    yield "\nThe second command needs the kit."
 
 
 def faults_of_results():
