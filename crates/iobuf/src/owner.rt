@@ -62,7 +62,7 @@ impl Service for Owner {
     }
 }
 
-// The machine of a first line: `machine PARTIES CEILING 64`, or `.. 32`.
+// The machine of a first line: `machine THREADS CEILING 64`, or `.. 32`.
 fn new_machine(alloc: Global, words: &mut Words<'_>) -> Result<Machine, LineError>
     ensures { IfOk result IsNew }
 {

@@ -1,4 +1,4 @@
-// A text of up to six chunks of two bytes, cut at each place by each call that cuts, also if its deque wraps.
+// A text of up to six chunks of two bytes, cut at each place by six calls, also if its deque wraps.
 use crate::same::assert_same;
 use iobufs::bufs::IoBufs;
 use iobufs_core::buf::IoBuf;

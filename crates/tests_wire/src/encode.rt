@@ -70,7 +70,7 @@ fn last_capacity(
     Some(view.try_into_mut(rt.alloc()).ok()?.capacity())
 }
 
-// How many bytes come first and how many after them are kept: a chunk of an encoded shard, and its capacity.
+// Where a chunk of an encoded shard begins and ends, and its capacity if it becomes writable.
 const CHUNKS: [(usize, usize, Option<usize>); 3] = [(0, 3, Some(7)), (3, 4, None), (4, 8, Some(4))];
 
 // The two runs of inline bytes lie in one buffer of exactly their length, and the view stays as it is.
