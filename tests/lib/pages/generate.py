@@ -320,7 +320,7 @@ def believe():
     """How much a reader has to believe of one contract, and what the last recorded gate proved."""
     number, lines = next((number, lines) for name, number, lines in contracts() if name == "`IoBufs::split_to`")
     yield (
-        f"The contract of `IoBufs::split_to` rests on {number} definitions ({lines} lines) besides std's, which"
+        f"Besides std's, the contract of `IoBufs::split_to` rests on {number} definitions ({lines} lines), which"
         " `tests/trusted iobufs/src/bufs.rt split_to` lists."
     )
     functions, goals = of_gate("functions proved, without those of tests"), of_gate("goals left open")
