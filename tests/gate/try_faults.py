@@ -18,6 +18,7 @@ bytes, tokio, loom, valgrind, cc). Ends with a line `N passed, M failed`."""
 import os
 import re
 import shutil
+import signal
 import subprocess
 import sys
 import tempfile
@@ -85,19 +86,24 @@ def commands(by):
 def run(room, by):
     """Whether a suite passes, and what it says. One that doesn't end fails."""
     *builds, last = commands(by)
-    how = {"cwd": room, "capture_output": True, "text": True}
+    how = {"cwd": room, "text": True}
     how["env"] = {**os.environ, "CARGO_TARGET_DIR": str(room / "target"), "IOBUFS_ROUNDS": "500"}
     if by == "bindings":
         how["env"]["IOBUFS_WITHOUT"] = "valgrind"  # It finds races, and takes long.
     for words in builds:
-        done = subprocess.run(words, **how)
+        done = subprocess.run(words, capture_output=True, **how)
         if done.returncode:
             return False, f"{done.stderr[-1000:]}\n{NO_BUILD}"
-    try:
-        done = subprocess.run(last, timeout=SECONDS, **how)
-    except subprocess.TimeoutExpired:
-        return False, "it doesn't end"
-    return done.returncode == 0, done.stdout + done.stderr
+    pipes = {"stdout": subprocess.PIPE, "stderr": subprocess.PIPE, "start_new_session": True}
+    with subprocess.Popen(last, **how, **pipes) as process:
+        try:
+            said = process.communicate(timeout=SECONDS)
+        except subprocess.TimeoutExpired:
+            return False, "it doesn't end"
+        finally:
+            if process.poll() is None:
+                os.killpg(process.pid, signal.SIGKILL)  # The tests that cargo started too.
+    return process.returncode == 0, "".join(said)
 
 
 def try_fault(room, by, file, old, new):
