@@ -335,7 +335,7 @@ def believe():
 def unseen():
     """The bug that no test sees, as the last recorded gate met it."""
     yield re.sub(r"^(fn|note: src/).*\n", "", UNSEEN.search(GATE)[1].strip(), flags=re.M)
-    yield "\nThe second command needs the kit."
+    yield "\nFrom the last recorded gate; the second needs the kit."
 
 
 def faults_of_results():
@@ -353,9 +353,8 @@ def faults_of_results():
 
 
 def slowest():
-    """The slowest workloads of the Rust crate by time, and when they were timed."""
-    said, rows = results.read()
-    yield f"{said[0]} The slowest, as multiples of the original's: {results.slowest('rust', rows)}."
+    """The slowest workloads of the Rust crate by time."""
+    yield f"The slowest, as multiples of the original's time: {results.slowest('rust', results.read()[1])}."
 
 
 def crates():
