@@ -198,14 +198,14 @@ def growth(rows):
 
 
 GROWTH_SAYS = (
-    "Nanoseconds, the original's / ours: an operation, or for each chunk or buffer where an operation goes over all of"
-    " them. The last column is the largest size over 64. A cell is empty if the original lacks the workload, or runs"
-    " for more than five seconds."
+    "Nanoseconds of two rounds, the original's / ours: an operation, or for each chunk or buffer where an operation goes"
+    " over many. The last column is the largest size over 64. A cell is empty if the original lacks the workload, or"
+    " runs for more than five seconds."
 )
 NOTES = (
-    "Time and instructions are ours over the original's, of the timed part, an operation; allocations are counts. Rows"
-    " with * aren't comparable: the compiler folds their loop away, or changes it. Letters: [causes](README.md#causes)."
-    " [results.csv](results.csv) has each number."
+    "Up to *The Rust crate* ours is Rattle's build. Time and instructions are ours over the original's, of the timed part,"
+    " an operation; allocations are counts. Rows with * aren't comparable: the compiler folds their loop away, or changes"
+    " it. Letters: [causes](README.md#causes). [results.csv](results.csv) has each number."
 )
 # As README.md in this folder has both built.
 PROFILES = (

@@ -164,7 +164,7 @@ uint32_t iobufs_build(void);
 
 /* ---- iobuf (IoBuf): a view of bytes, which shares their storage with its clones and slices ---- */
 
-/* Returns the library's size of a `struct iobuf`. */
+/* Returns the library's size of a `struct iobuf`. (own) */
 size_t iobuf_size(void);
 /* Makes the empty view of memory. (IoBuf::default) */
 void iobuf_init(struct iobuf *at);
@@ -203,7 +203,7 @@ IOBUFS_CHECKED iobufs_status iobuf_slice(const struct iobuf_at *src, uint8_t lo_
 
 /* ---- iobufmut (IoBufMut): a buffer to write, which never grows. The empty one has capacity 0 ---- */
 
-/* Returns the library's size of a `struct iobufmut`. */
+/* Returns the library's size of a `struct iobufmut`. (own) */
 size_t iobufmut_size(void);
 /* Makes the empty buffer of memory. (IoBufMut::default) */
 void iobufmut_init(struct iobufmut *at);
@@ -263,7 +263,7 @@ IOBUFS_CHECKED iobufs_status iobufmut_freeze(struct iobufmut_at *part, struct io
 
 /* ---- iobufs (IoBufs): bytes in several chunks, none of which is copied ---- */
 
-/* Returns the library's size of a `struct iobufs`. */
+/* Returns the library's size of a `struct iobufs`. (own) */
 size_t iobufs_size(void);
 /* Makes memory an empty iobufs. (IoBufs::default) */
 void iobufs_init(struct iobufs *at);
@@ -332,7 +332,7 @@ size_t iobufs_chunks_from(const struct iobufs_at *bufs, size_t first, struct iob
 
 /* ---- iobufsmut (IoBufsMut): writable buffers (parts) as one. The empty one has one part, of capacity 0 ---- */
 
-/* Returns the library's size of a `struct iobufsmut`. */
+/* Returns the library's size of a `struct iobufsmut`. (own) */
 size_t iobufsmut_size(void);
 /* Makes the empty iobufsmut of memory. (IoBufsMut::default) */
 void iobufsmut_init(struct iobufsmut *at);
@@ -386,7 +386,7 @@ IOBUFS_CHECKED iobufs_status iobufsmut_coalesce(struct iobufsmut_at *parts, stru
 /* ---- iobufs_builder (Builder): bytes that are put, and views that are pushed, as one iobufs. The empty one
  * takes views alone ---- */
 
-/* Returns the library's size of a `struct iobufs_builder`. */
+/* Returns the library's size of a `struct iobufs_builder`. (own) */
 size_t iobufs_builder_size(void);
 /* Makes the empty builder of memory. (own) */
 void iobufs_builder_init(struct iobufs_builder *at);
@@ -404,7 +404,7 @@ IOBUFS_CHECKED iobufs_status iobufs_builder_put_slice(struct iobufs_builder_at *
  * Fails: IOBUFS_OUT_OF_RANGE if they don't fit. */
 IOBUFS_CHECKED iobufs_status iobufs_builder_put_bytes(struct iobufs_builder_at *builder, uint8_t value, size_t n);
 /* Pushes a view, not copied, and leaves its handle empty. (Builder::push)
- * Fails: IOBUFS_TOO_LONG if the bytes would pass SIZE_MAX; IOBUFS_MEMORY, for the deque.
+ * Fails: IOBUFS_TOO_LONG if the capacity and all pushed bytes would pass SIZE_MAX; IOBUFS_MEMORY, for the deque.
  * Keeps: both. */
 IOBUFS_CHECKED iobufs_status iobufs_builder_push(struct iobufs_builder_at *builder, struct iobuf_at *view);
 /* Makes an iobufs of all that was put and pushed; the empty builder is left, also after an error. (Builder::finish)
@@ -475,7 +475,7 @@ IOBUFS_CHECKED iobufs_status iobufs_get_number(struct iobufs_at *bufs, uint8_t s
 /* ---- iobufs_frames (Frames): frames, each a header and a body, of bytes that come in chunks. The header is a
  * length, unless iobufs_frames_set_layout says otherwise ---- */
 
-/* Returns the library's size of a `struct iobufs_frames`. */
+/* Returns the library's size of a `struct iobufs_frames`. (own) */
 size_t iobufs_frames_size(void);
 /* Makes frames of memory, to which nothing was fed, with varint lengths. (own) */
 void iobufs_frames_init(struct iobufs_frames *at);
@@ -533,7 +533,7 @@ IOBUFS_CHECKED iobufs_status iobufs_layout_header(const struct iobufs_layout *la
 
 /* ---- iobufs_received (Received): frames of bytes that are read into one block ---- */
 
-/* Returns the library's size of a `struct iobufs_received`. */
+/* Returns the library's size of a `struct iobufs_received`. (own) */
 size_t iobufs_received_size(void);
 /* Makes an empty receive block of memory, of frames whose headers are varint lengths. (own) */
 void iobufs_received_init(struct iobufs_received *at);
@@ -550,8 +550,8 @@ IOBUFS_CHECKED iobufs_status iobufs_received_set_layout(struct iobufs_received_a
 /* Returns how many bytes came and were not taken. (own) */
 size_t iobufs_received_len(const struct iobufs_received_at *received);
 /* Lends the space for a read: writes its address to `out`, and to `n` how many bytes it has, at least one. They are
- * zeros, or what the block held before. If there is no space, it uses the block again if no body shares it, and else
- * allocates. It also allocates after a frame above 64 KiB, which has a block of its own. (own)
+ * zeros, or what the block held before. If there is no space, it uses the block again if no body shares it and the
+ * block is large enough, else it allocates, as after a frame above 64 KiB, which has a block of its own. (own)
  * Fails: IOBUFS_MEMORY if it allocates.
  * Keeps: what came, and `n`. */
 IOBUFS_CHECKED iobufs_status iobufs_received_space(struct iobufs_received_at *received, uint8_t **out, size_t *n);

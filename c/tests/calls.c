@@ -1,6 +1,6 @@
 /*
- * Every call once or more, with values that are worked by hand. Each test makes the buffers that it needs, of these:
- * HELLO, buffers of capacity 16, and texts whose pieces `|` divides.
+ * Every call but those that protocols.c has, with values that are worked by hand. Each test makes the buffers that it
+ * needs, of these: HELLO, buffers of capacity 16, and texts whose pieces `|` divides.
  */
 #include "test.h"
 

@@ -10,11 +10,12 @@ stays below it, and programs are linked while others run. Of cargo's, the archiv
 a program runs with the shared library. Header, manifests and pkg-config have one version. And then
 
 1. the header is read as C99 and as C++. It has each call that the library exports, and no other, each with a comment
-   of its own and a test in c/tests/calls.c or protocols.c; those that only look are in threads.c too. The types of
-   each prototype are those that the signature in Rattle gives, and `const` is where a clause says that all stays. A
-   call that returns a status has a clause that says which, and those that its clauses list are those of the line
-   `Fails:` in its comment. Its sizes are those of the contracts. A status that is ignored is warned of. The program of
-   docs/C.md is built and run as it says, below a folder with a space, and static; of cargo's archive it is small;
+   of its own and is called in c/tests/calls.c, protocols.c or test.h; those that only look are in threads.c too. The
+   types of each prototype are those that the signature in Rattle gives, and `const` is where a clause says that all
+   stays. A call that returns a status has a clause that says which, and those that its clauses list are those of the
+   line `Fails:` in its comment. Its sizes are those of the contracts. A status that is ignored is warned of. The
+   program of docs/C.md is built and run as it says, below a folder with a space, and static; of cargo's archive it is
+   small;
 2. of c/tests: `calls`, `sizes` and `protocols` under AddressSanitizer; `refused`, which fails each allocation in
    turn: these four meet each status of a line `Fails:`, except those that are `(reserved)` there or in UNMET;
    `threads`, eight on views of one block, and eight that only look at the same buffers, by itself and under valgrind's

@@ -1,6 +1,6 @@
 -- Lemmas for callers of `IoBufs` and `IoBufsMut`, over bytes alone, and the rulesets that give them to a proof.
---     joining                   the bytes after a buffer or an `IoBufs` was added
---     sending                   a batch of chunks is a prefix of the bytes, and several writes took what each took,
+--     joining                   the bytes after a buffer was added, of several joined, and after a copy or an advance
+--     sending                   a prefix that a writer took is sent, and several writes took what each took,
 --                               in order
 --     resting                   what some advances left
 --     again                     a write that is tried again after one that took nothing

@@ -4,7 +4,7 @@
 --     empty_building, inline_run                        a builder with space for n inline bytes; inline bytes as an
 --                                                       item, or as none
 --     IsBuilding, AreInTurn                             what holds of each builder: inline bytes fit the capacity,
---                                                       and items up to the last view alternate
+--                                                       and up to the last view each inline run comes before a view
 --     building_put, building_push                       what a put and a push add
 --     building_with, building_after                     what an item adds, and a list of them
 --     building_bytes, building_room, room_for_pushes    all bytes, and how many puts and pushes may still add

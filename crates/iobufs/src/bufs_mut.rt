@@ -45,7 +45,7 @@ impl Drop for IoBufsMut {
     }
 }
 
-// One part, or a deque of two or more.
+// One part, or a deque of two or more, which can come down to one as bytes are dropped.
 #[derive(Drop)]
 enum Shape {
     One(IoBufMut),
@@ -364,9 +364,9 @@ impl IoBufsMut {
     }
 
     /// Returns the only buffer, or the bytes of several in one without spare capacity (`IoBufsMut::coalesce`). They
-    /// may be joined in the storage of the first, if all bytes fit it, and it has at most about 4 KiB or about
-    /// twice the bytes. Fails with `BufError::BadLayout` exactly if two or more hold more than `isize::MAX` bytes, and
-    /// with `BufError::Memory` if allocation fails.
+    /// may be joined in the storage of the first undrained one, if all bytes fit it, and it has at most about 4 KiB or
+    /// about twice the bytes. Fails with `BufError::BadLayout` exactly if two or more hold more than `isize::MAX`
+    /// bytes, and with `BufError::Memory` if allocation fails.
     #[tactic(auto, using(crate::proofs::Parts::Coalesced::coalescing))]
     pub fn coalesce(mut self, alloc: Global) -> Result<IoBufMut, BufError>
         ensures ok { IfOk result (λ part. part ≡ parts_coalesced self) }

@@ -70,7 +70,7 @@ fn make_room(pushes: &mut Gapped, pushable: usize, len: usize) -> Result<(), Buf
 }
 
 impl Builder {
-    /// Makes a builder without space for inline bytes, to which views may be pushed. Allocates nothing.
+    /// Makes a builder without space for inline bytes, to which views may be pushed. Allocates nothing (own).
     #[tactic(auto, using(crate::proofs::Building::BuildLaws::building))]
     pub fn empty(alloc: Global) -> Builder
         ensures { result ≡ empty_building 0 }

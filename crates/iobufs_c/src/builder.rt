@@ -49,7 +49,7 @@ impl BuilderAt {
     }
 }
 
-/// Returns the library's size of a `struct iobufs_builder`.
+/// Returns the library's size of a `struct iobufs_builder`. (own)
 #[unsafe(no_mangle)]
 pub extern "C" fn iobufs_builder_size() -> usize
     ensures value { result ≡ 112 }
@@ -129,7 +129,7 @@ pub extern "C" fn iobufs_builder_put_bytes(builder: &mut BuilderAt, value: u8, n
 }
 
 /// Pushes a view, not copied, and leaves its handle empty. (Builder::push)
-/// Fails: IOBUFS_TOO_LONG if the bytes would pass SIZE_MAX; IOBUFS_MEMORY, for the deque.
+/// Fails: IOBUFS_TOO_LONG if the capacity and all pushed bytes would pass SIZE_MAX; IOBUFS_MEMORY, for the deque.
 /// Keeps: both.
 #[unsafe(no_mangle)]
 pub extern "C" fn iobufs_builder_push(builder: &mut BuilderAt, view: &mut ViewAt) -> u8

@@ -60,7 +60,7 @@ fn empty(_alloc: Global) -> Frames
     Frames::default()
 }
 
-/// Returns the library's size of a `struct iobufs_frames`.
+/// Returns the library's size of a `struct iobufs_frames`. (own)
 #[unsafe(no_mangle)]
 pub extern "C" fn iobufs_frames_size() -> usize
     ensures value { result ≡ 64 }

@@ -63,7 +63,7 @@ pub(crate) fn hand_part(made: Result<IoBufMut, BufError>, out: &mut PartAt) -> u
     }
 }
 
-/// Returns the library's size of a `struct iobufmut`.
+/// Returns the library's size of a `struct iobufmut`. (own)
 #[unsafe(no_mangle)]
 pub extern "C" fn iobufmut_size() -> usize
     ensures value { result ≡ 56 }

@@ -55,7 +55,7 @@ fn empty(alloc: Global) -> IoBufsMut
     IoBufsMut::from(IoBufMut::new(alloc))
 }
 
-/// Returns the library's size of a `struct iobufsmut`.
+/// Returns the library's size of a `struct iobufsmut`. (own)
 #[unsafe(no_mangle)]
 pub extern "C" fn iobufsmut_size() -> usize
     ensures value { result ≡ 80 }

@@ -55,7 +55,7 @@ fn empty(alloc: Global) -> Received
     Received::new(alloc, Prefix::Spelled)
 }
 
-/// Returns the library's size of a `struct iobufs_received`.
+/// Returns the library's size of a `struct iobufs_received`. (own)
 #[unsafe(no_mangle)]
 pub extern "C" fn iobufs_received_size() -> usize
     ensures value { result ≡ 112 }
@@ -130,8 +130,8 @@ pub extern "C" fn iobufs_received_len(received: &mut ReceivedAt) -> usize
 }
 
 /// Lends the space for a read: writes its address to `out`, and to `n` how many bytes it has, at least one. They are
-/// zeros, or what the block held before. If there is no space, it uses the block again if no body shares it, and else
-/// allocates. It also allocates after a frame above 64 KiB, which has a block of its own. (own)
+/// zeros, or what the block held before. If there is no space, it uses the block again if no body shares it and the
+/// block is large enough, else it allocates, as after a frame above 64 KiB, which has a block of its own. (own)
 /// Fails: IOBUFS_MEMORY if it allocates.
 /// Keeps: what came, and `n`.
 #[unsafe(no_mangle)]

@@ -25,7 +25,7 @@ pub enum Status {
     InvalidLength,
     /// The buffer can't be converted, and stays.
     Declined,
-    /// The kind of a bound, or a prefix, is unknown.
+    /// The kind of a bound, a prefix, or a number's size or order, is unknown.
     BadKind,
 }
 

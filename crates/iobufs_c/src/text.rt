@@ -71,7 +71,7 @@ fn empty(_alloc: Global) -> IoBufs
     IoBufs::default()
 }
 
-/// Returns the library's size of a `struct iobufs`.
+/// Returns the library's size of a `struct iobufs`. (own)
 #[unsafe(no_mangle)]
 pub extern "C" fn iobufs_size() -> usize
     ensures value { result ≡ 56 }

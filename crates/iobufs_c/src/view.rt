@@ -74,7 +74,7 @@ fn empty(_alloc: Global) -> IoBuf
     IoBuf::default()
 }
 
-/// Returns the library's size of a `struct iobuf`.
+/// Returns the library's size of a `struct iobuf`. (own)
 #[unsafe(no_mangle)]
 pub extern "C" fn iobuf_size() -> usize
     ensures value { result ≡ 48 }

@@ -69,8 +69,8 @@ pub fn poll_send<W: AsyncWrite>(
 }
 
 // [docs: poll_frame]
-/// Sends the rest of the first frame that isn't sent, chunk by chunk: the body isn't copied. If it is pending, or after
-/// an error, no byte is lost or sent twice: the rest is in `frames`, and the next call goes on.
+/// Sends `frames.rest`, chunk by chunk: the first frame that isn't sent, whose body isn't copied, and copies of short
+/// ones after it. If it is pending, or after an error, no byte is lost or sent twice, and the next call goes on.
 pub fn poll_frame<W: AsyncWrite>(
     frames: &mut FrameWriter<W>,
     cx: &mut Context<'_>,

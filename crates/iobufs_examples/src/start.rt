@@ -92,7 +92,7 @@ pub enum LogError {
     /// The writer's error.
     #[error("{0}")]
     Write(#[from] io::Error),
-    /// The entry has no encoding, or a body is none.
+    /// An entry can't be encoded or put as a frame, or a body can't be decoded.
     #[error("{0}")]
     Entry(#[from] Fault),
     /// No frame is taken.
@@ -121,8 +121,8 @@ pub fn put<W: Write + Drop>(
     Ok(())
 }
 
-/// Receives the next entry; `None` at the end of the input. `LogError::Entry` drops a body that is no entry; another
-/// error loses no byte.
+/// Receives the next entry; `None` at the end of the input. `LogError::Entry` drops the body: it is no entry, or an
+/// allocation failed. Another error loses no byte.
 pub fn receive<R: Read + Drop>(
     alloc: Global,
     from: &mut FrameReader<R>,

@@ -43,7 +43,7 @@ pub fn fill<R: Read>(from: &mut R, parts: &mut IoBufsMut) -> io::Result<()>
 }
 
 /// Fills the parts with what a reader has, from their first byte on, and freezes them: until they are full, or the
-/// reader has no more. Where that is refused, the bytes that were read are lost, at most as many as the parts hold.
+/// reader has no more. After an error the bytes that were read are lost, at most as many as the parts hold.
 #[tactic(auto, using(iobufs::proofs::CallerFacts::storing))]
 pub fn store<R: Read>(alloc: Global, from: &mut R, mut parts: IoBufsMut) -> io::Result<IoBufs>
     ensures bytes { IfOk result (λ text. Consumes (R.remaining from.old) (R.remaining from.new) text.bytes) }

@@ -12,7 +12,7 @@ use iobufs::bufs::IoBufs;
 use iobufs_core::codec::{Buf, BufError};
 use std::alloc::Global;
 
-/// Makes a body of an `IoBufs`: one frame of all its chunks, which aren't copied.
+/// Makes a body of an `IoBufs`: one frame of all its chunks, which aren't copied; no frame if there are no bytes.
 pub fn body(text: IoBufs) -> Full<IoBufs>
     ensures { result.buf ≡ (if length text.bytes == 0 then None else Some text) }
 {

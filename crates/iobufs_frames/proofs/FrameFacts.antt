@@ -3,7 +3,7 @@
 --     stands           a frame is at the front of its bytes, so it isn't true that none is
 --     none_in_front    bytes without a frame at the front have no frames
 --     first_is         a frame at the front is the first of the frames
---     begins_open,     a layout of a frame may go on, as the empty one, and what can't be a frame stays so with more
+--     begins_open,     a prefix of a frame may go on, as the empty one, and what can't be a frame stays so with more
 --     nothing_is_open, bytes
 --     stays_bad
 --     written-append,  frames are written in order, and so is one more, which can follow if its length can

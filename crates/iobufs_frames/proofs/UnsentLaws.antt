@@ -7,7 +7,7 @@ use Rattle.iobufs_core.specs.MarkedText.{MarkedText, text_rest}
 use Rattle.iobufs_core.specs.ReadBytes.{bytes-rest}
 use Rattle.iobufs_frames.specs.Unsent.{ArePassed, IsAdvanced, UnsentBytes, rest_after, unsent_after, unsent_rest}
 
--- all of a length goes, and some bytes of the body
+-- all of a header goes, and some bytes of the body
 pub body_goes : (u : UnsentBytes) (gone : List ℕ) (left : MarkedText) (n : ℕ) → u.head ++ u.body.bytes ≡ u.bytes → length u.head ≤ n
     → n ≤ length u.bytes → gone ≡ drop (length u.head) u.head → left ≡ text_rest u.body (n - length u.head)
     → record { head = gone; body = left; bytes = gone ++ left.bytes } ≡ unsent_rest u n

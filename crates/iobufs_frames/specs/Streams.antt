@@ -1,7 +1,7 @@
 -- Frames on std's readers and writers, over the whole reader or writer before and after a call.
 --     BeginsReading   nothing was read
 --     IsNeeded        nothing was asked of the reader, or before the last read no whole frame was held
---     TakesNext       bytes were read, none more than the frame needs, and the frame at the front was taken
+--     TakesNext       bytes were read, none while a whole frame was held, and the frame at the front was taken
 --     TakesFrame,     so as its body; and with its header
 --     TakesWholeFrame
 --     IsFirstOfAll    so of a reader whose bytes are known: the frame is the first of all that it holds and may still read
@@ -54,12 +54,12 @@ pub record WasNeeded (layout : Layout) (range : RangeCfg) (held read : List ℕ)
   pub whole : read ≡ before ++ last
   pub none : LacksFrame layout range (held ++ before) Open
 
--- the reader was not asked, or only for what a frame needed
+-- nothing was asked of the reader, or before the last read no whole frame was held
 abbrev pub IsNeeded : Layout → RangeCfg → List ℕ → List ℕ → Type 0 → Type 0
 IsNeeded layout range held read idle = ((read ≡ []) × idle) ⊎ WasNeeded layout range held read
 
--- Bytes were read, none more than the frame needs, and the frame at the front of all was taken. It is taken as something that
--- `gives` relates to it, and of which `also` holds.
+-- Bytes were read, none while a whole frame was held, and the frame at the front of all was taken. It is taken as
+-- something that `gives` relates to it, and of which `also` holds.
 pub record TakesNext {R T : Type 0} (gives : Parts → T → Type 0) (needs : Parts → Type 0) (also : T → Type 0)
     (remaining : R → Option (List ℕ)) (old : FrameReader R) (result : Result (Option T) FrameError) (new : FrameReader R) : Type 0 where
   pub read : List ℕ

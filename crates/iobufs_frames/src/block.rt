@@ -231,8 +231,8 @@ impl Received {
     }
 
     // The size that a block with `len` bytes gets next: at most `MOST`, or `STEP` bytes more than twice `len`. A frame
-    // that isn't whole gets its own size if that is at most `STEP` more than twice `len`. From `STEP` bytes on, `MOST`
-    // is admitted too, and a larger frame gets half of its size, so that the next block is the frame's alone.
+    // that isn't whole gets its own size, but no less than `least`, if it is at most `STEP` more than twice `len`. From
+    // `STEP` bytes on, `MOST` is admitted too, and a larger frame gets half of its size: the next block is its alone.
     fn next_size(&self, len: usize) -> usize
         requires { len < 2 ^ 63 }
         ensures grows { len < result }

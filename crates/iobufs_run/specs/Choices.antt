@@ -7,8 +7,8 @@
 --     SameOutcome,             two outcomes differ at most in that capacity, or in whether the view was recovered or
 --     IsRecoveredOrDeclined    declined
 --     NoOtherChoices           a command that isn't refused with `Memory` has one outcome, up to these
---     OnlyWants                `Memory` is the reply only if no cause holds and the command may allocate; else the
---                              command is done
+--     OnlyWants                `Memory` is the reply only if no cause holds and the command may allocate; nothing else
+--                              refuses such a command
 --     RefusalsKeep             a refused command leaves each name its buffer, unless `Memory` costs what is consumed
 use Rattle.std.specs.Prelude.{◌≡◌, ◌⊎◌, ℕ, Bool, true, false, List, length, map, None, IsTrue}
 use Rattle.iobufs_run.specs.declared.table.Slot.{Slot}

@@ -176,8 +176,8 @@ Does old (Decode src dst range) =
 Does old (Drop target) = Gives Done (slice_set old target Free)
 Does old (Show target) = λ reply new. IsShown (slot_named old target) reply × (new ≡ old)
 
--- One command. Refused for a failed allocation, where it may be; refused for the first cause that holds, or where none
--- represents what may fail; or done
+-- One command. Refused for a failed allocation, where it may be; refused for the first cause that holds, or, where none
+-- holds, for what may fail; or done
 abbrev pub Step : List Slot → Cmd → Reply → List Slot → Type 0
 Step old command (Refused Memory) new =
     (refusal_for old command ≡ None) × MayWantMemory old command × MayFree (consumed command) old new

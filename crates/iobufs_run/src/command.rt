@@ -179,7 +179,7 @@ pub enum Reply {
     Bytes(Bytes),
     /// The buffer of a name, chunk by chunk.
     Shown { kind: Kind, pieces: Vec<Piece> },
-    /// The command was not executed.
+    /// The command was refused. If the cause is `Memory`, names that it consumes may be free.
     Refused(Refusal),
 }
 

@@ -88,7 +88,7 @@ fn written<T: Write>(rt: &(impl Print + Abort + AllocGlobal), value: &T, begun: 
     }
 }
 
-// A view has to be shared first, or its push fails: nothing is put before it is shared.
+// A view is shared before anything is put. Sharing allocates nothing, so only the push fails, after the length.
 #[test]
 fn a_native_view_is_written(rt: HostRuntime) {
     let view = native(rt.alloc(), b"xyz", 5).expect(&rt, "a fixture");

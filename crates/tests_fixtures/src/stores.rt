@@ -85,7 +85,7 @@ fn drained(mut view: IoBuf) -> IoBuf {
     view
 }
 
-/// Returns a view, and the other handle of its storage.
+/// Returns a view, and the other handle of its storage, or else the empty view.
 pub fn stored(
     alloc: Global,
     kind: Store,
@@ -157,7 +157,7 @@ pub fn stored_part(alloc: Global, origin: Origin, bytes: &[u8]) -> Result<IoBufM
     }
 }
 
-/// Cuts the bytes into chunks of `len` bytes.
+/// Cuts the bytes into chunks of `len` bytes; fewer than these at the end are left out.
 pub fn cut(alloc: Global, bytes: &'static [u8], len: usize) -> Result<Vec<IoBuf>, BufError> {
     let count = bytes.len().checked_div(len).unwrap_or(0);
     let mut views = Vec::with_capacity(alloc, count)?;
@@ -170,7 +170,7 @@ pub fn cut(alloc: Global, bytes: &'static [u8], len: usize) -> Result<Vec<IoBuf>
     Ok(views)
 }
 
-/// Concatenates the chunks, each in storage of its own.
+/// Concatenates the chunks, each in native storage of its own; for `Store::Static` they are slices of the bytes.
 pub fn text(
     alloc: Global,
     kind: Store,

@@ -1,5 +1,5 @@
 // `assert_same!`: `assert_eq!` as a call. std's is written out at each use, and proved there. A library that may end
-// the process isn't proved, so each crate of tests has this file.
+// the process isn't proved, so each crate of tests that uses it has this file.
 use std::fmt::{Debug, Display};
 use std::process::Abort;
 

@@ -1,7 +1,7 @@
 //! The C library `libiobufs`, from its proved sources: the calls of `c/include/iobufs.h`. They have
 //! `unsafe` code where they use the memory that C names. To C a slice is two arguments, an address and a length, and the
 //! allocator none: so rustc passes them, as the kit's compiler does, while registers are left. `c/tests/calls.c`
-//! calls each.
+//! and `protocols.c` call each.
 
 // Slices as two arguments lean on these conventions of calls.
 #[cfg(not(all(target_os = "linux", target_env = "gnu", any(target_arch = "x86_64", target_arch = "aarch64"))))]

@@ -17,7 +17,7 @@ fn main() -> ExitCode {
     proved::iobuf::main(HostRuntime)
 }
 
-/// Refusals that no session meets, since lengths stay below 2^64.
+/// Refusals that no session meets: lengths stay below 2^63, and a failed allocation is `N9 Memory`.
 #[test]
 fn rare_refusals_are_printed() {
     use proved::{iobufs_core::codec::Error, iobufs_run::command::Refusal};

@@ -105,8 +105,8 @@ pub struct BufWriter<W> {
 }
 
 impl<W: Write> BufWriter<W> {
-    /// Writes up to `n` bytes at once. If allocation fails, the error's kind is `OutOfMemory`, and the writer is
-    /// dropped.
+    /// Gathers fewer than `n` bytes for one write; `n` or more are written directly. If allocation fails, the error's
+    /// kind is `OutOfMemory`, and the writer is dropped.
     pub fn with_capacity(alloc: Global, n: usize, inner: W) -> Result<BufWriter<W>> {
         Ok(BufWriter { inner, block: Vec::with_capacity(alloc, n)? })
     }

@@ -20,7 +20,7 @@ impl<T> Vec<T> {
         Vec(vec::Vec::new())
     }
 
-    /// Returns no items, and a capacity of `n`.
+    /// Returns no items, and a capacity of `n`; of four for one to four chunks or buffers (`few`).
     #[inline]
     pub fn with_capacity(_: Global, n: usize) -> Result<Vec<T>, AllocError> {
         if few::fits::<T>() && 0 < n && n <= few::FEW {

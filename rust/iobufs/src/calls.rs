@@ -148,8 +148,8 @@ macro_rules! derefs {
 }
 pub(crate) use derefs;
 
-/// Puts at the end: for writable buffers and a builder, which panic by a function of what is asked and what fits. The
-/// examples begin with a buffer for eight bytes, and end with what it becomes.
+/// Puts into spare capacity: for writable buffers and a builder, which panic by a function of what is asked and what
+/// fits. The examples begin with a buffer for eight bytes, and end with what it becomes.
 macro_rules! puts {
     ($past:path, $make:literal, $end:literal) => {
         crate::calls::puts! { $past, $make, $end,

@@ -259,10 +259,11 @@ pub trait Encode {
     /// ```
     ///
     /// # Panics
-    /// Panics if the bytes that aren't pushed don't fit: then nothing is put.
+    /// Panics if the bytes that aren't pushed don't fit, or the value has more than `usize::MAX` bytes: then nothing is
+    /// put. Panics as [`Builder::push`] does: then a part may be put.
     fn write_bufs(&self, buf: &mut Builder);
 
-    /// Writes the value into storage of exactly its size.
+    /// Writes the value into a buffer of exactly its size.
     ///
     /// ```
     /// # use iobufs::codec::Encode;
@@ -351,7 +352,7 @@ fn written<T>(made: Result<T, core::Error>) -> T {
 /// assert_eq!(String::read_cfg(&mut buf, &(..=32).into()), Ok("one".into()));
 /// ```
 pub trait Decode: Sized {
-    /// The requirement of a value: `()`, a [`RangeCfg`] of lengths, or a tuple of these.
+    /// The requirement of a value: `()`, a [`RangeCfg`], a tuple of these, or what [`ByParts::Cfg`] is.
     type Cfg;
 
     /// Reads a value from the front, whole.

@@ -12,7 +12,7 @@ pub(crate) const LAYOUT: &str = "alignment must be a power of two and the size m
 /// Its message if the buffer is to be filled with zeros.
 pub(crate) const ZEROED: &str = "alignment must be a power of two and the size must fit a layout: LayoutError";
 
-/// Why a value was not read (the codec's `Error`).
+/// Why a value isn't read, or a frame isn't put (the codec's `Error`).
 ///
 /// ```
 /// use iobufs::{Error, IoBuf};
@@ -29,10 +29,10 @@ pub enum Error {
     EndOfBuffer,
     /// The bytes are an invalid varint: of more than 64 bits, or not in the shortest form.
     InvalidVarint,
-    /// This length is outside the range, or can't be the length of a frame. A frame that is read has it if the number
-    /// in its header is below what the layout [`counts`](crate::Layout::counts); the error has that number. A frame
-    /// that is written has it if the header has no form for it, or the layout has another number of bytes around the
-    /// length.
+    /// This length or count is outside the range, or can't be that of a frame. If a frame is read, it is the number in
+    /// the header: its body is outside the range, or it is below what the layout [`counts`](crate::Layout::counts). If
+    /// one is written, it is the body's length, also if the header has no form for it, the layout has another number of
+    /// bytes around the length, or more than 22, or the frame is too long.
     InvalidLength(usize),
     /// A byte that is neither 0 nor 1.
     InvalidBool,

@@ -1,4 +1,4 @@
-//! Lengths at the front of any `Buf`, and at the end of any `BufMut`.
+//! Lengths at the front of any `Buf`, and put into any `BufMut`.
 #![forbid(unsafe_code)]
 use crate::Error;
 use crate::error::fault;
@@ -73,7 +73,7 @@ fn byte_by_byte<B: Buf + ?Sized>(buf: &mut B, range: &core::RangeCfg) -> Result<
     core::peek_length(&Front(&front[..len]), 0, range).map(|(value, _)| value).map_err(fault)
 }
 
-/// Puts lengths at the end of any [`BufMut`], as varints of [`length_size`](crate::length_size) bytes.
+/// Puts lengths into any [`BufMut`], as varints of [`length_size`](crate::length_size) bytes.
 ///
 /// The trait is imported by name, so that a trait of one's own may have a `put_length` too.
 pub trait PutLength: BufMut {

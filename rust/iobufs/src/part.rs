@@ -317,7 +317,7 @@ impl IoBufMut {
         IoBuf(shared(self.0.freeze()))
     }
 
-    /// Takes the first `n` bytes: the whole buffer without a copy, fewer as a copy (`Buf`).
+    /// Takes the first `n` bytes: all of them without a copy, and with the capacity; fewer as a copy (`Buf`).
     ///
     /// ```
     /// let mut buf = iobufs::IoBufMut::from(b"hello");

@@ -20,6 +20,8 @@ use std::{fmt, mem};
 /// assert_eq!(bufs.freeze(), "abc");
 /// ```
 ///
+/// A put fills the first buffer with spare capacity, even if later buffers have readable bytes, which follow then.
+///
 /// It never grows: its capacity is that of its buffers. For a vectored read, call
 /// [`set_len`](Self::set_len), and then [`io_slices_mut`](Self::io_slices_mut).
 pub struct IoBufsMut(pub(crate) inner::IoBufsMut);
@@ -173,8 +175,8 @@ impl IoBufsMut {
         IoBufs(shared(self.0.freeze(Global)))
     }
 
-    /// Coalesces the buffers into one: a single buffer as it is. The bytes of several are copied, of two or three
-    /// perhaps into the storage of the first.
+    /// Coalesces the buffers into one: a single buffer as it is. The bytes of several are copied, perhaps into the
+    /// storage of the first that isn't drained.
     ///
     /// ```
     /// let bufs = iobufs::IoBufsMut::from([b"ab", b"cd"].map(iobufs::IoBufMut::from));
@@ -216,8 +218,9 @@ impl IoBufsMut {
         dst.iter_mut().zip(self.each_chunk()).map(|(slot, chunk)| *slot = IoSlice::new(chunk)).count()
     }
 
-    /// Takes the first `n` bytes (`Buf`). If they are all bytes of a single buffer, they are shared. Of several buffers,
-    /// the bytes of one without spare capacity may be shared, if it holds just these. All others are copied.
+    /// Takes the first `n` bytes (`Buf`). If they are all bytes of a single buffer, they are shared, and it has no
+    /// capacity left. Of several buffers, the bytes of one without spare capacity may be shared, if it holds just
+    /// these. All others are copied.
     ///
     /// ```
     /// let mut bufs = iobufs::IoBufsMut::from([b"ab", b"cd"].map(iobufs::IoBufMut::from));

@@ -26,7 +26,8 @@ pub enum FrameError {
     Bad(Error),
     /// The input ends inside a frame.
     Cut,
-    /// The reader's error, never `ErrorKind::Interrupted`, after which it is read again.
+    /// The error of the reader, or in `iobufs-tokio` also of the writer. A [`FrameReader`] reads again after
+    /// `ErrorKind::Interrupted`, and gives `InvalidData` if the reader says that it read more than it was asked for.
     Io(io::Error),
 }
 
@@ -244,8 +245,9 @@ impl FrameCodec {
 }
 
 /// Takes frames from a reader: lengths, or headers of a [`Layout`], each followed by a body. Reads go into one
-/// block, which the bodies share: they aren't copied. A body keeps at most its own frame or 64 KiB, whichever is more.
-/// Copy a small body that you keep, by [`IoBuf::copy_from_slice`].
+/// block, which the bodies share: they aren't copied, unless [`set_layout`](Self::set_layout) is called inside a frame
+/// above 64 KiB. A body keeps at most its own frame or 64 KiB, whichever is more. Copy a small body that you keep, by
+/// [`IoBuf::copy_from_slice`].
 ///
 /// ```
 /// use iobufs::{FrameReader, FrameWriter};
@@ -410,7 +412,7 @@ impl<R> FrameReader<R> {
     }
 
     /// Returns how many bytes of frames were taken, headers among them: the offset after the last one, if no bytes were
-    /// read by [`get_mut`](Self::get_mut).
+    /// read by [`get_mut`](Self::get_mut), and the reader never said that it read more than it was asked for.
     ///
     /// ```
     /// let mut log = iobufs::FrameReader::new(&b"\x02ok\x05hel"[..], ..=1024);
@@ -570,10 +572,10 @@ impl<W> FrameWriter<W> {
         self.0.layout = layout.into().inner();
     }
 
-    /// Puts a frame of this body after those that aren't sent yet; nothing is written. From the second unsent frame on it
-    /// allocates space for the list of frames, or for copies. A body of one chunk and at most 256 bytes is copied, unless
-    /// all is sent, or the list has frames, or the copies have more than 16 KiB. Making an [`IoBufs`] of the body may
-    /// allocate too.
+    /// Puts a frame of this body after those that aren't sent yet; nothing is written. From the second unsent frame on
+    /// it may allocate space for the list of frames, or for copies. A body of one chunk and at most 256 bytes is
+    /// copied, unless all is sent, or the list has frames, or the copies have more than 16 KiB. Making an [`IoBufs`] of
+    /// the body may allocate too.
     ///
     /// ```
     /// let mut to = iobufs::FrameWriter::new(Vec::<u8>::new(), ..=4);
@@ -609,7 +611,8 @@ impl<W> FrameWriter<W> {
     ///
     /// # Errors
     /// Returns [`Error::InvalidLength`] if the length is outside the range, or no header can have it, or the layout has
-    /// another number of bytes before or after the length, or more than 22. Then nothing is put.
+    /// another number of bytes before or after the length, or more than 22, or more than `usize::MAX` bytes would wait.
+    /// Then nothing is put.
     ///
     /// # Panics
     /// If the `Drop` of the body's owner panics, as in [`put`](Self::put).

@@ -69,7 +69,8 @@ impl IoBufs {
     }
 
     /// Returns how many chunks have a [`Bytes`] as storage: those of an owner ([`IoBuf::from_owner`]), of a `Bytes` or
-    /// a `BytesMut`, and bodies from a [`FrameReader`](crate::FrameReader).
+    /// a `BytesMut`, and bodies from a [`FrameReader`](crate::FrameReader). A single chunk that is read to its end
+    /// counts, if it is still held.
     ///
     /// ```
     /// let bufs = iobufs::IoBufs::from(["ab".into(), iobufs::IoBuf::from_owner(vec![1, 2])]);
@@ -236,7 +237,7 @@ impl IoBufs {
         }
     }
 
-    /// Keeps at most the first `len` bytes. Chunks of which no byte is left are dropped.
+    /// Keeps at most the first `len` bytes. Chunks that lose all their bytes by it are dropped.
     ///
     /// ```
     /// let mut bufs = iobufs::IoBufs::from(["ab".into(), "cde".into()]);
@@ -834,9 +835,10 @@ impl Frames {
     /// # Ok::<(), iobufs::Error>(())
     /// ```
     ///
-    /// Each chunk that is held takes 40 to 80 bytes besides its storage, even if it has one byte. A peer whose bytes come
-    /// one by one therefore decides how much memory a frame takes: bound the number of chunks too, or take frames by a
-    /// [`FrameReader`](crate::FrameReader) or a [`FrameCodec`](crate::FrameCodec), whose bytes are in one block.
+    /// Each chunk that is held takes 40 to 80 bytes besides its storage, even if it has one byte; the list keeps its
+    /// space until at most one chunk is left. A peer whose bytes come one by one therefore decides how much memory a
+    /// frame takes: bound the number of chunks too, or take frames by a [`FrameReader`](crate::FrameReader) or a
+    /// [`FrameCodec`](crate::FrameCodec), whose bytes are in one block.
     ///
     /// # Panics
     /// Panics if the length of all that is held passes `usize::MAX`.

@@ -1,4 +1,4 @@
-//! The traits of the crate `bytes`, and conversions from and to `Bytes` and `BytesMut`. Those of one
+//! The traits of the crate `bytes`, and conversions from `Bytes` and `BytesMut`, and to `Bytes`. Those of one
 //! chunk to a view or a `Bytes` copy nothing; one to a buffer to write may copy.
 use crate::kit::bytes as kit;
 use crate::proved::iobufs_core as inner;
@@ -107,7 +107,7 @@ reads! {
     IoBufsMut { chunks! { IoBufsMut } }
 }
 
-/// Takes the storage over, or copies. (`Vec::from` does so too, but before version 1.10.1 it never drops an owner.)
+/// Takes the storage over, or copies, as `Vec::from` does.
 pub(crate) fn vec_of(bytes: Bytes) -> Vec<u8> {
     match bytes.try_into_mut() {
         Ok(bytes) => bytes.into(),

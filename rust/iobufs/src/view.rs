@@ -263,8 +263,8 @@ impl IoBuf {
     /// Returns whether no other view or [`Bytes`] shares the storage. Static bytes and those of an owner count
     /// as shared, as in [`Bytes::is_unique`].
     ///
-    /// `true` is exact, since only the caller can make another handle then. `false` may be outdated at once, if another
-    /// thread has the other handle and drops it.
+    /// `true` is exact, unless another thread has a reference to this view, and clones it. `false` may be outdated at
+    /// once, if another thread has the other handle and drops it.
     ///
     /// ```
     /// let view = iobufs::IoBuf::from(vec![1, 2, 3]);
@@ -367,7 +367,7 @@ impl From<&'static str> for IoBuf {
     }
 }
 
-/// Keeps the `Vec`.
+/// Keeps the `Vec`, if it has bytes.
 impl From<Vec<u8>> for IoBuf {
     #[inline]
     fn from(bytes: Vec<u8>) -> Self {

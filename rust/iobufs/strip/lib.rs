@@ -19,7 +19,7 @@
 //! | `fn` of `Also::consts` | `const fn` |
 //! | a file of `BY_HAND` | the names of a module of `crate::kit`, which is written by hand |
 //! | a function that takes `impl Abort` | `#[track_caller]`: a failed test names its own line |
-//! | another function with a body | `#[inline]`, since rustc inlines no other function across crates |
+//! | another function with a body | `#[inline]`, since across crates rustc inlines few others |
 //!
 //! A comment directly above what goes as an item goes with it. Whatever else isn't Rust is refused, here or by rustc.
 #![forbid(unsafe_code)]
@@ -106,7 +106,7 @@ pub fn write_crates<S: AsRef<str>>(crates: &[S], also: Also<'_>, from: &Path, to
     named(to, fs::write(to.join("proved.rs"), modules))
 }
 
-/// Makes the function with this head `const`, if there is one.
+/// Makes the function with this head `const`, if there is just one.
 fn made_const(rust: &str, head: &str) -> Option<String> {
     let is_one = rust.matches(head).count() == 1;
     is_one.then(|| rust.replace(head, &head.replacen("fn ", "const fn ", 1)))

@@ -174,8 +174,8 @@ fn heads_of_adopted_vectors() {
     assert_eq!(adopted(9), 48);
 }
 
-/// A buffer has room for its head, unless the cache that glibc has for each thread has no block of that size. Once such a
-/// buffer is full, its head is as that of an adopted `Vec`.
+/// A buffer has room for its head, unless glibc's cache of a thread has blocks of its size, but none with that room.
+/// Once such a buffer is full, its head is as that of an adopted `Vec`.
 #[test]
 fn heads_of_buffers() {
     let sizes = [1, 977, 978, 1032, 1033, 4096].map(|n| allocated(|| IoBufMut::with_capacity(n)) - n);

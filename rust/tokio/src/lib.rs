@@ -59,7 +59,7 @@ impl Decoder for FrameCodec {
 impl Encoder<IoBufs> for FrameCodec {
     type Error = FrameError;
 
-    /// Fails with `Error::InvalidLength` if the body can't be sent; then `dst` is unchanged.
+    /// Fails with `FrameError::Bad` of `Error::InvalidLength` if the body can't be sent; then `dst` is unchanged.
     fn encode(&mut self, body: IoBufs, dst: &mut BytesMut) -> Result<(), FrameError> {
         Ok(self.0.encode(&body, dst)?)
     }
@@ -70,7 +70,8 @@ macro_rules! encoders {
         impl Encoder<$body> for FrameCodec {
             type Error = FrameError;
 
-            /// Fails with `Error::InvalidLength` if the body can't be sent; then `dst` is unchanged.
+            /// Fails with `FrameError::Bad` of `Error::InvalidLength` if the body can't be sent; then `dst` is
+            /// unchanged.
             fn encode(&mut self, body: $body, dst: &mut BytesMut) -> Result<(), FrameError> {
                 Ok(self.0.encode_slice(body.as_ref(), dst)?)
             }
@@ -119,7 +120,7 @@ impl Decoder for WholeCodec {
 impl Encoder<(&[u8], &[u8], IoBufs)> for WholeCodec {
     type Error = FrameError;
 
-    /// Fails with `Error::InvalidLength` if the frame can't be sent; then `dst` is unchanged.
+    /// Fails with `FrameError::Bad` of `Error::InvalidLength` if the frame can't be sent; then `dst` is unchanged.
     fn encode(&mut self, frame: (&[u8], &[u8], IoBufs), dst: &mut BytesMut) -> Result<(), FrameError> {
         let (before, after, body) = frame;
         Ok(self.0.encode_with(before, after, &body, dst)?)

@@ -1,4 +1,4 @@
--- The calls on buffers keep capacities, the number of buffers, and their invariant (`IsParts`).
+-- Puts, `set_len` and overwriting keep capacities, the number of buffers, and their invariant (`IsParts`).
 use Rattle.iobufs.proofs.Text.{HaveCapacity, IsParts, List, Part, [], ap, arith, drop, length, length-append, length-drop, length-replicate, length-take, min, part_capacity, parts_capacity, parts_fill, parts_filled, parts_overwritten, parts_spare, parts_with_len, refl, replicate, suc, sum_by, sum_by-cons, sym, take, ℕ, ◌++◌, ◌+◌, ◌-◌, ◌∙◌, ◌∷◌, ◌≡◌}
 
 -- sums over parts, as an iterator gives them

@@ -19,7 +19,7 @@ use std::marker::Model;
 use std::{fmt, mem};
 
 /// A writable buffer of one chunk (`IoBufMut`): filled bytes, then spare capacity. The capacity counts from the first
-/// readable byte. Dropped bytes reduce it, and no call increases it:
+/// readable byte. Dropped bytes reduce it, and only `grown` increases it:
 ///
 /// ```text
 /// storage | dropped |   filled   |   spare   |
@@ -66,7 +66,7 @@ fn is_bad_layout(n: usize, align: usize) -> bool
 }
 
 // Whether `n` bytes fit into a capacity, and the storage has at most 57 bytes more than twice `n`, or than 4 KiB.
-// Storage that the Rust crate allocates on a 64-bit target has 55 bytes more than it was made for.
+// Storage that the Rust crate allocates on a 64-bit target has at most 55 bytes more than it was made for.
 fn suits(n: usize, capacity: usize, stored: usize) -> bool
     ensures { IsTrue result ↔ ((n ≤ capacity) × ((stored / 2 - 28 ≤ n) ⊎ (stored / 2 - 28 ≤ 2 ^ 11))) }
 {

@@ -1,4 +1,4 @@
-//! A writable handle becomes a view, and handles let their blocks go.
+//! A writable handle becomes a view; an empty one lets its block go.
 ghost use Rattle.std.specs.Prelude.{◌≡◌, ◌<◌};
 ghost use Rattle.iobufs_owner.specs.declared.owner.types.Kind.TheVariants.{View, Mut};
 ghost use Rattle.iobufs_owner.specs.declared.owner.types.Reply.TheVariants.{Done};

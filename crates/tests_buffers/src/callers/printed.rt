@@ -1,4 +1,4 @@
-// Each text that an error prints, and commands and buffers as they are printed.
+// Texts that errors print, and commands and buffers as they are printed.
 use crate::same::assert_same;
 use iobufs_codec::Fault;
 use iobufs_core::buf::IoBuf;

@@ -1,4 +1,4 @@
-// A reader and a writer that move few bytes at a time, are interrupted before each call, and fail once.
+// A reader and a writer that move few bytes at a time, are interrupted before each read or write, and fail once.
 use std::alloc::Global;
 use std::io::{self, ErrorKind, Read, Write};
 

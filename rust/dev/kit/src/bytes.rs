@@ -9,7 +9,8 @@ use block::{Block, Writable};
 use std::ops::{Bound, RangeBounds};
 use std::{fmt, io, mem, vec};
 
-/// Whether `VecDeque` ends the process if an allocation fails, as std does, rather than returning an error.
+/// Whether a failed allocation of a `VecDeque` ends the process, as in std, rather than being an error. Only then a
+/// thread keeps space (`few`, `block`).
 pub(super) const ENDS_IF_REFUSED: bool = false;
 
 /// What is read from the front.

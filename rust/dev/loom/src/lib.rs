@@ -1,6 +1,7 @@
-//! The layer's sharing of storage (`block.rs`, `count.rs`, `held.rs`), over atomics that log each access. The proved
-//! owner machine, as cargo compiles it, executes the log: each access is a step of it, with the same count and reply,
-//! and storage is freed if and only if the machine frees its block. docs/OWNER.md says what is compared.
+//! The layer's sharing of storage (`block.rs`, `count.rs`, `held.rs`), over atomics that log each access of a count.
+//! The proved owner machine, as cargo compiles it, executes the log: a change of a count is a step of it, with the same
+//! count and reply, and storage is freed if and only if the machine frees its block. docs/OWNER.md says what is
+//! compared.
 //!
 //! - `log`, `allocator`: what threads do, in one order. `order`, `machine`: how the machine executes that.
 //! - `layer`, `atomic`, `handles`: the layer, and calls of it that are logged. They are here twice, since their atomics

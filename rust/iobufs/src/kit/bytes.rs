@@ -8,7 +8,8 @@ use bytes::Buf as _;
 use std::io;
 use std::ops::RangeBounds;
 
-/// Whether `VecDeque` ends the process if an allocation fails, as std does, rather than returning an error.
+/// Whether a failed allocation of a `VecDeque` ends the process, as in std, rather than being an error. Only then a
+/// thread keeps space (`few`, `block`).
 pub(super) const ENDS_IF_REFUSED: bool = true;
 
 /// What is read from the front.

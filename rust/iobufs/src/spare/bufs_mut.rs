@@ -25,7 +25,7 @@ impl IoBufsMut {
         parts.map(IoBufMut::as_mut).filter(|bytes| !bytes.is_empty())
     }
 
-    /// Returns its spare capacity.
+    /// Returns the spare capacity of the first buffer that has some; none if no buffer has.
     #[inline]
     pub(crate) fn space(&mut self) -> &mut [MaybeUninit<u8>] {
         self.next().map_or(&mut [], IoBufMut::space)

@@ -24,7 +24,7 @@ impl Several {
     }
 
     /// Returns whether the drained buffers hold no bytes, the full ones have no spare capacity, the sums are those of
-    /// all, and each buffer can hold a byte.
+    /// all, and each of two or more can hold a byte.
     fn is_kept(&self) -> bool {
         let parts = || self.row.0.iter();
         let in_order = || parts().skip(parts().len() - self.used).chain(parts().take(parts().len() - self.used));

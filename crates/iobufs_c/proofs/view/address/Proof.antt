@@ -1,4 +1,4 @@
--- `address` makes a pointer of a slice's.
+-- `address` makes a pointer to a slice's bytes, which isn't NULL.
 use Rattle.std.proofs.Common.{[], ◌∷◌, ◌++◌, List, length, refl}
 use seplogic.Ra.Ura.{Ura}
 use mir.Val.{Val, vptr}
