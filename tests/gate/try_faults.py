@@ -13,8 +13,8 @@ suite that it names has to find. A blank line separates two:
     new: TEXT
 
 The suites run in a copy, first without a fault. One finds a fault if it then fails, and not for an error of the
-compiler, or doesn't end. A suite that needs a tool that is missing is left out if IOBUFS_WITHOUT names it (cargo,
-bytes, tokio, loom, valgrind, cc). Ends with a line `N passed, M failed`."""
+compiler, or takes a minute more than three times as long. A suite that needs a tool that is missing is left out if
+IOBUFS_WITHOUT names it (cargo, bytes, tokio, loom, valgrind, cc). Ends with a line `N passed, M failed`."""
 import os
 import re
 import shutil
@@ -22,6 +22,7 @@ import signal
 import subprocess
 import sys
 import tempfile
+import time
 from pathlib import Path
 
 sys.path.insert(0, str(Path(__file__).resolve().parents[1] / "lib"))
@@ -52,7 +53,6 @@ TOOLS = {"iobufs": {"cargo", "bytes"}, "loom": {"cargo", "loom"}, "tokio": {"car
 TOOLS["unit"] = TOOLS["iobufs"]
 TOOLS |= {"bounds": {"cargo", "bytes", "valgrind"}, "bindings": {"cargo", "cc", "pkg-config"}}
 NO_BUILD = "error: could not compile"  # What cargo says
-SECONDS = 240  # that a suite runs at most with a fault
 RESULT = re.compile(r"^test result: ok\. (\d+) passed; 0 failed", re.M)  # test result: ok. 31 passed; 0 failed; ..
 
 
@@ -83,8 +83,8 @@ def commands(by):
     return [[*SUITES[suite], *more]]
 
 
-def run(room, by):
-    """Whether a suite passes, and what it says. One that doesn't end fails."""
+def run(room, by, seconds=None):
+    """Whether a suite passes, and what it says. One that doesn't end in so many seconds fails."""
     *builds, last = commands(by)
     how = {"cwd": room, "text": True}
     how["env"] = {**os.environ, "CARGO_TARGET_DIR": str(room / "target"), "IOBUFS_ROUNDS": "500"}
@@ -97,7 +97,7 @@ def run(room, by):
     pipes = {"stdout": subprocess.PIPE, "stderr": subprocess.PIPE, "start_new_session": True}
     with subprocess.Popen(last, **how, **pipes) as process:
         try:
-            said = process.communicate(timeout=SECONDS)
+            said = process.communicate(timeout=seconds)
         except subprocess.TimeoutExpired:
             return False, "it doesn't end"
         finally:
@@ -106,13 +106,13 @@ def run(room, by):
     return process.returncode == 0, "".join(said)
 
 
-def try_fault(room, by, file, old, new):
+def try_fault(room, limits, by, file, old, new):
     """What is wrong with a fault: it can't be planted, or isn't found."""
     text = (room / file).read_text()
     if text.count(f"{old}\n") != 1:
         return [f"its 'old:' text occurs {text.count(old)} times in {file}"]
     (room / file).write_text(text.replace(f"{old}\n", f"{new}\n"))
-    passes, said = run(room, by)
+    passes, said = run(room, by, limits.get(by))
     (room / file).write_text(text)
     if by == "unseen" and passes:
         print(f"unseen: {sum(map(int, RESULT.findall(said)))} tests of cargo test pass", flush=True)
@@ -129,15 +129,18 @@ def main():
         checks.run("fetch_crates", [TESTS / "fetch_crates"])
     with tempfile.TemporaryDirectory() as folder:
         copy_to(room := Path(folder))
+        limits = {}
         for by in dict.fromkeys(it[0] for it in chosen.values()):
+            began = time.monotonic()
             passes, said = run(room, by)
+            limits[by] = 60 + 3 * (time.monotonic() - began)
             checks.say(f"{by} without a fault", [] if passes else [said[-1000:]])
         file, old = "rust/iobufs/layer/deque.rs", "/// A deque, whose capacity never shrinks."
         for new, wanted in ("/// A list.", "passes: True"), ("A list.", "passes: False"):
-            found = try_fault(room, "kit", file, old, new)
+            found = try_fault(room, limits, "kit", file, old, new)
             checks.find(f"the fault {new!r}", [it for it in found if it.startswith(wanted)])
         for name, fault in chosen.items():
-            checks.say(f"the fault {name}", try_fault(room, *fault))
+            checks.say(f"the fault {name}", try_fault(room, limits, *fault))
             print(f"{fault[0]}: {name}", flush=True)
     return checks.end()
 
