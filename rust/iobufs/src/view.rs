@@ -18,8 +18,8 @@ use std::ops::{Bound, RangeBounds};
 /// assert_eq!(view.slice(1..), [3]);
 /// ```
 ///
-/// A clone, a slice and a split of a view allocate nothing, except that the first of a [`Bytes`] made of a `Vec`, or of
-/// a `BytesMut`, may allocate. The storage lives until its last view is dropped. [`IoBufs`](crate::IoBufs) joins
+/// A clone, a slice and a split of a view allocate nothing, except that the first of a [`Bytes`] made of a `Vec`, a box
+/// or a `BytesMut` may allocate. The storage lives until its last view is dropped. [`IoBufs`](crate::IoBufs) joins
 /// several views; [`try_into_mut`](Self::try_into_mut) makes one writable.
 ///
 /// Without the feature `keys` a view has no order and no hash, as in the original. A key of a map then says which it
