@@ -53,6 +53,7 @@ TOOLS = {"iobufs": {"cargo", "bytes"}, "loom": {"cargo", "loom"}, "tokio": {"car
 TOOLS["unit"] = TOOLS["iobufs"]
 TOOLS |= {"bounds": {"cargo", "bytes", "valgrind"}, "bindings": {"cargo", "cc", "pkg-config"}}
 NO_BUILD = "error: could not compile"  # What cargo says
+SECONDS = 1200  # that a suite runs at most without a fault
 RESULT = re.compile(r"^test result: ok\. (\d+) passed; 0 failed", re.M)  # test result: ok. 31 passed; 0 failed; ..
 
 
@@ -83,7 +84,7 @@ def commands(by):
     return [[*SUITES[suite], *more]]
 
 
-def run(room, by, seconds=None):
+def run(room, by, seconds=SECONDS):
     """Whether a suite passes, and what it says. One that doesn't end in so many seconds fails."""
     *builds, last = commands(by)
     how = {"cwd": room, "text": True}
@@ -112,7 +113,7 @@ def try_fault(room, limits, by, file, old, new):
     if text.count(f"{old}\n") != 1:
         return [f"its 'old:' text occurs {text.count(old)} times in {file}"]
     (room / file).write_text(text.replace(f"{old}\n", f"{new}\n"))
-    passes, said = run(room, by, limits.get(by))
+    passes, said = run(room, by, limits.get(by, SECONDS))
     (room / file).write_text(text)
     if by == "unseen" and passes:
         print(f"unseen: {sum(map(int, RESULT.findall(said)))} tests of cargo test pass", flush=True)
